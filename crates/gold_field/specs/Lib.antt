@@ -1,2 +1,4 @@
 pub mod Form
+pub mod Operators
+pub mod Prime
 pub mod Rises

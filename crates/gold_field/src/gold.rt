@@ -43,6 +43,14 @@ impl Gold {
         }
     }
 
+    /// The number `n`, for a caller that knows it to be below `P`.
+    pub(crate) fn of(n: u64) -> Gold
+        requires { n < P }
+        ensures { result ≡ n }
+    {
+        Gold { number: n }
+    }
+
     pub fn get(self) -> u64
         ensures value { result ≡ self }
         ensures below { result < P }
@@ -111,7 +119,7 @@ impl Gold {
 }
 
 /// Any word modulo `P`, by one test.
-fn reduced(n: u64) -> Gold
+pub(crate) fn reduced(n: u64) -> Gold
     ensures { result ≡ n % P }
 {
     if P <= n {

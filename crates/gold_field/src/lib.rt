@@ -4,6 +4,10 @@
 
 mod form;
 mod gold;
+pub mod laws;
+mod operators;
+mod power;
 
 pub use form::{Constraint, Lc, Term};
 pub use gold::{Gold, P};
+pub use operators::{HALF, Op1, Op2, binary, unary};
