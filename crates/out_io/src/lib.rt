@@ -1,0 +1,15 @@
+//! What lies outside the program, as two traits: a `Store` of named files and a `Sink` of bytes.
+//! Each has an implementation in memory, for proofs and tests, and one over the real system.
+#![tactic(auto)]
+
+mod fault;
+mod memory;
+mod real;
+mod sink;
+mod store;
+
+pub use fault::IoFault;
+pub use memory::{MemSink, MemStore};
+pub use real::{RealSink, RealStore};
+pub use sink::Sink;
+pub use store::Store;

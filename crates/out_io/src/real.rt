@@ -1,0 +1,160 @@
+ghost use Rattle.std.specs.Prelude.{◌≡◌, ℕ, None};
+ghost use Rattle.out_io.specs.Faults.{CountsFaults};
+
+use crate::{IoFault, Sink, Store};
+use std::alloc::Global;
+use std::fs::File;
+use std::io::{ErrorKind, Read, Write};
+use std::rt::Files;
+
+// The most turns that one reading of a file takes, of at least one byte each.
+const MOST_TURNS: u32 = 1 << 20;
+
+// The most bytes that one turn reads.
+const BUFFER: usize = 65_536;
+
+/// The system's files. A name is a path; one that doesn't begin with `/` is taken from the folder in
+/// which the process runs. A name that the system doesn't find isn't there; every other error of the
+/// system is a fault.
+#[derive(Drop)]
+pub struct RealStore<R: Files + Drop> {
+    rt: R,
+    faults: u64,
+}
+
+/// Standard output.
+#[derive(Drop)]
+pub struct RealSink<R: Print + Drop> {
+    rt: R,
+    faults: u64,
+}
+
+impl<R: Files + Drop> RealStore<R> {
+    pub fn new(rt: R) -> RealStore<R> {
+        RealStore { rt, faults: 0 }
+    }
+}
+
+impl<R: Print + Drop> RealSink<R> {
+    pub fn new(rt: R) -> RealSink<R> {
+        RealSink { rt, faults: 0 }
+    }
+}
+
+// The outcome as it is, with a failure counted.
+fn counted<T>(faults: &mut u64, outcome: Result<T, IoFault>) -> Result<T, IoFault>
+    ensures same { result ≡ outcome }
+    ensures cause { CountsFaults faults.old faults.new result }
+{
+    if let Err(IoFault::Failed) = &outcome {
+        *faults = faults.saturating_add(1);
+    }
+    outcome
+}
+
+// Reads on to the file's end.
+fn read_to_end<F: Read>(alloc: Global, file: &mut F) -> Result<Vec<u8>, IoFault> {
+    let mut bytes = Vec::new(alloc);
+    let mut buffer = [0u8; BUFFER];
+    for _ in 0..MOST_TURNS {
+        let Ok(count) = file.read(&mut buffer) else {
+            return Err(IoFault::Failed);
+        };
+        if count == 0 {
+            return Ok(bytes);
+        }
+        bytes.extend_from_slice(&buffer[..count])?;
+    }
+    match file.read(&mut buffer) {
+        Ok(0) => Ok(bytes),
+        _ => Err(IoFault::Failed),
+    }
+}
+
+fn read_file<R: Files>(rt: &R, alloc: Global, name: &str) -> Result<Option<Vec<u8>>, IoFault> {
+    match File::open(rt, name) {
+        Ok(mut file) => Ok(Some(read_to_end(alloc, &mut file)?)),
+        Err(error) if error.kind() == ErrorKind::NotFound => Ok(None),
+        Err(_) => Err(IoFault::Failed),
+    }
+}
+
+fn write_file<R: Files>(rt: &R, name: &str, bytes: &[u8]) -> Result<(), IoFault> {
+    let Ok(mut file) = File::create(rt, name) else {
+        return Err(IoFault::Failed);
+    };
+    match file.write_all(bytes) {
+        Ok(()) => Ok(()),
+        Err(_) => Err(IoFault::Failed),
+    }
+}
+
+impl<R: Files + Drop> Store for RealStore<R> {
+    ghost contents = { λ s. None };
+
+    ghost faults = { λ s. s.faults };
+
+    ghost never_fails = { λ s. ⊥ };
+
+    fn read(&mut self, alloc: Global, name: &str) -> Result<Option<Vec<u8>>, IoFault> {
+        let outcome = read_file(&self.rt, alloc, name);
+        counted(&mut self.faults, outcome)
+    }
+
+    fn write(&mut self, _alloc: Global, name: &str, bytes: &[u8]) -> Result<(), IoFault> {
+        let outcome = write_file(&self.rt, name, bytes);
+        counted(&mut self.faults, outcome)
+    }
+}
+
+impl<R: Print + Drop> Sink for RealSink<R> {
+    ghost contents = { λ s. None };
+
+    ghost faults = { λ s. s.faults };
+
+    ghost never_fails = { λ s. ⊥ };
+
+    fn put(&mut self, bytes: &[u8]) -> Result<(), IoFault> {
+        let outcome = match self.rt.write_all(bytes) {
+            Ok(()) => Ok(()),
+            Err(_) => Err(IoFault::Failed),
+        };
+        counted(&mut self.faults, outcome)
+    }
+}
+
+#[cfg(test)]
+mod tests {
+    use super::*;
+    use std::test::Fail;
+    use std::{fs, process};
+
+    #[test]
+    fn writes_and_reads_a_real_file(rt: HostRuntime) -> Result<(), Fail> {
+        let alloc = rt.alloc();
+        let mut store = RealStore::new(rt.clone()?);
+        let id = process::id(rt.process());
+        let name = format!(in alloc; "/tmp/circom_gold_real_store_{id}")?;
+        let mut bytes = Vec::new(alloc);
+        for _ in 0..70_000u32 {
+            bytes.push(b'x')?;
+        }
+        store.write(alloc, name.as_str(), bytes.as_slice())?;
+        let found = store.read(alloc, name.as_str())?.ok_or("the file")?;
+        assert!(rt; found.as_slice() == bytes.as_slice());
+        fs::remove_file(&rt, name.as_str())?;
+        assert!(rt; store.read(alloc, name.as_str())?.is_none());
+        assert_eq!(rt; store.faults, 0);
+        assert_eq!(rt; store.read(alloc, "/tmp"), Err(IoFault::Failed));
+        assert_eq!(rt; store.faults, 1);
+        Ok(())
+    }
+
+    #[test]
+    fn puts_to_standard_output(rt: HostRuntime) -> Result<(), Fail> {
+        let mut sink = RealSink::new(rt.clone()?);
+        sink.put(b"a line\n")?;
+        assert_eq!(rt; sink.faults, 0);
+        Ok(())
+    }
+}

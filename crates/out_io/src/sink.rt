@@ -1,0 +1,25 @@
+ghost use Rattle.std.specs.Prelude.{◌≡◌, ℕ, List, Option, OnOk, OnErr};
+ghost use Rattle.out_io.specs.Written.{IsAppended, IsAppendedInPart};
+ghost use Rattle.out_io.specs.Faults.{CountsFaults};
+
+use crate::IoFault;
+
+/// Where printed bytes go.
+pub trait Sink {
+    // What it was given so far, where it tells.
+    ghost contents: { Self → Option (List ℕ) };
+
+    // How many of its calls have failed.
+    ghost faults: { Self → ℕ };
+
+    // No call fails from here on, for want of memory excepted.
+    ghost never_fails: { Self → Type 0 };
+
+    /// Appends all of `bytes`, or after an error a prefix of them.
+    fn put(&mut self, bytes: &[u8]) -> Result<(), IoFault>
+        ensures ok { OnOk result (IsAppended bytes.now (contents self.old) (contents self.new)) }
+        ensures err { OnErr result (IsAppendedInPart bytes.now (contents self.old) (contents self.new)) }
+
+        ensures cause { CountsFaults (faults self.old) (faults self.new) result }
+        ensures steady { never_fails self.old → never_fails self.new × (faults self.new ≡ faults self.old) };
+}

@@ -1,0 +1,34 @@
+ghost use Rattle.std.specs.Prelude.{◌≡◌, ℕ, Option, IfOk, OnOk, OnErr};
+ghost use Rattle.out_io.specs.Contents.{Contents, Finds, Changes, Replaces, ReplacesInPart};
+ghost use Rattle.out_io.specs.Faults.{CountsFaults};
+
+use crate::IoFault;
+use std::alloc::Global;
+
+/// Named files.
+pub trait Store {
+    // What it holds, where it tells.
+    ghost contents: { Self → Option Contents };
+
+    // How many of its calls have failed.
+    ghost faults: { Self → ℕ };
+
+    // No call fails from here on, for want of memory excepted.
+    ghost never_fails: { Self → Type 0 };
+
+    /// The bytes under `name`, or `None` exactly where the name isn't there.
+    fn read(&mut self, alloc: Global, name: &str) -> Result<Option<Vec<u8>>, IoFault>
+        ensures found { IfOk result (Finds (contents self.old) name.now) }
+        ensures same { contents self.new ≡ contents self.old }
+
+        ensures cause { CountsFaults (faults self.old) (faults self.new) result }
+        ensures steady { never_fails self.old → never_fails self.new × (faults self.new ≡ faults self.old) };
+
+    /// Makes `name` hold exactly `bytes`. After an error it is as before or holds a prefix of them.
+    fn write(&mut self, alloc: Global, name: &str, bytes: &[u8]) -> Result<(), IoFault>
+        ensures ok { OnOk result (Changes (Replaces name.now bytes.now) (contents self.old) (contents self.new)) }
+        ensures err { OnErr result (Changes (ReplacesInPart name.now bytes.now) (contents self.old) (contents self.new)) }
+
+        ensures cause { CountsFaults (faults self.old) (faults self.new) result }
+        ensures steady { never_fails self.old → never_fails self.new × (faults self.new ≡ faults self.old) };
+}
