@@ -1,0 +1,18 @@
+//! Merkle trees of SHA-256 (FIPS 180-4) over the columns of a matrix of field elements, as Ligero
+//! (Ames, Hazay, Ishai, Venkitasubramaniam, CCS 2017) commits to its encoded matrix.
+//!
+//! A leaf hashes one column, a node its two children, and a path has the siblings on the way from a
+//! leaf to the root. Leaves and nodes begin with different bytes, so that neither can be read as the
+//! other.
+#![tactic(auto)]
+
+mod hash;
+mod laws;
+mod tree;
+
+pub use hash::{Hash, leaf, root_of};
+pub use laws::path_leads_to_root;
+pub use tree::Tree;
+
+#[cfg(test)]
+mod tests;
