@@ -1,0 +1,5 @@
+pub mod Number
+pub mod Coefficient
+pub mod Normal
+pub mod Terms
+pub mod Merge

@@ -1,0 +1,77 @@
+ghost use Rattle.std.specs.Prelude.{◌≡◌, ◌++◌, [], ℕ, IfOk, OnOk};
+ghost use Rattle.gold_field.specs.Rises.{RisesFrom};
+ghost use Rattle.cir_lc.specs.Number.{value_of, added, scaled};
+ghost use Rattle.cir_lc.specs.Terms.{IsWithin, term_of};
+ghost use Rattle.cir_lc.specs.Merge.{IsMerged, IsScaled};
+
+use gold_field::{Gold, Lc, Term};
+use std::alloc::{AllocError, Global};
+
+/// `a + b`.
+pub fn add(alloc: Global, a: &Lc, b: &Lc) -> Result<Lc, AllocError>
+    ensures value { IfOk result (λ f. value_of f ≡ added (value_of a.now) (value_of b.now)) }
+    ensures within { IfOk result (λ f. (n : ℕ) → IsWithin n a.now → IsWithin n b.now → IsWithin n f) }
+{
+    let terms = merged(alloc, a.as_slice(), b.as_slice())?;
+    Ok(Lc::of(terms))
+}
+
+/// `k * a`.
+pub fn scale(alloc: Global, a: &Lc, k: Gold) -> Result<Lc, AllocError>
+    ensures value { IfOk result (λ f. value_of f ≡ scaled k (value_of a.now)) }
+    ensures within { IfOk result (λ f. (n : ℕ) → IsWithin n a.now → IsWithin n f) }
+{
+    let terms = multiples(alloc, a.as_slice(), k)?;
+    Ok(Lc::of(terms))
+}
+
+// The terms of a sum, by one walk over both lists.
+fn merged(alloc: Global, a: &[Term], b: &[Term]) -> Result<Vec<Term>, AllocError>
+    requires left { RisesFrom 0 a.now }
+    requires right { RisesFrom 0 b.now }
+    ensures { IfOk result (λ v. IsMerged a.now b.now v.items [] []) }
+{
+    let mut sum = Vec::new(alloc);
+    let mut i = 0;
+    let mut j = 0;
+    while i < a.len() && j < b.len() {
+        let x = a[i];
+        let y = b[j];
+        if x.signal < y.signal {
+            sum.push(x)?;
+            i += 1;
+        } else if y.signal < x.signal {
+            sum.push(y)?;
+            j += 1;
+        } else {
+            push_term(&mut sum, x.signal, x.coef.add(y.coef))?;
+            i += 1;
+            j += 1;
+        }
+    }
+    sum.extend_from_slice(&a[i..])?;
+    sum.extend_from_slice(&b[j..])?;
+    Ok(sum)
+}
+
+// The terms of a multiple.
+fn multiples(alloc: Global, a: &[Term], k: Gold) -> Result<Vec<Term>, AllocError>
+    requires { RisesFrom 0 a.now }
+    ensures { IfOk result (λ v. IsScaled k a.now v.items []) }
+{
+    let mut multiple = Vec::new(alloc);
+    for t in a {
+        push_term(&mut multiple, t.signal, t.coef.mul(k))?;
+    }
+    Ok(multiple)
+}
+
+// The term at the end, unless its coefficient is 0.
+fn push_term(terms: &mut Vec<Term>, signal: u32, coef: Gold) -> Result<(), AllocError>
+    ensures { OnOk result (terms.new.items ≡ terms.old.items ++ term_of signal coef) }
+{
+    if coef != Gold::ZERO {
+        terms.push(Term { signal, coef })?;
+    }
+    Ok(())
+}
