@@ -4,3 +4,4 @@ pub mod Steps
 pub mod Walk
 pub mod Values
 pub mod Normals
+pub mod Known

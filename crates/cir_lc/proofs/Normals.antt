@@ -1,7 +1,7 @@
 -- Normal constraints.
-use Rattle.std.proofs.Common.{◌≡◌, ℕ, ◌+◌, ◌-◌, ◌*◌, ◌%◌, ◌<◌, ◌==◌, ◌↔◌, List, [], ◌∷◌, Bool, true, false, cond, Option, Some, None, arith, refl, ap, sym, subst, ◌∙◌, mod-lt, lit<}
+use Rattle.std.proofs.Common.{◌≡◌, ℕ, ◌+◌, ◌-◌, ◌*◌, ◌%◌, ◌<◌, ◌==◌, ◌↔◌, List, [], ◌∷◌, Bool, true, false, cond, Option, Some, None, arith, refl, ap, sym, ◌∙◌, mod-lt, lit<}
 use Rattle.std.proofs.Math.Nat.{mod-add-mod, mul-mod_right, add_comm, mul_comm, mod-mod}
-use Rattle.std.proofs.lemmas.Nat.{mul-mod_first, mul-mod_second}
+use Rattle.std.proofs.lemmas.Nat.{mul-mod_first}
 use Rattle.std.proofs.lemmas.Bool.{eqb-true}
 use Rattle.std.proofs.lemmas.List.Elements.{All-nil, All-same}
 use Rattle.cir_lc.specs.Terms.{IsWithin}
@@ -52,6 +52,7 @@ balance m c lm lc = (λ e. omega (arith, back), λ e. omega (arith, back))
   where
     less : ((P - 1) * c) % P < P
     less = mod-lt ((P - 1) * c) (lit< tt)
+
     back : (((P - 1) * c) % P + c) % P ≡ 0
     back =
         let whole : (P - 1) * c + c ≡ P * c = omega arith in
@@ -98,15 +99,15 @@ means_by q n s (Some k) p e f h =
     let left : n.a ≡ [] = h.left ∙ ap (λ (o : Option ℕ). kept_of o (constant_of q.b) q.a) e in
     let right : n.b ≡ [] = h.right ∙ ap (λ (o : Option ℕ). kept_of o (constant_of q.b) q.b) e in
     let rest : value_of n.c s ≡ negated (rest_of (Some k) (constant_of q.b) q) s =
-        ap (λ (f : Number). f s) h.rest ∙ ap (λ (o : Option ℕ). negated (rest_of o (constant_of q.b) q) s) e in
+    ap (λ (f : Number). f s) h.rest ∙ ap (λ (o : Option ℕ). negated (rest_of o (constant_of q.b) q) s) e in
     linear_means _ (added (value_of q.c) (scaled k (value_of q.b)) s) _ _ (none_left n s left right) rest (mod-lt _ (lit< tt))
     (product_left (value_of q.a s) (value_of q.b s) (value_of q.c s) k (constant_value q.a k s e))
 means_by q n s None (Some k) e f h =
     let left : n.a ≡ [] = h.left ∙ ap (λ (o : Option ℕ). kept_of o (constant_of q.b) q.a) e ∙ ap (λ (o : Option ℕ). kept_of None o q.a) f in
     let right : n.b ≡ [] = h.right ∙ ap (λ (o : Option ℕ). kept_of o (constant_of q.b) q.b) e ∙ ap (λ (o : Option ℕ). kept_of None o q.b) f in
     let rest : value_of n.c s ≡ negated (rest_of None (Some k) q) s =
-        ap (λ (f : Number). f s) h.rest ∙ ap (λ (o : Option ℕ). negated (rest_of o (constant_of q.b) q) s) e
-        ∙ ap (λ (o : Option ℕ). negated (rest_of None o q) s) f in
+    ap (λ (f : Number). f s) h.rest ∙ ap (λ (o : Option ℕ). negated (rest_of o (constant_of q.b) q) s) e
+    ∙ ap (λ (o : Option ℕ). negated (rest_of None o q) s) f in
     linear_means _ (added (value_of q.c) (scaled k (value_of q.a)) s) _ _ (none_left n s left right) rest (mod-lt _ (lit< tt))
     (ap (λ (n : ℕ). (n % P + value_of q.c s) % P) (mul_comm (value_of q.a s) (value_of q.b s))
     ∙ product_left (value_of q.b s) (value_of q.a s) (value_of q.c s) k (constant_value q.b k s f))
@@ -114,8 +115,8 @@ means_by q n s None None e f h =
     let left : n.a ≡ q.a = h.left ∙ ap (λ (o : Option ℕ). kept_of o (constant_of q.b) q.a) e ∙ ap (λ (o : Option ℕ). kept_of None o q.a) f in
     let right : n.b ≡ q.b = h.right ∙ ap (λ (o : Option ℕ). kept_of o (constant_of q.b) q.b) e ∙ ap (λ (o : Option ℕ). kept_of None o q.b) f in
     let rest : value_of n.c s ≡ negated (rest_of None None q) s =
-        ap (λ (f : Number). f s) h.rest ∙ ap (λ (o : Option ℕ). negated (rest_of o (constant_of q.b) q) s) e
-        ∙ ap (λ (o : Option ℕ). negated (rest_of None o q) s) f in
+    ap (λ (f : Number). f s) h.rest ∙ ap (λ (o : Option ℕ). negated (rest_of o (constant_of q.b) q) s) e
+    ∙ ap (λ (o : Option ℕ). negated (rest_of None o q) s) f in
     let b = balance ((value_of q.a s * value_of q.b s) % P) (value_of q.c s) (mod-lt _ (lit< tt)) (value_small q.c s) in
     let product : (value_at s.at n.a * value_at s.at n.b) % P ≡ (value_of q.a s * value_of q.b s) % P = rw (left, right) refl in
     (λ g. b.0 (sym product ∙ g ∙ rest), λ g. product ∙ b.1 g ∙ sym rest)

@@ -1,6 +1,6 @@
 -- One more term of a sum or of a multiple.
-use Rattle.std.proofs.Common.{◌≡◌, ℕ, zero, suc, ◌+◌, ◌*◌, ◌%◌, ◌<◌, ◌≤◌, List, [], ◌∷◌, ◌++◌, arith, refl, ap, sym, subst, ◌∙◌, mod-lt, lit<}
-use Rattle.std.proofs.Math.Nat.{mod-add-mod, add-mod-mod, mod-mod, add_comm, mul_assoc}
+use Rattle.std.proofs.Common.{◌≡◌, ℕ, zero, suc, ◌+◌, ◌*◌, ◌%◌, ◌<◌, List, [], ◌∷◌, ◌++◌, arith, refl, ap, sym, subst, ◌∙◌, mod-lt, lit<}
+use Rattle.std.proofs.Math.Nat.{mod-add-mod, mod-mod, add_comm}
 use Rattle.std.proofs.lemmas.Nat.{mul-mod_first}
 use Rattle.std.proofs.lemmas.List.{append_assoc, append-nil}
 use Rattle.std.proofs.lemmas.List.Elements.{All-append, All-head, All-tail, All-cons, All-nil}
@@ -9,7 +9,7 @@ use Rattle.gold_field.specs.declared.gold.TheConstants.{P}
 use Rattle.gold_field.specs.Rises.{RisesFrom}
 use Rattle.cir_lc.specs.Terms.{IsWithin, term_of}
 use Rattle.cir_lc.specs.Merge.{total, IsMerged, IsScaled}
-use Rattle.cir_lc.proofs.Rising.{other_rest, rest_above, left_out, other_coef, rest_rises}
+use Rattle.cir_lc.proofs.Rising.{other_rest, left_out, other_coef, rest_rises}
 use Rattle.cir_lc.proofs.Totals.{total-nil, total-cons, total-append}
 
 abbrev Small : ℕ → Term → Type 0
@@ -27,7 +27,6 @@ within_term : (n g c : ℕ) → g < n → c < P → IsWithin n (term_of g c)
 within_term n g zero h k = All-nil (Small n)
 within_term n g (suc c) h k = All-cons (Small n) (record { signal = g; coef = suc c }) [] (h, k) (All-nil (Small n))
 
-
 -- the walk takes the lower signal: of a ..
 pub step_left : (a b out us vs : List Term) (x y : Term) → x.signal < y.signal → IsMerged a b out (x ∷ us) (y ∷ vs) → IsMerged a b (out ++ x ∷ []) us (y ∷ vs)
 step_left a b out us vs x y l m = record {
@@ -35,12 +34,13 @@ step_left a b out us vs x y l m = record {
   rises_right = rw append_assoc (other_rest 0 out x us (y ∷ vs) m.rises_left (omega arith, above.1, above.2));
   value = λ s. ap (λ (n : ℕ). n % P) (moved s) ∙ m.value s;
   within = λ n p q.
-    let w = m.within n p q in
-    (All-append (Small n) out (x ∷ []) w.0 (All-cons (Small n) x [] (All-head (Small n) x us w.1) (All-nil (Small n))), All-tail (Small n) x us w.1, w.2);
+      let w = m.within n p q in
+      (All-append (Small n) out (x ∷ []) w.0 (All-cons (Small n) x [] (All-head (Small n) x us w.1) (All-nil (Small n))), All-tail (Small n) x us w.1, w.2);
 }
   where
     above : RisesFrom 0 (y ∷ vs)
     above = rest_rises 0 out (y ∷ vs) m.rises_right
+
     moved : (s : ℕ → ℕ) → total s (out ++ x ∷ []) + (total s us + total s (y ∷ vs)) ≡ total s out + (total s (x ∷ us) + total s (y ∷ vs))
     moved s = omega (arith, total-append s out (x ∷ []), total-cons s x [], total-nil s, total-cons s x us)
 
@@ -50,7 +50,7 @@ turned a b out us vs m = record {
   rises_left = m.rises_right;
   rises_right = m.rises_left;
   value = λ s.
-    ap (λ (n : ℕ). (total s out + n) % P) (add_comm (total s vs) (total s us)) ∙ m.value s ∙ ap (λ (n : ℕ). n % P) (add_comm (total s a) (total s b));
+      ap (λ (n : ℕ). (total s out + n) % P) (add_comm (total s vs) (total s us)) ∙ m.value s ∙ ap (λ (n : ℕ). n % P) (add_comm (total s a) (total s b));
   within = λ n p q. let w = m.within n q p in (w.0, w.2, w.1);
 }
 
@@ -69,9 +69,9 @@ step_both a b out us vs x y c e h m = record {
   rises_right = rises_term out vs y x.signal c e m.rises_right;
   value = λ s. moved s ∙ m.value s;
   within = λ n p q.
-    let w = m.within n p q in
-    let t : IsWithin n (term_of x.signal c) = within_term n x.signal c (All-head (Small n) x us w.1).0 (subst (λ (k : ℕ). k < P) (sym h) (mod-lt (x.coef + y.coef) (lit< tt))) in
-    (All-append (Small n) out (term_of x.signal c) w.0 t, All-tail (Small n) x us w.1, All-tail (Small n) y vs w.2);
+      let w = m.within n p q in
+      let t : IsWithin n (term_of x.signal c) = within_term n x.signal c (All-head (Small n) x us w.1).0 (subst (λ (k : ℕ). k < P) (sym h) (mod-lt (x.coef + y.coef) (lit< tt))) in
+      (All-append (Small n) out (term_of x.signal c) w.0 t, All-tail (Small n) x us w.1, All-tail (Small n) y vs w.2);
 }
   where
     moved : (s : ℕ → ℕ) → (total s (out ++ term_of x.signal c) + (total s us + total s vs)) % P ≡ (total s out + (total s (x ∷ us) + total s (y ∷ vs))) % P
@@ -79,9 +79,9 @@ step_both a b out us vs x y c e h m = record {
         let k : ℕ = s x.signal in
         let r : ℕ = total s out + (total s us + total s vs) in
         let before : total s (out ++ term_of x.signal c) + (total s us + total s vs) ≡ c * k + r =
-            omega (arith, total-append s out (term_of x.signal c), total-term s x.signal c) in
+        omega (arith, total-append s out (term_of x.signal c), total-term s x.signal c) in
         let after : (x.coef + y.coef) * k + r ≡ total s out + (total s (x ∷ us) + total s (y ∷ vs)) =
-            omega (arith, total-cons s x us, total-cons s y vs, ap (λ (n : ℕ). y.coef * s n) e) in
+        omega (arith, total-cons s x us, total-cons s y vs, ap (λ (n : ℕ). y.coef * s n) e) in
         ap (λ (n : ℕ). n % P) before
         ∙ reduced_first c k (x.coef + y.coef) r P (ap (λ (n : ℕ). n % P) h ∙ mod-mod (x.coef + y.coef) P)
         ∙ ap (λ (n : ℕ). n % P) after
@@ -118,9 +118,9 @@ step_scaled k a out us x c h m = record {
   rises = rises_term out us x x.signal c refl m.rises;
   value = λ s. moved s ∙ m.value s;
   within = λ n p.
-    let w = m.within n p in
-    let t : IsWithin n (term_of x.signal c) = within_term n x.signal c (All-head (Small n) x us w.1).0 (subst (λ (k : ℕ). k < P) (sym h) (mod-lt (x.coef * k) (lit< tt))) in
-    (All-append (Small n) out (term_of x.signal c) w.0 t, All-tail (Small n) x us w.1);
+      let w = m.within n p in
+      let t : IsWithin n (term_of x.signal c) = within_term n x.signal c (All-head (Small n) x us w.1).0 (subst (λ (k : ℕ). k < P) (sym h) (mod-lt (x.coef * k) (lit< tt))) in
+      (All-append (Small n) out (term_of x.signal c) w.0 t, All-tail (Small n) x us w.1);
 }
   where
     moved : (s : ℕ → ℕ) → (total s (out ++ term_of x.signal c) + k * total s us) % P ≡ (total s out + k * total s (x ∷ us)) % P
@@ -128,9 +128,9 @@ step_scaled k a out us x c h m = record {
         let j : ℕ = s x.signal in
         let r : ℕ = total s out + k * total s us in
         let before : total s (out ++ term_of x.signal c) + k * total s us ≡ c * j + r =
-            omega (arith, total-append s out (term_of x.signal c), total-term s x.signal c) in
+        omega (arith, total-append s out (term_of x.signal c), total-term s x.signal c) in
         let after : x.coef * k * j + r ≡ total s out + k * total s (x ∷ us) =
-            omega (arith, ap (λ (n : ℕ). k * n) (total-cons s x us)) in
+        omega (arith, ap (λ (n : ℕ). k * n) (total-cons s x us)) in
         ap (λ (n : ℕ). n % P) before
         ∙ reduced_first c j (x.coef * k) r P (ap (λ (n : ℕ). n % P) h ∙ mod-mod (x.coef * k) P)
         ∙ ap (λ (n : ℕ). n % P) after

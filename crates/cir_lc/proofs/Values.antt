@@ -27,6 +27,7 @@ value-sum a b out m = λ i s. at s i
   where
     none : (s : Assignment) → total s.at out ≡ total s.at out + (total s.at [] + total s.at [])
     none s = omega (arith, total-nil s.at)
+
     at : (s : Assignment) → value_of out s ≡ added (value_of a) (value_of b) s
     at s = value-total s out ∙ ap (λ (n : ℕ). n % P) (none s) ∙ m.value s.at ∙ added_at a b s
 
@@ -35,5 +36,6 @@ value-multiple k a out m = λ i s. at s i
   where
     none : (s : Assignment) → total s.at out ≡ total s.at out + k * total s.at []
     none s = omega (arith, ap (λ (n : ℕ). k * n) (total-nil s.at))
+
     at : (s : Assignment) → value_of out s ≡ scaled k (value_of a) s
     at s = value-total s out ∙ ap (λ (n : ℕ). n % P) (none s) ∙ m.value s.at ∙ scaled_at k a s

@@ -8,11 +8,12 @@ returns-clause-shape c = record {
   left = c.of.ensures ∙ c.new.ensures.items;
   right = c.of-2.ensures ∙ c.new-2.ensures.items;
   rest = c.in_ok-c.ensures.value
-    ∙ ap negated (c.in_ok-sum.ensures.value ∙ ap (added (value_of c.args.c.now)) c.in_ok-product.ensures.value);
+      ∙ ap negated (c.in_ok-sum.ensures.value ∙ ap (added (value_of c.args.c.now)) c.in_ok-product.ensures.value);
 }
 
 pub returns-clause-within : goal.returns-clause-within
 returns-clause-within c = λ m f r. (
   none_within m _ (c.of.ensures ∙ c.new.ensures.items),
   none_within m _ (c.of-2.ensures ∙ c.new-2.ensures.items),
-  c.in_ok-c.ensures.within m (c.in_ok-sum.ensures.within m r (c.in_ok-product.ensures.within m f)))
+  c.in_ok-c.ensures.within m (c.in_ok-sum.ensures.within m r (c.in_ok-product.ensures.within m f)),
+)

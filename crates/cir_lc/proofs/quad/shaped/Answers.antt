@@ -8,4 +8,5 @@ pub returns-in_ok-c-clause-within : goal.returns-in_ok-c-clause-within
 returns-in_ok-c-clause-within c = λ m w. (
   same_within m _ _ c.in_ok-a.ensures w.0,
   same_within m _ _ c.in_ok-b.ensures w.1,
-  c.in_ok-c.ensures.within m w.2)
+  c.in_ok-c.ensures.within m w.2,
+)

@@ -37,8 +37,8 @@ loop-i-preserved c = record {
 pub returns : goal.returns
 returns c =
     let first : c.extend_from_slice.new.self.items ≡ c.loop-i.sum.items ++ drop c.loop-i.i c.args.a.now =
-        c.in_ok-extend_from_slice.ensures.items ∙ ap (λ (r : List Term). c.loop-i.sum.items ++ r) (take_rest c.args.a.now c.loop-i.i) in
+    c.in_ok-extend_from_slice.ensures.items ∙ ap (λ (r : List Term). c.loop-i.sum.items ++ r) (take_rest c.args.a.now c.loop-i.i) in
     let second : c.extend_from_slice-2.new.self.items ≡ c.extend_from_slice.new.self.items ++ drop c.loop-i.j c.args.b.now =
-        c.in_ok-extend_from_slice-2.ensures.items ∙ ap (λ (r : List Term). c.extend_from_slice.new.self.items ++ r) (take_rest c.args.b.now c.loop-i.j) in
+    c.in_ok-extend_from_slice-2.ensures.items ∙ ap (λ (r : List Term). c.extend_from_slice.new.self.items ++ r) (take_rest c.args.b.now c.loop-i.j) in
     walk_end _ _ _ _ _ _ _ (elim c.loop-i-test.branch [ then-loop-i-test+else-j-b w ↦ inr w.if-j-b.false | else-loop-i-test w ↦ inl w.loop-i-test.false ])
     first second c.loop-i.invariant.merged
