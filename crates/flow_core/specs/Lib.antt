@@ -1,0 +1,6 @@
+pub mod Counts
+pub mod Net
+pub mod Flow
+pub mod Core
+pub mod Events
+pub mod Quiet

@@ -1,0 +1,18 @@
+//! The witness engine as a pure state machine: strands of work, the cells that they read and write,
+//! and five kinds of event that any number of workers may bring in any order.
+#![tactic(auto)]
+
+mod at_rest;
+mod events;
+mod graph;
+mod laws;
+mod state;
+
+pub use at_rest::quiet;
+pub use events::step;
+pub use graph::Graph;
+pub use laws::{
+    every_event_keeps_a_state_sound, every_honest_run_keeps_the_invariant,
+    quiet_states_are_settled, settled_states_have_the_answer,
+};
+pub use state::{Event, Hold, Phase, State};
