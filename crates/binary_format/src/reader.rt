@@ -1,4 +1,4 @@
-ghost use Rattle.std.specs.Prelude.{◌≡◌, ◌≤◌, ◌-◌, ◌==◌, length, IfSome};
+ghost use Rattle.std.specs.Prelude.{◌≡◌, ◌≤◌, ◌<◌, ◌+◌, ◌-◌, ◌^◌, ◌==◌, length, IfSome};
 ghost use Rattle.std.specs.Int.{w32, w64};
 ghost use Rattle.binary_format.specs.Reading.{Takes, front_of, number_of};
 
@@ -27,7 +27,8 @@ impl<'a> Reader<'a> {
 
     /// The place of the next byte.
     pub fn offset(&self) -> u64
-        ensures { result ≡ self.now.end - length self.now.rest.now }
+        ensures place { result ≡ self.now.end - length self.now.rest.now }
+        ensures fits { result + length self.now.rest.now < 2 ^ 64 }
     {
         self.end - self.rest.len() as u64
     }

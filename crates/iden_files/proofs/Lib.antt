@@ -1,0 +1,4 @@
+pub mod FormLaws
+pub mod SectionLoop
+pub mod FieldLoop
+pub mod Append

@@ -1,0 +1,12 @@
+pub mod File
+pub mod Refusal
+pub mod Sections
+pub mod Views
+pub mod Values
+pub mod Meaning
+pub mod Merging
+pub mod ReadR1cs
+pub mod ReadWtns
+pub mod Spelling
+pub mod Failing
+pub mod Sizes
