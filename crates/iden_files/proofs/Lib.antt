@@ -2,3 +2,4 @@ pub mod FormLaws
 pub mod SectionLoop
 pub mod FieldLoop
 pub mod Append
+pub mod ReadAgain

@@ -1,7 +1,10 @@
 -- What an .r1cs file means.
-use Rattle.std.specs.Prelude.{◌≡◌, ℕ, ◌+◌, ◌≤◌, List, length, All, sum_by}
+use Rattle.std.specs.Prelude.{◌≡◌, ℕ, ◌+◌, ◌≤◌, ◌<◌, ◌^◌, List, length, All, sum_by}
 use Rattle.gold_field.specs.Form.{ConstraintBelow}
+use Rattle.gold_field.specs.Rises.{RisesFrom}
+use Rattle.gold_field.specs.declared.form.Term.{Term}
 use Rattle.gold_field.specs.declared.form.Constraint.{Constraint}
+use Rattle.gold_field.specs.declared.gold.TheConstants.{P}
 use Rattle.iden_files.specs.declared.limits.TheConstants.{MAX_WIRES, MAX_CONSTRAINTS, MAX_TERMS}
 
 pub record File : Type 0 where
@@ -26,3 +29,20 @@ pub record InLimits (f : File) : Type 0 where
   pub wires : f.wires ≤ MAX_WIRES
   pub constraints : length f.constraints ≤ MAX_CONSTRAINTS
   pub terms : sum_by term_count f.constraints ≤ MAX_TERMS
+
+-- the one form of a linear combination
+pub record IsForm (terms : List Term) : Type 0 where
+  pub rises : RisesFrom 0 terms
+  pub coefs : All (λ t. t.coef < P) terms
+
+pub record HasForms (k : Constraint) : Type 0 where
+  pub a : IsForm k.a
+  pub b : IsForm k.b
+  pub c : IsForm k.c
+
+-- a file whose parts all have the ranges of their types
+pub record IsWhole (f : File) : Type 0 where
+  pub file : IsFile f
+  pub label_count : f.label_count < 2 ^ 64
+  pub labels : All (λ n. n < 2 ^ 64) f.labels
+  pub forms : All HasForms f.constraints

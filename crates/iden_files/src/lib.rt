@@ -8,6 +8,7 @@ mod fault;
 mod fields;
 mod forms;
 mod labels;
+pub mod laws;
 mod limits;
 mod r1cs;
 mod r1cs_reading;
