@@ -1,9 +1,10 @@
 -- Bytes that are written one after another, and how many there are.
-use Rattle.std.proofs.Common.{◌≡◌, ℕ, ◌+◌, ◌*◌, List, [], ◌∷◌, ◌++◌, length, sum_by, refl, sym, ap, ◌∙◌, append_assoc, arith}
+use Rattle.std.proofs.Common.{◌≡◌, ℕ, ◌+◌, ◌*◌, ◌<◌, List, [], ◌∷◌, ◌++◌, length, get_or, take, All, sum_by, refl, sym, ap, subst, ◌∙◌, append_assoc, arith}
 use Rattle.std.specs.Prelude.{codes}
 use Rattle.std.specs.List.{flat_map}
 use Rattle.std.specs.Int.{w32, w64, to_le_bytes}
-use Rattle.std.proofs.lemmas.List.{length-append}
+use Rattle.std.proofs.lemmas.List.{length-append, take_more, flat_map_more}
+use Rattle.std.proofs.lemmas.List.Elements.{All-more}
 use Rattle.std.proofs.lemmas.List.Sums.{sum_by-cons}
 use Rattle.gold_field.specs.declared.form.Term.{Term}
 use Rattle.gold_field.specs.declared.form.Constraint.{Constraint}
@@ -70,3 +71,13 @@ values_put values b0 b1 b2 b3 e0 e1 e2 e3 =
     let s2 = section 2 (flat_map (to_le_bytes w64) values) in
     let t2 = appended b1 s1 s2 b2 b3 e2 e3 in
     appended b0 (header_bytes (codes "wtns") 2 2) (s1 ++ s2) b1 b3 e1 t2 ∙ ap (λ (l : List ℕ). l ++ (header_bytes (codes "wtns") 2 2 ++ (s1 ++ s2))) e0
+
+-- a loop's step: one more element is written
+pub wrote_more : {X : Type 0} (text : X → List ℕ) (xs : List X) (i : ℕ) (x : X) (before old new : List ℕ) → i < length xs → x ≡ get_or xs i x → old ≡ before ++ flat_map text (take i xs) → new ≡ old ++ text x
+    → new ≡ before ++ flat_map text (take (i + 1) xs)
+wrote_more text xs i x before old new lt is so_far put =
+    let more : take (i + 1) xs ≡ take i xs ++ x ∷ [] = take_more xs i x lt ∙ ap (λ y. take i xs ++ y ∷ []) (sym is) in
+    put ∙ ap (λ (l : List ℕ). l ++ text x) so_far ∙ flat_map_more text before (take i xs) x ∙ ap (λ ys. before ++ flat_map text ys) (sym more)
+
+pub holds_more : {X : Type 0} (Q : X → Type 0) (xs : List X) (i : ℕ) (x : X) → i < length xs → x ≡ get_or xs i x → All Q (take i xs) → Q x → All Q (take (i + 1) xs)
+holds_more Q xs i x lt is so_far here = All-more Q xs i x lt so_far (subst Q is here)

@@ -1,5 +1,5 @@
 -- The linear combination of terms is the one rising form with the same coefficients.
-use Rattle.std.proofs.Common.{◌≡◌, ◌≢◌, ℕ, zero, suc, ◌+◌, ◌%◌, ◌<◌, ◌≤◌, Bool, true, false, cond, eqb, ltb, List, [], ◌∷◌, ◌++◌, length, get_or, All, sum_by, refl, sym, ap, subst, ◌∙◌, inl, inr, arith, zero-add}
+use Rattle.std.proofs.Common.{◌≡◌, ◌≢◌, ℕ, zero, suc, ◌+◌, ◌%◌, ◌<◌, ◌≤◌, cond, eqb, ltb, List, [], ◌∷◌, ◌++◌, length, get_or, All, sum_by, refl, sym, ap, subst, ◌∙◌, inl, inr, arith, zero-add}
 use Rattle.std.specs.List.Sorted.{IsPermutation, IsNonDecreasingBy}
 use Rattle.std.proofs.lemmas.Bool.{cases_eq, cases_lt, eq-eqb, ne_eqb, lt-ltb, le-ltb}
 use Rattle.std.proofs.lemmas.List.Elements.{All-head, All-tail, All-cons, All-append, All-nil}
@@ -15,13 +15,13 @@ use Rattle.iden_files.specs.Meaning.{IsTermOver, coefficient, form_from, form_of
 use Rattle.iden_files.specs.Merging.{closed, merged}
 
 -- the value that a term has for a wire
-abbrev value_for : ℕ → Term → ℕ
+abbrev pub value_for : ℕ → Term → ℕ
 value_for wire t = cond (eqb t.signal wire) t.coef 0
 
-value_same : (wire : ℕ) (t : Term) → t.signal ≡ wire → value_for wire t ≡ t.coef
+pub value_same : (wire : ℕ) (t : Term) → t.signal ≡ wire → value_for wire t ≡ t.coef
 value_same wire t e = rw (eq-eqb t.signal wire e) refl
 
-value_other : (wire : ℕ) (t : Term) → t.signal ≢ wire → value_for wire t ≡ 0
+pub value_other : (wire : ℕ) (t : Term) → t.signal ≢ wire → value_for wire t ≡ 0
 value_other wire t e = rw (ne_eqb t.signal wire e) refl
 
 -- no term of a form from low on has a value for a wire below low
@@ -35,10 +35,10 @@ sum_below wire low (t ∷ ts) lt rises =
 
 -- ---- the definition, one wire at a time
 
-none_at : (n low : ℕ) (terms : List Term) → coefficient low terms ≡ 0 → form_from low (suc n) terms ≡ form_from (low + 1) n terms
+pub none_at : (n low : ℕ) (terms : List Term) → coefficient low terms ≡ 0 → form_from low (suc n) terms ≡ form_from (low + 1) n terms
 none_at n low terms e = rw (eq-eqb (coefficient low terms) 0 e) refl
 
-some_at : (n low c : ℕ) (terms : List Term) → coefficient low terms ≡ c → 0 < c → form_from low (suc n) terms ≡ record { signal = low; coef = c } ∷ form_from (low + 1) n terms
+pub some_at : (n low c : ℕ) (terms : List Term) → coefficient low terms ≡ c → 0 < c → form_from low (suc n) terms ≡ record { signal = low; coef = c } ∷ form_from (low + 1) n terms
 some_at n low c terms e pos =
     let ne : coefficient low terms ≢ 0 = λ z. absurd (omega (arith, z, e, pos)) in
     let P : ℕ → Type 0 = λ d. record { signal = low; coef = coefficient low terms } ∷ form_from (low + 1) n terms ≡ record { signal = low; coef = d } ∷ form_from (low + 1) n terms in

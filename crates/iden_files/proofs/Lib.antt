@@ -3,3 +3,4 @@ pub mod SectionLoop
 pub mod FieldLoop
 pub mod Append
 pub mod ReadAgain
+pub mod MeaningLaws

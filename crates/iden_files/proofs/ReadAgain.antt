@@ -1,10 +1,10 @@
 -- What is written is read again.
-use Rattle.std.proofs.Common.{◌≡◌, ℕ, zero, suc, ◌+◌, ◌-◌, ◌*◌, ◌^◌, ◌<◌, ◌≤◌, Bool, true, false, cond, eqb, ltb, leb, List, [], ◌∷◌, ◌++◌, length, map, take, drop, All, sum_by, Option, Some, None, Result, Ok, Err, refl, sym, ap, subst, ◌∙◌, append_assoc, arith}
+use Rattle.std.proofs.Common.{◌≡◌, ℕ, suc, ◌+◌, ◌-◌, ◌*◌, ◌^◌, ◌<◌, ◌≤◌, true, eqb, ltb, leb, List, [], ◌∷◌, ◌++◌, length, map, drop, All, sum_by, Some, Ok, refl, sym, ap, ◌∙◌, append_assoc, arith}
 use Rattle.std.specs.Prelude.{codes}
 use Rattle.std.specs.List.{flat_map}
-use Rattle.std.specs.Int.{w32, w64, to_le_bytes, from_le_bytes}
+use Rattle.std.specs.Int.{w32, w64, to_le_bytes}
 use Rattle.std.proofs.lemmas.Bool.{lt-ltb, le-leb, eq-eqb}
-use Rattle.std.proofs.lemmas.List.{append-nil, length-append}
+use Rattle.std.proofs.lemmas.List.{append-nil}
 use Rattle.std.proofs.lemmas.List.Elements.{All-head, All-tail}
 use Rattle.std.proofs.lemmas.List.Sums.{sum_by-cons}
 use Rattle.std.proofs.lemmas.Nat.{from_le_bytes-to_le_bytes_4, from_le_bytes-to_le_bytes_8}
@@ -12,21 +12,21 @@ use Rattle.gold_field.specs.declared.form.Term.{Term}
 use Rattle.gold_field.specs.declared.form.Constraint.{Constraint}
 use Rattle.gold_field.specs.declared.gold.TheConstants.{P}
 use Rattle.gold_field.specs.Form.{ConstraintBelow}
-use Rattle.binary_format.specs.Reading.{◌>>=◌, front_of, number_of, or_short, required, tested, repeated}
-use Rattle.binary_format.proofs.ReadBack.{Each, ReadsBack, front_again, number_again, u32_again, u64_again, tested_again, repeated_again}
+use Rattle.binary_format.specs.Reading.{front_of, number_of, or_short, repeated}
+use Rattle.binary_format.proofs.ReadBack.{Each, ReadsBack, front_again, u32_again, u64_again, tested_again, repeated_again}
 use Rattle.iden_files.specs.declared.fault.FileCause.TheVariants.{Truncated, WireOutOfRange, ValueTooLarge, BadCount, Limit}
 use Rattle.iden_files.specs.declared.sections.Format.{Format}
 use Rattle.iden_files.specs.declared.sections.Format.TheVariants.{R1cs, Wtns}
 use Rattle.iden_files.specs.declared.sizes.Sizes.{Sizes}
 use Rattle.iden_files.specs.declared.limits.TheConstants.{MAX_WIRES, MAX_CONSTRAINTS, MAX_TERMS}
-use Rattle.iden_files.specs.Refusal.{Refusal, refusal}
-use Rattle.iden_files.specs.File.{File, IsFile, InLimits, IsWhole, IsForm, HasForms, term_count}
-use Rattle.iden_files.specs.Meaning.{IsTermOver, form_of, meaning}
+use Rattle.iden_files.specs.Refusal.{refusal}
+use Rattle.iden_files.specs.File.{File, InLimits, IsWhole, HasForms, term_count}
+use Rattle.iden_files.specs.Meaning.{IsTermOver, meaning}
 use Rattle.iden_files.specs.Sections.{Section, u32_at, u64_at, section_count, section_at, with_section, sections_after, sections_of, needed}
 use Rattle.iden_files.specs.Values.{value_at}
-use Rattle.iden_files.specs.ReadR1cs.{field_of, sizes_of, term_at, terms_at, constraint_at, constraints_at, meant, constraints_of, label_at, labels_of, r1cs_of}
+use Rattle.iden_files.specs.ReadR1cs.{field_of, sizes_of, term_at, terms_at, constraint_at, constraints_at, constraints_of, label_at, labels_of, r1cs_of}
 use Rattle.iden_files.specs.ReadWtns.{value_count, values_of, wtns_of}
-use Rattle.iden_files.specs.Spelling.{header_bytes, section, section_head, field_bytes, sizes_bytes, term_bytes, form_bytes, constraint_bytes, r1cs_bytes, wtns_bytes}
+use Rattle.iden_files.specs.Spelling.{header_bytes, section, field_bytes, sizes_bytes, term_bytes, form_bytes, constraint_bytes, r1cs_bytes, wtns_bytes}
 use Rattle.iden_files.proofs.Append.{words_len, constraints_len}
 use Rattle.iden_files.proofs.FormLaws.{form_of_form}
 
@@ -40,7 +40,7 @@ pub value_again : (end : ℕ) → ReadsBack (value_at end) (to_le_bytes w64) (λ
 unfolding value_at
 value_again end = record {
   again = λ n rest below.
-    tested_again (λ m. ltb m P) (refusal ValueTooLarge (end - length (to_le_bytes w64 n ++ rest))) (or_short (number_of w64 (to_le_bytes w64 n ++ rest)) (refusal BadCount end)) n rest
+      tested_again (λ m. ltb m P) (refusal ValueTooLarge (end - length (to_le_bytes w64 n ++ rest))) (or_short (number_of w64 (to_le_bytes w64 n ++ rest)) (refusal BadCount end)) n rest
       ((u64_again (refusal BadCount end)).again n rest (omega (arith, below))) (lt-ltb n P below);
 }
 
@@ -54,8 +54,8 @@ term_reads wires end s c b0 b1 b2 first below second =
 pub term_again : (wires end : ℕ) → wires ≤ 2 ^ 32 → ReadsBack (term_at wires end) term_bytes (IsTermOver wires)
 term_again wires end few = record {
   again = λ t rest over.
-    ap (term_at wires end) (append_assoc (to_le_bytes w32 t.signal) (to_le_bytes w64 t.coef) rest)
-    ∙ term_reads wires end t.signal t.coef (to_le_bytes w32 t.signal ++ (to_le_bytes w64 t.coef ++ rest)) (to_le_bytes w64 t.coef ++ rest) rest
+      ap (term_at wires end) (append_assoc (to_le_bytes w32 t.signal) (to_le_bytes w64 t.coef) rest)
+      ∙ term_reads wires end t.signal t.coef (to_le_bytes w32 t.signal ++ (to_le_bytes w64 t.coef ++ rest)) (to_le_bytes w64 t.coef ++ rest) rest
       ((u32_again (refusal BadCount end)).again t.signal (to_le_bytes w64 t.coef ++ rest) (omega (arith, over.signal, few))) over.signal ((value_again end).again t.coef rest over.coef);
 }
 
@@ -72,8 +72,8 @@ terms_again wires end room ts rest few small fits over =
     let body = flat_map term_bytes ts in
     ap (terms_at wires end room) (append_assoc (to_le_bytes w32 (length ts)) body rest)
     ∙ terms_reads wires end room (length ts) (to_le_bytes w32 (length ts) ++ (body ++ rest)) (body ++ rest) rest ts
-      ((u32_again (refusal BadCount end)).again (length ts) (body ++ rest) (omega (arith, fits, small))) fits
-      (repeated_again (term_at wires end) term_bytes (IsTermOver wires) (term_again wires end few) ts rest (Each-from_all (IsTermOver wires) ts over))
+    ((u32_again (refusal BadCount end)).again (length ts) (body ++ rest) (omega (arith, fits, small))) fits
+    (repeated_again (term_at wires end) term_bytes (IsTermOver wires) (term_again wires end few) ts rest (Each-from_all (IsTermOver wires) ts over))
 
 -- ---- constraints
 
@@ -96,9 +96,9 @@ constraint_again wires end room k rest few small fits over =
     let regrouped : constraint_bytes k ++ rest ≡ fa ++ (fb ++ (fc ++ rest)) = append_assoc fa (fb ++ fc) rest ∙ ap (λ (l : List ℕ). fa ++ l) (append_assoc fb fc rest) in
     ap (constraint_at wires end room) regrouped
     ∙ constraint_reads wires end room k (fa ++ (fb ++ (fc ++ rest))) (fb ++ (fc ++ rest)) (fc ++ rest) rest
-      (terms_again wires end room k.a (fb ++ (fc ++ rest)) few small (omega (arith, fits)) over.a)
-      (terms_again wires end (room - length k.a) k.b (fc ++ rest) few (omega (arith, small)) (omega (arith, fits)) over.b)
-      (terms_again wires end (room - length k.a - length k.b) k.c rest few (omega (arith, small)) (omega (arith, fits)) over.c)
+    (terms_again wires end room k.a (fb ++ (fc ++ rest)) few small (omega (arith, fits)) over.a)
+    (terms_again wires end (room - length k.a) k.b (fc ++ rest) few (omega (arith, small)) (omega (arith, fits)) over.b)
+    (terms_again wires end (room - length k.a - length k.b) k.c rest few (omega (arith, small)) (omega (arith, fits)) over.c)
 
 one_more : (wires end room n : ℕ) (k : Constraint) (ks : List Constraint) (b0 b1 b2 : List ℕ) → constraint_at wires end room b0 ≡ Ok (k, b1) → constraints_at wires end (room - length k.a - length k.b - length k.c) n b1 ≡ Ok (ks, b2)
     → constraints_at wires end room (suc n) b0 ≡ Ok (k ∷ ks, b2)
@@ -154,7 +154,7 @@ section_again end kind body rest small fits =
     let regrouped : section kind body ++ rest ≡ k ++ (n ++ (body ++ rest)) = append_assoc (k ++ n) body rest ∙ append_assoc k n (body ++ rest) in
     ap (section_at end) regrouped
     ∙ section_reads end kind size body (k ++ (n ++ (body ++ rest))) (n ++ (body ++ rest)) (body ++ rest) rest
-      ((u32_again (refusal Truncated end)).again kind (n ++ (body ++ rest)) small) ((u64_again (refusal Truncated end)).again size (body ++ rest) fits) (front_again body rest size refl)
+    ((u32_again (refusal Truncated end)).again kind (n ++ (body ++ rest)) small) ((u64_again (refusal Truncated end)).again size (body ++ rest) fits) (front_again body rest size refl)
 
 abbrev numbered : ℕ → ℕ → List ℕ → Section
 numbered kind end body = record { kind = kind; end = end; body = body }
@@ -195,14 +195,14 @@ sizes_again f end whole limits =
     let numbered = whole.file.numbered in
     let few = limits.wires in
     sizes_read (record { kind = 1; end = end; body = sizes_bytes f }) (record { wires = f.wires; outputs = f.outputs; public_inputs = f.public_inputs; private_inputs = f.private_inputs; label_count = f.label_count; constraints = length f.constraints })
-      (field_reads 40 (record { kind = 1; end = end; body = sizes_bytes f }) (omega arith) refl refl refl)
-      (from_le_bytes-to_le_bytes_4 f.wires (omega (arith, few)))
-      (from_le_bytes-to_le_bytes_4 f.outputs (omega (arith, few, numbered)))
-      (from_le_bytes-to_le_bytes_4 f.public_inputs (omega (arith, few, numbered)))
-      (from_le_bytes-to_le_bytes_4 f.private_inputs (omega (arith, few, numbered)))
-      (from_le_bytes-to_le_bytes_8 f.label_count whole.label_count)
-      (from_le_bytes-to_le_bytes_4 (length f.constraints) (omega (arith, limits.constraints)))
-      limits.wires numbered limits.constraints
+    (field_reads 40 (record { kind = 1; end = end; body = sizes_bytes f }) (omega arith) refl refl refl)
+    (from_le_bytes-to_le_bytes_4 f.wires (omega (arith, few)))
+    (from_le_bytes-to_le_bytes_4 f.outputs (omega (arith, few, numbered)))
+    (from_le_bytes-to_le_bytes_4 f.public_inputs (omega (arith, few, numbered)))
+    (from_le_bytes-to_le_bytes_4 f.private_inputs (omega (arith, few, numbered)))
+    (from_le_bytes-to_le_bytes_8 f.label_count whole.label_count)
+    (from_le_bytes-to_le_bytes_4 (length f.constraints) (omega (arith, limits.constraints)))
+    limits.wires numbered limits.constraints
 
 -- ---- sections 2 and 3
 
@@ -265,7 +265,7 @@ file_again f whole limits =
     let written = ap (constraints_at f.wires s2.end MAX_TERMS (length f.constraints)) (sym (append-nil body2)) ∙ constraints_again f.wires s2.end MAX_TERMS f.constraints [] few (omega arith) limits.terms over in
     let constraints = constraints_read z s2 f.constraints f.constraints written (meanings_again f.wires f.constraints whole.forms over) in
     let words = ap (repeated (label_at s3.end) f.wires) (sym (append-nil body3)) ∙ ap (λ n. repeated (label_at s3.end) n (body3 ++ [])) (sym whole.file.labelled)
-      ∙ repeated_again (label_at s3.end) (to_le_bytes w64) (λ n. n < 2 ^ 64) (u64_again (refusal BadCount s3.end)) f.labels [] (Each-from_all (λ n. n < 2 ^ 64) f.labels whole.labels) in
+    ∙ repeated_again (label_at s3.end) (to_le_bytes w64) (λ n. n < 2 ^ 64) (u64_again (refusal BadCount s3.end)) f.labels [] (Each-from_all (λ n. n < 2 ^ 64) f.labels whole.labels) in
     let labels = labels_read f.wires s3 f.labels (omega (arith, words_len f.labels, whole.file.labelled)) words in
     r1cs_reads bytes f (end - length rest1) (end - length rest2) (end - 0) body1 body2 body3 found (sizes_again f s1.end whole limits) constraints labels
 

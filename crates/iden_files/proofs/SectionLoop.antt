@@ -1,6 +1,5 @@
 -- Reading sections one after another, as a loop does.
-use Rattle.std.proofs.Common.{◌≡◌, ℕ, zero, suc, ◌-◌, ◌+◌, ◌≤◌, ◌<◌, Bool, true, false, eqb, List, [], length, Result, Ok, Err, refl, sym, ◌∙◌, arith}
-use Rattle.binary_format.specs.Reading.{◌>>=◌, required}
+use Rattle.std.proofs.Common.{◌≡◌, ℕ, suc, ◌-◌, ◌+◌, ◌≤◌, ◌<◌, true, false, eqb, List, length, Result, Ok, Err, refl, sym, ◌∙◌, arith}
 use Rattle.iden_files.specs.declared.fault.FileFault.{FileFault}
 use Rattle.iden_files.specs.declared.fault.FileFault.TheVariants as faults
 use Rattle.iden_files.specs.declared.fault.FileCause.TheVariants.{BadCount}

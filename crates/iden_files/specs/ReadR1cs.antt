@@ -1,5 +1,5 @@
 -- The meaning of an .r1cs file's bytes, or the first refusal in the order of the checks.
-use Rattle.std.specs.Prelude.{◌≡◌, ◌==◌, ℕ, zero, suc, ◌-◌, ◌+◌, ◌*◌, List, [], ◌∷◌, length, map, Option, Some, None, Result, Ok, Err, nat_lt, nat_le}
+use Rattle.std.specs.Prelude.{◌==◌, ℕ, zero, suc, ◌-◌, ◌+◌, ◌*◌, List, [], ◌∷◌, length, map, Option, Some, None, Result, Ok, nat_lt, nat_le}
 use Rattle.std.specs.List.{range_with_len}
 use Rattle.std.specs.Int.{w32, w64}
 use Rattle.gold_field.specs.declared.form.Term.{Term}
@@ -11,7 +11,7 @@ use Rattle.iden_files.specs.declared.sections.Format.TheVariants.{R1cs}
 use Rattle.iden_files.specs.declared.sizes.Sizes.{Sizes}
 use Rattle.iden_files.specs.declared.limits.TheConstants.{MAX_WIRES, MAX_CONSTRAINTS, MAX_TERMS}
 use Rattle.iden_files.specs.Refusal.{Refusal, refusal}
-use Rattle.iden_files.specs.File.{File, term_count}
+use Rattle.iden_files.specs.File.{File}
 use Rattle.iden_files.specs.Meaning.{meaning}
 use Rattle.iden_files.specs.Values.{value_at}
 use Rattle.iden_files.specs.Sections.{Section, u32_at, u64_at, section_of, sections_of, needed}

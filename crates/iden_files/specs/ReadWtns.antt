@@ -1,9 +1,7 @@
 -- The values of a .wtns file's bytes, or the first refusal in the order of the checks.
-use Rattle.std.specs.Prelude.{◌≡◌, ◌==◌, ℕ, ◌-◌, ◌+◌, ◌*◌, List, length, Result, Ok, Err, nat_lt, nat_le}
-use Rattle.std.specs.Int.{w64}
-use Rattle.gold_field.specs.declared.gold.TheConstants.{P}
-use Rattle.binary_format.specs.Reading.{◌>>=◌, number_of, or_short, required, tested, repeated}
-use Rattle.iden_files.specs.declared.fault.FileCause.TheVariants.{ValueTooLarge, BadCount, Limit}
+use Rattle.std.specs.Prelude.{◌==◌, ℕ, ◌-◌, ◌+◌, ◌*◌, List, length, Result, Ok, nat_le}
+use Rattle.binary_format.specs.Reading.{◌>>=◌, required, repeated}
+use Rattle.iden_files.specs.declared.fault.FileCause.TheVariants.{BadCount, Limit}
 use Rattle.iden_files.specs.declared.sections.Format.TheVariants.{Wtns}
 use Rattle.iden_files.specs.declared.limits.TheConstants.{MAX_WIRES}
 use Rattle.iden_files.specs.Refusal.{Refusal, refusal}

@@ -1,5 +1,5 @@
 -- Sizes that a file may have.
-use Rattle.std.specs.Prelude.{ℕ, ◌+◌, ◌≤◌}
+use Rattle.std.specs.Prelude.{◌+◌, ◌≤◌}
 use Rattle.iden_files.specs.declared.sizes.Sizes.{Sizes}
 use Rattle.iden_files.specs.declared.limits.TheConstants.{MAX_WIRES, MAX_CONSTRAINTS}
 

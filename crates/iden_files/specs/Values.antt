@@ -1,5 +1,5 @@
 -- Numbers of the field in a file.
-use Rattle.std.specs.Prelude.{◌≡◌, ℕ, ◌-◌, List, length, Result, nat_lt}
+use Rattle.std.specs.Prelude.{ℕ, ◌-◌, List, length, Result, nat_lt}
 use Rattle.std.specs.Int.{w64}
 use Rattle.gold_field.specs.declared.gold.TheConstants.{P}
 use Rattle.binary_format.specs.Reading.{number_of, or_short, tested}

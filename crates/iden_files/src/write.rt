@@ -1,7 +1,9 @@
-ghost use Rattle.std.specs.Prelude.{◌≡◌, ◌≤◌, ◌<◌, ◌^◌, ◌++◌, length, sum_by, IfOk, OnOk, All};
+ghost use Rattle.std.specs.Prelude.{◌≡◌, ◌≤◌, ◌<◌, ◌^◌, ◌++◌, length, sum_by, IfOk, OnOk, All, Ok};
 ghost use Rattle.std.specs.List.{flat_map};
 ghost use Rattle.std.specs.Int.{w32, w64, to_le_bytes};
-ghost use Rattle.iden_files.specs.File.{InLimits, term_count};
+ghost use Rattle.iden_files.specs.File.{InLimits, IsForm, HasForms, term_count};
+ghost use Rattle.iden_files.specs.ReadR1cs.{r1cs_of};
+ghost use Rattle.iden_files.specs.ReadWtns.{wtns_of};
 ghost use Rattle.iden_files.specs.Spelling.{header_bytes, section, section_head, field_bytes, sizes_bytes, term_bytes, form_bytes, constraint_bytes, r1cs_bytes, wtns_bytes};
 
 use crate::limits::{MAX_CONSTRAINTS, MAX_TERMS, MAX_WIRES};
@@ -13,7 +15,8 @@ use std::alloc::{AllocError, Global};
 /// The one spelling of the file.
 pub fn write_r1cs(alloc: Global, file: &R1cs) -> Result<Vec<u8>, AllocError>
     requires { InLimits file.now }
-    ensures { IfOk result (λ v. v.items ≡ r1cs_bytes file.now) }
+    ensures bytes { IfOk result (λ v. v.items ≡ r1cs_bytes file.now) }
+    ensures read_back { IfOk result (λ v. r1cs_of v.items ≡ Ok file.now) }
 {
     let mut out = Vec::new(alloc);
     put_header(&mut out, b"r1cs", 1, 3)?;
@@ -26,7 +29,8 @@ pub fn write_r1cs(alloc: Global, file: &R1cs) -> Result<Vec<u8>, AllocError>
 /// The one spelling of the values.
 pub fn write_wtns(alloc: Global, values: &[Gold]) -> Result<Vec<u8>, AllocError>
     requires { length values.now ≤ MAX_WIRES }
-    ensures { IfOk result (λ v. v.items ≡ wtns_bytes values.now) }
+    ensures bytes { IfOk result (λ v. v.items ≡ wtns_bytes values.now) }
+    ensures read_back { IfOk result (λ v. wtns_of v.items ≡ Ok values.now) }
 {
     let mut out = Vec::with_capacity(alloc, 52 + 8 * values.len())?;
     put_header(&mut out, b"wtns", 2, 2)?;
@@ -64,7 +68,8 @@ fn put_field(out: &mut Vec<u8>) -> Result<(), AllocError>
 
 fn put_sizes(out: &mut Vec<u8>, file: &R1cs) -> Result<(), AllocError>
     requires { InLimits file.now }
-    ensures { OnOk result (out.new.items ≡ out.old.items ++ section 1 (sizes_bytes file.now)) }
+    ensures bytes { OnOk result (out.new.items ≡ out.old.items ++ section 1 (sizes_bytes file.now)) }
+    ensures fits { OnOk result (file.now.label_count < 2 ^ 64) }
 {
     put_section_head(out, 1, 40)?;
     put_field(out)?;
@@ -87,7 +92,8 @@ fn put_value_count(out: &mut Vec<u8>, count: u32) -> Result<(), AllocError>
 fn put_constraint_section(out: &mut Vec<u8>, constraints: &[Constraint]) -> Result<(), AllocError>
     requires few { length constraints.now ≤ MAX_CONSTRAINTS }
     requires terms { sum_by term_count constraints.now ≤ MAX_TERMS }
-    ensures { OnOk result (out.new.items ≡ out.old.items ++ section 2 (flat_map constraint_bytes constraints.now)) }
+    ensures bytes { OnOk result (out.new.items ≡ out.old.items ++ section 2 (flat_map constraint_bytes constraints.now)) }
+    ensures forms { OnOk result (All HasForms constraints.now) }
 {
     let counts = 3 * constraints.len() as u64;
     let size = 4 * counts + 12 * term_total(constraints);
@@ -109,7 +115,8 @@ fn term_total(constraints: &[Constraint]) -> u64
 
 fn put_constraints(out: &mut Vec<u8>, constraints: &[Constraint]) -> Result<(), AllocError>
     requires { sum_by term_count constraints.now ≤ MAX_TERMS }
-    ensures { OnOk result (out.new.items ≡ out.old.items ++ flat_map constraint_bytes constraints.now) }
+    ensures bytes { OnOk result (out.new.items ≡ out.old.items ++ flat_map constraint_bytes constraints.now) }
+    ensures forms { OnOk result (All HasForms constraints.now) }
 {
     for k in constraints {
         put_constraint(out, k)?;
@@ -119,7 +126,8 @@ fn put_constraints(out: &mut Vec<u8>, constraints: &[Constraint]) -> Result<(), 
 
 fn put_constraint(out: &mut Vec<u8>, k: &Constraint) -> Result<(), AllocError>
     requires { term_count k.now < 2 ^ 32 }
-    ensures { OnOk result (out.new.items ≡ out.old.items ++ constraint_bytes k.now) }
+    ensures bytes { OnOk result (out.new.items ≡ out.old.items ++ constraint_bytes k.now) }
+    ensures forms { OnOk result (HasForms k.now) }
 {
     put_form(out, &k.a)?;
     put_form(out, &k.b)?;
@@ -128,7 +136,8 @@ fn put_constraint(out: &mut Vec<u8>, k: &Constraint) -> Result<(), AllocError>
 
 fn put_form(out: &mut Vec<u8>, form: &Lc) -> Result<(), AllocError>
     requires { length form.now < 2 ^ 32 }
-    ensures { OnOk result (out.new.items ≡ out.old.items ++ form_bytes form.now) }
+    ensures bytes { OnOk result (out.new.items ≡ out.old.items ++ form_bytes form.now) }
+    ensures form { OnOk result (IsForm form.now) }
 {
     let terms = form.as_slice();
     put_u32(out, terms.len() as u32)?;
@@ -136,7 +145,8 @@ fn put_form(out: &mut Vec<u8>, form: &Lc) -> Result<(), AllocError>
 }
 
 fn put_terms(out: &mut Vec<u8>, terms: &[Term]) -> Result<(), AllocError>
-    ensures { OnOk result (out.new.items ≡ out.old.items ++ flat_map term_bytes terms.now) }
+    ensures bytes { OnOk result (out.new.items ≡ out.old.items ++ flat_map term_bytes terms.now) }
+    ensures below { OnOk result (All (λ t. t.coef < P) terms.now) }
 {
     for t in terms {
         put_term(out, *t)?;
@@ -145,7 +155,8 @@ fn put_terms(out: &mut Vec<u8>, terms: &[Term]) -> Result<(), AllocError>
 }
 
 fn put_term(out: &mut Vec<u8>, t: Term) -> Result<(), AllocError>
-    ensures { OnOk result (out.new.items ≡ out.old.items ++ term_bytes t) }
+    ensures bytes { OnOk result (out.new.items ≡ out.old.items ++ term_bytes t) }
+    ensures below { OnOk result (t.coef < P) }
 {
     put_u32(out, t.signal)?;
     put_u64(out, t.coef.get())
@@ -153,7 +164,8 @@ fn put_term(out: &mut Vec<u8>, t: Term) -> Result<(), AllocError>
 
 fn put_label_section(out: &mut Vec<u8>, labels: &[u64]) -> Result<(), AllocError>
     requires { length labels.now ≤ MAX_WIRES }
-    ensures { OnOk result (out.new.items ≡ out.old.items ++ section 3 (flat_map (to_le_bytes w64) labels.now)) }
+    ensures bytes { OnOk result (out.new.items ≡ out.old.items ++ section 3 (flat_map (to_le_bytes w64) labels.now)) }
+    ensures fits { All (λ n. n < 2 ^ 64) labels.now }
 {
     put_section_head(out, 3, 8 * labels.len() as u64)?;
     put_labels(out, labels)
@@ -170,14 +182,16 @@ fn put_labels(out: &mut Vec<u8>, labels: &[u64]) -> Result<(), AllocError>
 
 fn put_value_section(out: &mut Vec<u8>, values: &[Gold]) -> Result<(), AllocError>
     requires { length values.now ≤ MAX_WIRES }
-    ensures { OnOk result (out.new.items ≡ out.old.items ++ section 2 (flat_map (to_le_bytes w64) values.now)) }
+    ensures bytes { OnOk result (out.new.items ≡ out.old.items ++ section 2 (flat_map (to_le_bytes w64) values.now)) }
+    ensures below { OnOk result (All (λ v. v < P) values.now) }
 {
     put_section_head(out, 2, 8 * values.len() as u64)?;
     put_values(out, values)
 }
 
 fn put_values(out: &mut Vec<u8>, values: &[Gold]) -> Result<(), AllocError>
-    ensures { OnOk result (out.new.items ≡ out.old.items ++ flat_map (to_le_bytes w64) values.now) }
+    ensures bytes { OnOk result (out.new.items ≡ out.old.items ++ flat_map (to_le_bytes w64) values.now) }
+    ensures below { OnOk result (All (λ v. v < P) values.now) }
 {
     for v in values {
         put_u64(out, v.get())?;

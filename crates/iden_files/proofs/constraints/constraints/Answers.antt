@@ -1,4 +1,4 @@
-use Rattle.std.proofs.Common.{◌≡◌, ◌-◌, ◌+◌, ◌≤◌, ◌<◌, ℕ, sym, ◌∙◌, subst, arith, ap, length, get_or, List, All, sum_by}
+use Rattle.std.proofs.Common.{◌≡◌, ◌-◌, ◌+◌, ◌≤◌, sym, ◌∙◌, subst, arith, ap, length, List, All, sum_by}
 use Rattle.std.proofs.lemmas.Result.{err_from_is_err_and}
 use Rattle.std.proofs.lemmas.List.{length_push}
 use Rattle.std.proofs.lemmas.List.Elements.{All-push}
@@ -7,7 +7,6 @@ use Rattle.gold_field.specs.Form.{ConstraintBelow}
 use Rattle.gold_field.specs.declared.form.Constraint.{Constraint}
 use Rattle.iden_files.specs.declared.limits.TheConstants.{MAX_TERMS}
 use Rattle.iden_files.specs.File.{term_count}
-use Rattle.iden_files.specs.Meaning.{meaning}
 use Rattle.iden_files.specs.ReadR1cs.{constraints_at, meant}
 use Rattle.iden_files.specs.Views.{written}
 use Rattle.iden_files.proofs.FieldLoop.{goes_on, constraint_fails, all_read}

@@ -1,4 +1,4 @@
-use Rattle.std.proofs.Common.{◌≡◌, ◌-◌, ℕ, List, All, length, vec_len, Result, Vec, Global}
+use Rattle.std.proofs.Common.{◌≡◌, ◌-◌, ℕ, List, All, length, vec_len, Vec, Global}
 use Rattle.gold_field.specs.declared.form.Term.{Term}
 use Rattle.binary_format.specs.Reading.{repeated}
 use Rattle.binary_format.proofs.Loop.{with_front}

@@ -1,4 +1,4 @@
-use Rattle.std.proofs.Common.{length, sym, subst, arith}
+use Rattle.std.proofs.Common.{length, sym, subst}
 use Rattle.gold_field.specs.Form.{ConstraintBelow}
 use Rattle.iden_files.proofs.failing.first_failing_of.Goals as goal
 

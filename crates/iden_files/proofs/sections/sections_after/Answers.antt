@@ -1,7 +1,6 @@
 use Rattle.std.proofs.Common.{◌≡◌, true, false, [], length, sym, ◌∙◌, eqb}
 use Rattle.std.proofs.lemmas.Result.{err_from_is_err_and}
-use Rattle.iden_files.specs.Refusal.{Fails, refusal}
-use Rattle.iden_files.specs.Sections.{sections_after, section_at, with_section}
+use Rattle.iden_files.specs.Sections.{sections_after}
 use Rattle.iden_files.specs.Views.{section, sections}
 use Rattle.iden_files.proofs.SectionLoop.{goes_on, no_section, not_kept, is_done, more_bytes}
 use Rattle.iden_files.proofs.sections.sections_after.Goals as goal

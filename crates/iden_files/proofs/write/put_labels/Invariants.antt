@@ -1,7 +1,6 @@
 use Rattle.std.proofs.Common.{◌≡◌, ◌++◌, take}
 use Rattle.std.specs.List.{flat_map}
 use Rattle.std.specs.Int.{w64, to_le_bytes}
-use Rattle.iden_files.specs.Spelling.{term_bytes, constraint_bytes}
 use Rattle.iden_files.proofs.write.put_labels.Given as goal
 
 abbrev pub invariant-loop-label : goal.invariant-loop-label

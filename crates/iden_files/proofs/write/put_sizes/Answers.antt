@@ -1,5 +1,4 @@
-use Rattle.std.proofs.Common.{◌≡◌, ◌++◌, length, ap, subst}
-use Rattle.std.specs.Int.{w32, to_le_bytes}
+use Rattle.std.proofs.Common.{◌≡◌, ◌++◌, subst}
 use Rattle.std.specs.Prelude.{OnOk}
 use Rattle.std.proofs.lemmas.Result.{on_ok_weaker}
 use Rattle.iden_files.specs.File.{File}
@@ -7,8 +6,8 @@ use Rattle.iden_files.specs.Spelling.{section, sizes_bytes}
 use Rattle.iden_files.proofs.Append.{sizes_put}
 use Rattle.iden_files.proofs.write.put_sizes.Goals as goal
 
-pub returns : goal.returns
-returns c =
+pub returns-clause-bytes : goal.returns-clause-bytes
+returns-clause-bytes c =
     let i = c.file.inside in
     let f : File = record { wires = i.wires; outputs = i.outputs; public_inputs = i.public_inputs; private_inputs = i.private_inputs; label_count = i.label_count; labels = i.labels; constraints = i.constraints } in
     let last = rw c.len.ensures at c.put_u32-5.ensures in
