@@ -1,0 +1,39 @@
+use iden_files::FileCause;
+use items::Items;
+
+/// What the program answers. It decides the exit status and the printed line.
+#[derive(Debug, Drop)]
+pub enum Answer {
+    /// The words have no reading.
+    Usage,
+    /// The store failed at a call that the command made.
+    StoreFailed,
+    Refused(Refusal),
+    Checked(Verdict),
+}
+
+/// Why a command refuses what it was given.
+#[derive(Debug, Drop)]
+pub enum Refusal {
+    NoSuchFile {
+        name: Items<u8>,
+    },
+    /// What is wrong with a file, and the place of the byte where it is.
+    BadFile {
+        name: Items<u8>,
+        cause: FileCause,
+        offset: u64,
+    },
+}
+
+/// What `check` finds.
+#[derive(Clone, Copy, Debug, PartialEq, Eq)]
+pub enum Verdict {
+    /// There aren't as many values as wires.
+    CountsDiffer { values: u64, wires: u32 },
+    /// The value of wire 0 isn't 1.
+    WireZero,
+    /// The least constraint that the values don't satisfy, counted from 0.
+    ConstraintFails { index: u32 },
+    Satisfied,
+}

@@ -1,0 +1,52 @@
+ghost use Rattle.std.specs.Prelude.{◌≡◌};
+ghost use Rattle.out_io.specs.Faults.{Rose};
+ghost use Rattle.iden_files.specs.File.{InLimits};
+ghost use Rattle.circom_gold.specs.Check.{verdict, check_of};
+ghost use Rattle.circom_gold.specs.Steps.{Steps, OnlyReads};
+
+use crate::answer::Verdict;
+use crate::inputs::{r1cs_in, wtns_in};
+use crate::stop::Stop;
+use gold_field::Gold;
+use iden_files::{R1cs, first_failing};
+use out_io::Store;
+use std::alloc::Global;
+
+/// Whether the values in one file satisfy the constraints in the other.
+#[tactic(auto, unfolding(crate::specs::Check::check_of))]
+pub fn check<S: Store>(
+    alloc: Global,
+    r1cs: &str,
+    wtns: &str,
+    store: &mut S,
+) -> Result<Verdict, Stop>
+    ensures step { Steps (λ verdict. verdict) (S.contents store.old) (λ files. check_of files r1cs.now wtns.now)
+        (Rose (S.faults store.old) (S.faults store.new)) result }
+    ensures store { OnlyReads (S.contents store.old) (S.contents store.new)
+        (S.faults store.old) (S.faults store.new) (S.never_fails store.old) (S.never_fails store.new) }
+{
+    let file = r1cs_in(alloc, store, r1cs)?;
+    let values = wtns_in(alloc, store, wtns)?;
+    Ok(verdict(&file, values.as_slice()))
+}
+
+// By the count of values, then wire 0, which stands for 1, then the constraints.
+fn verdict(file: &R1cs, values: &[Gold]) -> Verdict
+    requires { InLimits file.now }
+    ensures { result ≡ verdict file.now values.now }
+{
+    if values.len() != file.wires as usize {
+        return Verdict::CountsDiffer {
+            values: values.len() as u64,
+            wires: file.wires,
+        };
+    }
+    match values {
+        [one, ..] if one.get() == 1 => {}
+        _ => return Verdict::WireZero,
+    }
+    match first_failing(file, values) {
+        None => Verdict::Satisfied,
+        Some(index) => Verdict::ConstraintFails { index },
+    }
+}

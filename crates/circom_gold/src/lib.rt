@@ -1,0 +1,18 @@
+//! The commands of `circom_gold`: from the words and the files to the exit status, the printed line and
+//! the file that is written.
+#![tactic(auto)]
+
+mod answer;
+mod check;
+mod inputs;
+mod laws;
+mod lines;
+mod program;
+mod stop;
+mod words;
+
+pub use laws::check_laws;
+pub use program::{run, run_in_memory};
+
+#[cfg(test)]
+mod tests;

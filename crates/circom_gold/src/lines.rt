@@ -1,0 +1,150 @@
+ghost use Rattle.std.specs.Prelude.{◌≡◌, map, IfOk};
+ghost use Rattle.circom_gold.specs.Lines.{line, bad_file_line, cause_text};
+
+use crate::answer::{Answer, Refusal, Verdict};
+use iden_files::FileCause;
+use std::alloc::{AllocError, Global};
+
+const USAGE: &str = "usage: circom_gold check, compile, witness, prove, public, audit or generate";
+
+impl Answer {
+    ghost use Rattle.circom_gold.specs.Lines.{status_of, line_of};
+
+    /// The exit status.
+    pub fn status(&self) -> u8
+        ensures { result ≡ status_of self.now }
+    {
+        match self {
+            Answer::Usage => 64,
+            Answer::StoreFailed => 3,
+            Answer::Refused(_) => 1,
+            Answer::Checked(verdict) => verdict.status(),
+        }
+    }
+
+    /// The printed line, with its line feed.
+    pub fn line(&self, alloc: Global) -> Result<Vec<u8>, AllocError>
+        ensures { IfOk result (λ v. v.items ≡ line_of self.now) }
+    {
+        match self {
+            Answer::Usage => line(alloc, &[USAGE.as_bytes()]),
+            Answer::StoreFailed => line(alloc, &[b"fault: store"]),
+            Answer::Refused(refusal) => refusal.line(alloc),
+            Answer::Checked(verdict) => verdict.line(alloc),
+        }
+    }
+}
+
+impl Refusal {
+    ghost use Rattle.circom_gold.specs.Lines.{refusal_line};
+
+    fn line(&self, alloc: Global) -> Result<Vec<u8>, AllocError>
+        ensures { IfOk result (λ v. v.items ≡ refusal_line self.now) }
+    {
+        match self {
+            Refusal::NoSuchFile { name } => {
+                line(alloc, &[b"refused: ", name.as_slice(), b": no such file"])
+            }
+            Refusal::BadFile {
+                name,
+                cause,
+                offset,
+            } => {
+                let offset = format!(in alloc; "{offset}")?;
+                bad_file_line(alloc, name.as_slice(), cause_text(*cause), offset.as_str())
+            }
+        }
+    }
+}
+
+impl Verdict {
+    ghost use Rattle.circom_gold.specs.Lines.{verdict_status, verdict_line};
+
+    fn status(&self) -> u8
+        ensures { result ≡ verdict_status self.now }
+    {
+        match self {
+            Verdict::CountsDiffer { .. } => 1,
+            Verdict::WireZero | Verdict::ConstraintFails { .. } => 2,
+            Verdict::Satisfied => 0,
+        }
+    }
+
+    fn line(&self, alloc: Global) -> Result<Vec<u8>, AllocError>
+        ensures { IfOk result (λ v. v.items ≡ verdict_line self.now) }
+    {
+        match self {
+            Verdict::CountsDiffer { values, wires } => {
+                let values = format!(in alloc; "{values}")?;
+                let wires = format!(in alloc; "{wires}")?;
+                line(
+                    alloc,
+                    &[
+                        b"refused: ",
+                        values.as_bytes(),
+                        b" values for ",
+                        wires.as_bytes(),
+                        b" wires",
+                    ],
+                )
+            }
+            Verdict::WireZero => line(alloc, &[b"unsatisfied: wire 0"]),
+            Verdict::ConstraintFails { index } => {
+                let index = format!(in alloc; "{index}")?;
+                line(alloc, &[b"unsatisfied: constraint ", index.as_bytes()])
+            }
+            Verdict::Satisfied => line(alloc, &[b"satisfied"]),
+        }
+    }
+}
+
+fn bad_file_line<'a>(
+    alloc: Global,
+    name: &'a [u8],
+    cause: &'a str,
+    offset: &'a str,
+) -> Result<Vec<u8>, AllocError>
+    ensures { IfOk result (λ v. v.items ≡ bad_file_line name.now cause.now offset.now) }
+{
+    line(
+        alloc,
+        &[
+            b"refused: ",
+            name,
+            b": ",
+            cause.as_bytes(),
+            b" at byte ",
+            offset.as_bytes(),
+        ],
+    )
+}
+
+fn cause_text(cause: FileCause) -> &'static str
+    ensures { result.now ≡ cause_text cause }
+{
+    match cause {
+        FileCause::Magic => "F1 Magic",
+        FileCause::Version => "F2 Version",
+        FileCause::Truncated => "F3 Truncated",
+        FileCause::SectionMissing => "F4 SectionMissing",
+        FileCause::SectionTwice => "F5 SectionTwice",
+        FileCause::WrongPrime => "F6 WrongPrime",
+        FileCause::ValueTooLarge => "F7 ValueTooLarge",
+        FileCause::WireOutOfRange => "F8 WireOutOfRange",
+        FileCause::BadCount => "F9 BadCount",
+        FileCause::CustomGates => "F10 CustomGates",
+        FileCause::Limit => "F11 Limit",
+    }
+}
+
+// The parts one after another, and a line feed.
+fn line(alloc: Global, parts: &[&[u8]]) -> Result<Vec<u8>, AllocError>
+    ensures { IfOk result (λ v. v.items ≡ line (map (λ part. part.now) parts.now)) }
+{
+    let mut bytes = Vec::new(alloc);
+    for part in parts {
+        bytes.extend_from_slice(part)?;
+    }
+    bytes.push(b'\n')?;
+    Ok(bytes)
+}

@@ -1,0 +1,34 @@
+ghost use Rattle.std.specs.Prelude.{◌≡◌};
+ghost use Rattle.circom_gold.specs.Stops.{stop_of};
+ghost use Rattle.circom_gold.specs.declared.stop.Stop.TheVariants.{OutOfMemory};
+
+use crate::answer::Refusal;
+use out_io::IoFault;
+use std::alloc::{AllocError, AllocFailed};
+
+/// Why a command ends before its last step.
+#[derive(Debug, Drop)]
+pub enum Stop {
+    Refused(Refusal),
+    StoreFailed,
+    OutOfMemory,
+}
+
+impl From<IoFault> for Stop {
+    ghost from_gives = { λ fault stop. stop ≡ stop_of fault };
+
+    fn from(fault: IoFault) -> Stop {
+        match fault {
+            IoFault::Failed => Stop::StoreFailed,
+            IoFault::OutOfMemory => Stop::OutOfMemory,
+        }
+    }
+}
+
+impl From<AllocError> for Stop {
+    ghost from_gives = { λ _ stop. stop ≡ OutOfMemory };
+
+    fn from(_: AllocError) -> Stop {
+        Stop::OutOfMemory
+    }
+}

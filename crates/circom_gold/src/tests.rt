@@ -1,0 +1,153 @@
+// The program's answers on files made by hand: the circuit c = a * b, whose wires are 1, c, a and b.
+use super::run;
+use out_io::{MemSink, MemStore};
+use std::alloc::Global;
+use std::test::Fail;
+
+// Three sections: the sizes, the constraint (-a) * b = -c, the labels.
+const R1CS: [u8; 168] = [
+    0x72, 0x31, 0x63, 0x73, 1, 0, 0, 0, 3, 0, 0, 0, 1, 0, 0, 0, 0x28, 0, 0, 0, 0, 0, 0, 0, 8, 0, 0,
+    0, 1, 0, 0, 0, 0xff, 0xff, 0xff, 0xff, 4, 0, 0, 0, 1, 0, 0, 0, 0, 0, 0, 0, 2, 0, 0, 0, 4, 0, 0,
+    0, 0, 0, 0, 0, 1, 0, 0, 0, 2, 0, 0, 0, 0x30, 0, 0, 0, 0, 0, 0, 0, 1, 0, 0, 0, 2, 0, 0, 0, 0, 0,
+    0, 0, 0xff, 0xff, 0xff, 0xff, 1, 0, 0, 0, 3, 0, 0, 0, 1, 0, 0, 0, 0, 0, 0, 0, 1, 0, 0, 0, 1, 0,
+    0, 0, 0, 0, 0, 0, 0xff, 0xff, 0xff, 0xff, 3, 0, 0, 0, 0x20, 0, 0, 0, 0, 0, 0, 0, 0, 0, 0, 0, 0,
+    0, 0, 0, 1, 0, 0, 0, 0, 0, 0, 0, 2, 0, 0, 0, 0, 0, 0, 0, 3, 0, 0, 0, 0, 0, 0, 0,
+];
+
+// A file of so few values that its sizes fit a byte.
+fn wtns(alloc: Global, values: &[u8]) -> Result<Vec<u8>, Fail> {
+    let mut bytes = Vec::new(alloc);
+    let count = u8::try_from(values.len()).unwrap_or(0);
+    bytes.extend_from_slice(b"wtns\x02\0\0\0\x02\0\0\0")?;
+    bytes.extend_from_slice(b"\x01\0\0\0\x10\0\0\0\0\0\0\0\x08\0\0\0\x01\0\0\0\xff\xff\xff\xff")?;
+    bytes.push(count)?;
+    bytes.extend_from_slice(b"\0\0\0\x02\0\0\0")?;
+    bytes.push(count.wrapping_mul(8))?;
+    bytes.extend_from_slice(b"\0\0\0\0\0\0\0")?;
+    for value in values {
+        bytes.push(*value)?;
+        bytes.extend_from_slice(b"\0\0\0\0\0\0\0")?;
+    }
+    Ok(bytes)
+}
+
+fn split(alloc: Global, words: &str) -> Result<Vec<String>, Fail> {
+    let mut texts = Vec::new(alloc);
+    for word in words.split_whitespace() {
+        texts.push(String::from_str(alloc, word)?)?;
+    }
+    Ok(texts)
+}
+
+// A store of the two files.
+fn store(alloc: Global, r1cs: &[u8], values: &[u8]) -> Result<MemStore, Fail> {
+    let mut store = MemStore::new(alloc);
+    store.files.insert(
+        String::from_str(alloc, "m.r1cs")?,
+        Vec::from_slice(alloc, r1cs)?,
+    )?;
+    store
+        .files
+        .insert(String::from_str(alloc, "m.wtns")?, wtns(alloc, values)?)?;
+    Ok(store)
+}
+
+#[test]
+fn check_answers_by_count_then_wire_0_then_constraints(rt: HostRuntime) -> Result<(), Fail> {
+    let alloc = rt.alloc();
+    let cut = R1CS.get(..100).ok_or("cut")?;
+    let words = split(alloc, "check m.r1cs m.wtns")?;
+    for (r1cs, values, status, line) in [
+        (R1CS.as_slice(), [1, 33, 3, 11].as_slice(), 0, "satisfied\n"),
+        (
+            R1CS.as_slice(),
+            [1, 34, 3, 11].as_slice(),
+            2,
+            "unsatisfied: constraint 0\n",
+        ),
+        (
+            R1CS.as_slice(),
+            [2, 33, 3, 11].as_slice(),
+            2,
+            "unsatisfied: wire 0\n",
+        ),
+        (
+            R1CS.as_slice(),
+            [1, 33, 3].as_slice(),
+            1,
+            "refused: 3 values for 4 wires\n",
+        ),
+        (
+            cut,
+            [1, 33, 3, 11].as_slice(),
+            1,
+            "refused: m.r1cs: F3 Truncated at byte 100\n",
+        ),
+    ] {
+        let mut store = store(alloc, r1cs, values)?;
+        let mut out = MemSink::new(alloc);
+        assert_eq!(rt;
+            run(alloc, words.as_slice(), &mut store, &mut out)?,
+            status,
+            "{line}"
+        );
+        assert_eq!(rt; out.bytes.as_slice(), line.as_bytes());
+        assert_eq!(rt; out.calls, 1, "{line}");
+    }
+    Ok(())
+}
+
+#[test]
+fn names_a_file_that_is_not_there(rt: HostRuntime) -> Result<(), Fail> {
+    let alloc = rt.alloc();
+    let mut store = store(alloc, &R1CS, &[1, 33, 3, 11])?;
+    let mut out = MemSink::new(alloc);
+    let words = split(alloc, "check no.r1cs m.wtns")?;
+    assert_eq!(rt; run(alloc, words.as_slice(), &mut store, &mut out)?, 1);
+    assert_eq!(rt;
+        out.bytes.as_slice(),
+        b"refused: no.r1cs: no such file\n".as_slice()
+    );
+    assert_eq!(rt; out.calls, 1);
+    Ok(())
+}
+
+#[test]
+fn says_that_a_call_failed(rt: HostRuntime) -> Result<(), Fail> {
+    let alloc = rt.alloc();
+    let words = split(alloc, "check m.r1cs m.wtns")?;
+    let mut store = store(alloc, &R1CS, &[1, 33, 3, 11])?;
+    let mut out = MemSink::new(alloc);
+    store.fail.push(0)?;
+    assert_eq!(rt; run(alloc, words.as_slice(), &mut store, &mut out)?, 3);
+    assert_eq!(rt; out.bytes.as_slice(), b"fault: store\n".as_slice());
+    assert_eq!(rt; out.calls, 1);
+
+    let mut out = MemSink::new(alloc);
+    out.fail.push(0)?;
+    assert_eq!(rt; run(alloc, words.as_slice(), &mut store, &mut out)?, 3);
+    assert!(rt; out.bytes.is_empty());
+    Ok(())
+}
+
+#[test]
+fn words_without_a_reading_get_the_usage_line(rt: HostRuntime) -> Result<(), Fail> {
+    let alloc = rt.alloc();
+    let usage = "usage: circom_gold check, compile, witness, prove, public, audit or generate\n";
+    for words in [
+        "",
+        "check m.r1cs",
+        "check a b c",
+        "check -m.r1cs m.wtns",
+        "Check m.r1cs m.wtns",
+    ] {
+        let words = split(alloc, words)?;
+        let mut store = store(alloc, &R1CS, &[1, 33, 3, 11])?;
+        let mut out = MemSink::new(alloc);
+        assert_eq!(rt; run(alloc, words.as_slice(), &mut store, &mut out)?, 64);
+        assert_eq!(rt; out.bytes.as_slice(), usage.as_bytes());
+        assert_eq!(rt; store.calls, 0);
+        assert_eq!(rt; out.calls, 1);
+    }
+    Ok(())
+}
