@@ -1,0 +1,10 @@
+pub mod Butterfly
+pub mod Inverse
+pub mod Level
+pub mod Merging
+pub mod ReversalLaws
+pub mod Reversing
+pub mod RootLaws
+pub mod Sums
+pub mod Transforms
+pub mod Values

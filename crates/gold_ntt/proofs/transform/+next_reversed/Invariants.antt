@@ -1,0 +1,4 @@
+use Rattle.gold_ntt.proofs.transform.+next_reversed.Given as goal
+
+abbrev pub decreases-next_reversed : goal.decreases-next_reversed
+decreases-next_reversed l = l.k
