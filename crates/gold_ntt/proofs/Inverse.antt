@@ -107,11 +107,11 @@ orthogonal : (n w v : ℕ) → IsRoot n w v → (i k : ℕ) → i < n → k < n 
 orthogonal n w v root i k li lk ne =
     powers_zero n (w ^ i * v ^ k) (other_one n w v i k root) (other_order n w v i k root li lk ne)
 
--- at the same place they sum to n
-at_same : (n w v k : ℕ) → IsRoot n w v → powers n (w ^ k * v ^ k) % P ≡ n % P
-at_same n w v k root =
-    sum_mod P n (λ j. (w ^ k * v ^ k) ^ j) (λ j. 1)
-    (λ j l. pow_same P (w ^ k * v ^ k) 1 j (both P w v k (lit< tt) root.inverse ∙ sym (mod-eq_of_lt {n = 1} {m = P} (lit< tt))) ∙ ap (λ (y : ℕ). y % P) (one_pow j))
+-- the powers of 1 sum to their number
+pub powers_one : (n x : ℕ) → x % P ≡ 1 → powers n x % P ≡ n % P
+powers_one n x one =
+    sum_mod P n (λ j. x ^ j) (λ j. 1)
+    (λ j l. pow_same P x 1 j (one ∙ sym (mod-eq_of_lt {n = 1} {m = P} (lit< tt))) ∙ ap (λ (y : ℕ). y % P) (one_pow j))
     ∙ ap (λ (y : ℕ). y % P) (ones n)
   where
     ones : (n : ℕ) → sum_to n (λ j. 1) ≡ n
@@ -126,7 +126,7 @@ undoes n w v root a k low =
     ∙ ap (λ (y : ℕ). y % P) (sum_same n (λ i. sum_to n (λ j. a i * (w ^ i * v ^ k) ^ j)) (λ i. a i * powers n (w ^ i * v ^ k)) (λ i l. sum-scale n (a i) (λ j. (w ^ i * v ^ k) ^ j)))
     ∙ sum_one n P (λ i. a i * powers n (w ^ i * v ^ k)) k low
       (λ i l ne. times_zero (a i) (powers n (w ^ i * v ^ k)) P (orthogonal n w v root i k l low ne))
-    ∙ times_same P (a k) (powers n (w ^ k * v ^ k)) n (at_same n w v k root)
+    ∙ times_same P (a k) (powers n (w ^ k * v ^ k)) n (powers_one n (w ^ k * v ^ k) (both P w v k (lit< tt) root.inverse))
   where
     term : (b w v i j k : ℕ) → (v ^ k) ^ j * (b * (w ^ j) ^ i) ≡ b * (w ^ i * v ^ k) ^ j
     term b w v i j k =

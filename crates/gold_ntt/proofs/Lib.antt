@@ -1,7 +1,11 @@
 pub mod Butterfly
+pub mod Division
+pub mod Evaluation
+pub mod Interpolation
 pub mod Inverse
 pub mod Level
 pub mod Merging
+pub mod Products
 pub mod ReversalLaws
 pub mod Reversing
 pub mod RootLaws

@@ -59,7 +59,7 @@ inverse_halves w v log unit halves pos =
     minus_one_inverse (v ^ m)
     (ap (λ (y : ℕ). (y * v ^ m) % P) (sym (halves pos)) ∙ mul-mod_first (w ^ m) (v ^ m) P ∙ both P w v m (lit< tt) unit)
 
-is_root : (e v : ℕ) → e ≤ 32 → (root_of e * v) % P ≡ 1 → IsRoot (2 ^ e) (root_of e) v
+pub is_root : (e v : ℕ) → e ≤ 32 → (root_of e * v) % P ≡ 1 → IsRoot (2 ^ e) (root_of e) v
 is_root e v l unit = record {
   inverse = unit;
   one = root_one e l;
@@ -155,3 +155,7 @@ unit_of n log r v size l root power =
 
 pub scale_of : (h s log : ℕ) → h ≡ 9223372034707292161 → s ≡ h ^ log % P → (s * 2 ^ log) % P ≡ 1
 scale_of h s log half power = halves_cancel s log (power ∙ ap (λ (y : ℕ). y ^ log % P) half)
+
+-- the last power of a root of order 2 ^ e is its inverse
+pub root_unit : (e : ℕ) → e ≤ 32 → (root_of e * (root_of e ^ (2 ^ e - 1) % P)) % P ≡ 1
+root_unit e l = last_inverse P (root_of e) (root_of e ^ (2 ^ e - 1) % P) (2 ^ e) (pow_pos e) (root_one e l) refl

@@ -1,7 +1,10 @@
 //! Polynomials over the field of order p: evaluation, and number-theoretic transforms.
 #![tactic(auto)]
 
+mod polynomial;
 mod roots;
 mod transform;
 
+pub use polynomial::{eval, mul};
 pub use roots::{ROOT, root};
+pub use transform::{coset_ntt, intt, ntt};

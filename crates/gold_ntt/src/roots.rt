@@ -7,8 +7,8 @@ use gold_field::Gold;
 /// 7 ^ (2 ^ 32 - 1) modulo p, of order 2 ^ 32. 7 generates the field's numbers but 0.
 pub const ROOT: u64 = 1753635133440165772;
 
+/// The root of unity of order `2 ^ e`.
 #[tactic(auto, using(crate::proofs::RootLaws::square_turn), unfolding(crate::specs::Transform::root_of))]
-/// A root of unity of order `2 ^ e`.
 pub fn root(e: u32) -> Gold
     requires { e ≤ 32 }
     ensures { result ≡ root_of e }
