@@ -1,12 +1,13 @@
 -- Sums of powers of roots of unity, and division by X ^ n - 1.
-use Rattle.std.proofs.Common.{◌≡◌, ◌≢◌, ℕ, zero, suc, ◌+◌, ◌-◌, ◌*◌, ◌/◌, ◌%◌, ◌^◌, ◌<◌, ◌≤◌, ◌⊎◌, ◌↔◌, inl, inr, refl, sym, ◌∙◌, ap, arith, lit<, mod-eq_of_lt, mod-lt, div-add-mod', List, length, get_or, cond}
+use Rattle.std.proofs.Common.{◌≡◌, ◌≢◌, ℕ, zero, suc, ◌+◌, ◌-◌, ◌*◌, ◌/◌, ◌%◌, ◌^◌, ◌<◌, ◌≤◌, ◌⊎◌, ◌↔◌, inl, inr, refl, sym, ◌∙◌, ap, arith, lit<, mod-eq_of_lt, mod-lt, div-add-mod', List, length, get_or, cond, ◌==◌, eq-eqb}
 use Rattle.std.proofs.Math.Nat.{mod-mod, zero-mod, pow-zero}
 use Rattle.std.proofs.lemmas.Nat.{mul-mod, mul-mod_first, mul-mod_second, pow-mod, pow-add, pow_pos}
-use Rattle.std.proofs.lemmas.Bool.{cases_lt, cases_eq, lt-ltb, le-ltb}
+use Rattle.std.proofs.lemmas.Bool.{cases_lt, cases_eq, lt-ltb, le-ltb, ne_eqb}
 use Rattle.std.proofs.lemmas.List.{get_or_past}
 use Rattle.gold_field.specs.declared.gold.TheConstants.{P}
+use Rattle.gold_field.proofs.Euclid.{times_zero}
 use Rattle.gold_field.proofs.FieldLaws.{sum_cancel, sum_of_rests}
-use Rattle.gold_field.proofs.Period.{one_pow}
+use Rattle.gold_field.proofs.Period.{one_pow, pow_swap}
 use Rattle.gold_field.proofs.PowerSteps.{pow_pow}
 use Rattle.gold_ntt.specs.Polynomial.{sum_to, poly, eval_at, shifted_at, IsDivision}
 use Rattle.gold_ntt.specs.Transform.{root_of}
@@ -14,8 +15,8 @@ use Rattle.gold_ntt.proofs.Inverse.{powers, powers_zero, powers_one}
 use Rattle.gold_ntt.proofs.Interpolation.{equal_values}
 use Rattle.gold_ntt.proofs.Products.{poly_past, poly-add}
 use Rattle.gold_ntt.proofs.RootLaws.{root_one, root_order}
-use Rattle.gold_ntt.proofs.Sums.{sum_to-zero, sum_to-suc, sum_same, sum_mod, sum-scale, sum-zero}
-use Rattle.gold_ntt.proofs.Values.{poly_point, poly_coefs, plus_same, pow_same, same_times}
+use Rattle.gold_ntt.proofs.Sums.{sum_to-zero, sum_to-suc, sum_same, sum_mod, sum-scale, sum-swap, sum-zero}
+use Rattle.gold_ntt.proofs.Values.{poly_point, poly_coefs, plus_same, pow_same, same_times, times_same}
 
 -- a power of a root depends on the exponent modulo the order
 root_rest : (e k : ℕ) → e ≤ 32 → (root_of e ^ k) % P ≡ (root_of e ^ (k % 2 ^ e)) % P
@@ -147,3 +148,39 @@ division_zero e f q r l is none j =
     root_value e f q r j l is
     ∙ poly_coefs P n (λ i. get_or r i 0) (λ i. 0) x (λ i h. none i)
     ∙ ap (λ (y : ℕ). y % P) (sum_same n (λ i. 0 * x ^ i) (λ i. 0) (λ i h. omega arith) ∙ sum-zero n)
+
+-- coefficient k times the powers of the k-th power of the root
+column_sum : (e k b : ℕ) → e ≤ 32 → sum_to (2 ^ e) (λ j. b * (root_of e ^ k) ^ j) % P ≡ (2 ^ e * cond (k % 2 ^ e == 0) b 0) % P
+column_sum e k b l =
+    let n : ℕ = 2 ^ e in
+    ap (λ (y : ℕ). y % P) (sum-scale n b (λ j. (root_of e ^ k) ^ j))
+    ∙ elim (cases_eq (k % n) 0) [
+      | inl is ↦
+          let order : b * n ≡ n * b = omega arith in
+          times_same P b (powers n (root_of e ^ k)) n (powers_count e k l is) ∙ ap (λ (y : ℕ). y % P) order
+          ∙ sym (ap (λ (y : _). (n * cond y b 0) % P) (eq-eqb (k % n) 0 is))
+      | inr is_not ↦
+          let none : n * 0 ≡ 0 = omega arith in
+          times_zero b (powers n (root_of e ^ k)) P (powers_vanish e k l is_not)
+          ∙ sym (ap (λ (y : _). (n * cond y b 0) % P) (ne_eqb (k % n) 0 is_not) ∙ ap (λ (y : ℕ). y % P) none)
+    ]
+
+pub value_sum : (e : ℕ) (a : List ℕ) → e ≤ 32
+  → sum_to (2 ^ e) (λ j. eval_at a (root_of e ^ j % P)) % P ≡ (2 ^ e * sum_to (length a) (λ k. cond (k % 2 ^ e == 0) (get_or a k 0) 0)) % P
+value_sum e a l =
+    let n : ℕ = 2 ^ e in
+    let m : ℕ = length a in
+    let w : ℕ = root_of e in
+    let c : ℕ → ℕ = λ k. get_or a k 0 in
+    sum_mod P n (λ j. eval_at a (w ^ j % P)) (λ j. sum_to m (λ k. c k * (w ^ k) ^ j)) (λ j h. place j)
+    ∙ ap (λ (y : ℕ). y % P) (sum-swap n m (λ k j. c k * (w ^ k) ^ j))
+    ∙ sum_mod P m (λ k. sum_to n (λ j. c k * (w ^ k) ^ j)) (λ k. n * cond (k % n == 0) (c k) 0) (λ k h. column_sum e k (c k) l)
+    ∙ ap (λ (y : ℕ). y % P) (sum-scale m n (λ k. cond (k % n == 0) (c k) 0))
+  where
+    place : (j : ℕ) → eval_at a (root_of e ^ j % P) % P ≡ sum_to (length a) (λ k. get_or a k 0 * (root_of e ^ k) ^ j) % P
+    place j =
+        let w : ℕ = root_of e in
+        let c : ℕ → ℕ = λ k. get_or a k 0 in
+        mod-mod (poly (length a) c (w ^ j % P)) P ∙ poly_point P (length a) c (w ^ j % P) (w ^ j) (mod-mod (w ^ j) P)
+        ∙ ap (λ (y : ℕ). y % P)
+          (sum_same (length a) (λ k. c k * (w ^ j) ^ k) (λ k. c k * (w ^ k) ^ j) (λ k h. ap (λ (y : ℕ). c k * y) (pow_swap w j k)))

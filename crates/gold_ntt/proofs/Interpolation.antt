@@ -76,3 +76,12 @@ is_product c d new all places count fits cut is =
       coefficient = λ k h.
           ap (λ (y : List ℕ). get_or y k 0) cut ∙ get_or-take places all k 0 (omega arith) ∙ is k (omega arith);
     }
+
+-- one list of values has one list of coefficients
+pub same_coefficients : (e : ℕ) (a b values : List ℕ) → e ≤ 32 → length values ≡ 2 ^ e → IsTransform e a values → IsTransform e b values
+  → (k : ℕ) → k < 2 ^ e → get_or a k 0 % P ≡ get_or b k 0 % P
+same_coefficients e a b values l size first second =
+    let long_a : length a ≡ 2 ^ e = sym first.same_length ∙ size in
+    let long_b : length b ≡ 2 ^ e = sym second.same_length ∙ size in
+    equal_values e l (λ i. get_or a i 0) (λ i. get_or b i 0)
+    (λ j h. sym (value_at_root e a values j long_a first h) ∙ value_at_root e b values j long_b second h)

@@ -1,6 +1,7 @@
 //! Polynomials over the field of order p: evaluation, and number-theoretic transforms.
 #![tactic(auto)]
 
+pub mod laws;
 mod polynomial;
 mod roots;
 mod transform;

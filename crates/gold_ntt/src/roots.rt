@@ -1,4 +1,4 @@
-ghost use Rattle.std.specs.Prelude.{◌≡◌, ℕ, ◌-◌, ◌*◌, ◌%◌, ◌^◌, ◌<◌, ◌≤◌};
+ghost use Rattle.std.specs.Prelude.{◌≡◌, ◌≢◌, ℕ, ◌-◌, ◌*◌, ◌%◌, ◌^◌, ◌<◌, ◌≤◌};
 ghost use Rattle.gold_field.specs.declared.gold.TheConstants.{P};
 ghost use Rattle.gold_ntt.specs.Transform.{root_of};
 
@@ -11,7 +11,11 @@ pub const ROOT: u64 = 1753635133440165772;
 #[tactic(auto, using(crate::proofs::RootLaws::square_turn), unfolding(crate::specs::Transform::root_of))]
 pub fn root(e: u32) -> Gold
     requires { e ≤ 32 }
-    ensures { result ≡ root_of e }
+    ensures value { result ≡ root_of e }
+    ensures base { (b : ℕ) → b ≡ 7 → result ≡ b ^ ((2 ^ 32 - 1) * 2 ^ (32 - e)) % P }
+    ensures one { result ^ (2 ^ e) % P ≡ 1 }
+    ensures half { 0 < e → result ^ (2 ^ (e - 1)) % P ≡ P - 1 }
+    ensures order { (k : ℕ) → 0 < k → k < 2 ^ e → result ^ k % P ≢ 1 }
 {
     let mut root = Gold::from_wide(ROOT as u128);
     for i in e..32 {
