@@ -34,45 +34,45 @@ square_power q w s j is =
     ap (λ (y : ℕ). (y ^ j) % q) is ∙ pow-mod (w * w) j q ∙ ap (λ (y : ℕ). y % q) (mul-pow w w j)
 
 pub low_place : (q m w s j e o r : ℕ) (c : ℕ → ℕ) → s ≡ (w * w) % q
-  → e % q ≡ poly m (λ i. c (i + i)) (s ^ j) % q → o % q ≡ poly m (λ i. c (suc (i + i))) (s ^ j) % q
-  → r ≡ (e + (w ^ j * o) % q) % q → r ≡ poly (m + m) c (w ^ j) % q
+    → e % q ≡ poly m (λ i. c (i + i)) (s ^ j) % q → o % q ≡ poly m (λ i. c (suc (i + i))) (s ^ j) % q
+    → r ≡ (e + (w ^ j * o) % q) % q → r ≡ poly (m + m) c (w ^ j) % q
 low_place q m w s j e o r c square even odd is =
     let x : ℕ = w ^ j in
     let point : (s ^ j) % q ≡ (x * x) % q = square_power q w s j square in
     let first : e % q ≡ poly m (λ i. c (i + i)) (x * x) % q = even ∙ poly_point q m (λ i. c (i + i)) (s ^ j) (x * x) point in
     let second : o % q ≡ poly m (λ i. c (suc (i + i))) (x * x) % q =
-        odd ∙ poly_point q m (λ i. c (suc (i + i))) (s ^ j) (x * x) point in
+    odd ∙ poly_point q m (λ i. c (suc (i + i))) (s ^ j) (x * x) point in
     is ∙ plus_same q e e ((x * o) % q) (x * o) refl (mod-mod (x * o) q)
     ∙ plus_same q e (poly m (λ i. c (i + i)) (x * x)) (x * o) (x * poly m (λ i. c (suc (i + i))) (x * x)) first
-      (times_same q x o (poly m (λ i. c (suc (i + i))) (x * x)) second)
+    (times_same q x o (poly m (λ i. c (suc (i + i))) (x * x)) second)
     ∙ ap (λ (y : ℕ). y % q) (sym (poly_pairs m c x))
 
 pub high_place : (q m w s j e o r : ℕ) (c : ℕ → ℕ) → 2 < q → (w ^ m) % q ≡ q - 1 → s ≡ (w * w) % q
-  → e % q ≡ poly m (λ i. c (i + i)) (s ^ j) % q → o % q ≡ poly m (λ i. c (suc (i + i))) (s ^ j) % q
-  → r ≡ (e + (q - (w ^ j * o) % q)) % q → r ≡ poly (m + m) c (w ^ (m + j)) % q
+    → e % q ≡ poly m (λ i. c (i + i)) (s ^ j) % q → o % q ≡ poly m (λ i. c (suc (i + i))) (s ^ j) % q
+    → r ≡ (e + (q - (w ^ j * o) % q)) % q → r ≡ poly (m + m) c (w ^ (m + j)) % q
 high_place q m w s j e o r c large half square even odd is =
     let t : ℕ = w ^ j in
     let x : ℕ = w ^ (m + j) in
     let u : ℕ = w ^ m in
     let parts : x ≡ u * t = pow-add w m j in
     let turn : x % q ≡ ((q - 1) * t) % q =
-        ap (λ (y : ℕ). y % q) parts ∙ sym (mul-mod_first u t q) ∙ ap (λ (y : ℕ). (y * t) % q) half in
+    ap (λ (y : ℕ). y % q) parts ∙ sym (mul-mod_first u t q) ∙ ap (λ (y : ℕ). (y * t) % q) half in
     let order : u * t * (u * t) ≡ u * u * (t * t) = omega arith in
     let one : 1 * (t * t) ≡ t * t = omega arith in
     let point : (s ^ j) % q ≡ (x * x) % q =
-        square_power q w s j square
-        ∙ sym
-          (ap (λ (y : ℕ). (y * y) % q) parts ∙ ap (λ (y : ℕ). y % q) order ∙ sym (mul-mod_first (u * u) (t * t) q)
-           ∙ ap (λ (y : ℕ). (y * (t * t)) % q) (minus_one_square q u large half) ∙ ap (λ (y : ℕ). y % q) one) in
+    square_power q w s j square
+    ∙ sym
+    (ap (λ (y : ℕ). (y * y) % q) parts ∙ ap (λ (y : ℕ). y % q) order ∙ sym (mul-mod_first (u * u) (t * t) q)
+    ∙ ap (λ (y : ℕ). (y * (t * t)) % q) (minus_one_square q u large half) ∙ ap (λ (y : ℕ). y % q) one) in
     let first : e % q ≡ poly m (λ i. c (i + i)) (x * x) % q = even ∙ poly_point q m (λ i. c (i + i)) (s ^ j) (x * x) point in
     let second : o % q ≡ poly m (λ i. c (suc (i + i))) (x * x) % q =
-        odd ∙ poly_point q m (λ i. c (suc (i + i))) (s ^ j) (x * x) point in
+    odd ∙ poly_point q m (λ i. c (suc (i + i))) (s ^ j) (x * x) point in
     let minus : (q - (t * o) % q) % q ≡ (x * o) % q =
-        negative q (t * o) (x * o) (omega arith)
-        (same_times q o x ((q - 1) * t) turn ∙ ap (λ (y : ℕ). y % q) (mul_assoc (q - 1) t o)) in
+    negative q (t * o) (x * o) (omega arith)
+    (same_times q o x ((q - 1) * t) turn ∙ ap (λ (y : ℕ). y % q) (mul_assoc (q - 1) t o)) in
     is ∙ plus_same q e e (q - (t * o) % q) (x * o) refl minus
     ∙ plus_same q e (poly m (λ i. c (i + i)) (x * x)) (x * o) (x * poly m (λ i. c (suc (i + i))) (x * x)) first
-      (times_same q x o (poly m (λ i. c (suc (i + i))) (x * x)) second)
+    (times_same q x o (poly m (λ i. c (suc (i + i))) (x * x)) second)
     ∙ ap (λ (y : ℕ). y % q) (sym (poly_pairs m c x))
 
 -- a power of the square

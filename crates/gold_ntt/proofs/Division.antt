@@ -28,8 +28,8 @@ root_rest e k l = rest P (root_of e) (2 ^ e) k (lit< tt) (root_one e l)
         let r : ℕ = k % n in
         let parts : k ≡ n * t + r = let whole : t * n + r ≡ k = div-add-mod' k n in omega arith in
         let unit : ((w ^ n) ^ t) % q ≡ 1 =
-            sym (pow-mod (w ^ n) t q) ∙ ap (λ (y : ℕ). (y ^ t) % q) one ∙ ap (λ (y : ℕ). y % q) (one_pow t)
-            ∙ mod-eq_of_lt {n = 1} {m = q} large in
+        sym (pow-mod (w ^ n) t q) ∙ ap (λ (y : ℕ). (y ^ t) % q) one ∙ ap (λ (y : ℕ). y % q) (one_pow t)
+        ∙ mod-eq_of_lt {n = 1} {m = q} large in
         let same : 1 * w ^ r ≡ w ^ r = omega arith in
         ap (λ (y : ℕ). y % q) (ap (λ (y : ℕ). w ^ y) parts ∙ pow-add w (n * t) r ∙ ap (λ (y : ℕ). y * w ^ r) (sym (pow_pow w n t)))
         ∙ sym (mul-mod_first ((w ^ n) ^ t) (w ^ r) q) ∙ ap (λ (y : ℕ). (y * w ^ r) % q) unit ∙ ap (λ (y : ℕ). y % q) same
@@ -60,23 +60,23 @@ powers_count e k l none =
 shifted_value : (n m x : ℕ) (a : List ℕ) → poly (n + m) (shifted_at n a) x ≡ x ^ n * poly m (λ i. get_or a i 0) x
 shifted_value n zero x a =
     let none : x ^ n * poly 0 (λ i. get_or a i 0) x ≡ 0 =
-        ap (λ (y : ℕ). x ^ n * y) (sum_to-zero (λ i. get_or a i 0 * x ^ i)) ∙ omega arith in
+    ap (λ (y : ℕ). x ^ n * y) (sum_to-zero (λ i. get_or a i 0 * x ^ i)) ∙ omega arith in
     let whole : n + 0 ≡ n = omega arith in
     ap (λ (y : ℕ). poly y (shifted_at n a) x) whole
     ∙ sum_same n (λ k. shifted_at n a k * x ^ k) (λ k. 0)
-      (λ k h. ap (λ (y : _). (cond y 0 (get_or a (k - n) 0)) * x ^ k) (lt-ltb k n h) ∙ omega arith)
+    (λ k h. ap (λ (y : _). (cond y 0 (get_or a (k - n) 0)) * x ^ k) (lt-ltb k n h) ∙ omega arith)
     ∙ sum-zero n ∙ sym none
 shifted_value n (suc m) x a =
     let next : n + suc m ≡ suc (n + m) = omega arith in
     let at : shifted_at n a (n + m) ≡ get_or a m 0 =
-        let back : n + m - n ≡ m = omega arith in
-        ap (λ (y : _). cond y 0 (get_or a (n + m - n) 0)) (le-ltb (n + m) n (omega arith)) ∙ ap (λ (y : ℕ). get_or a y 0) back in
+    let back : n + m - n ≡ m = omega arith in
+    ap (λ (y : _). cond y 0 (get_or a (n + m - n) 0)) (le-ltb (n + m) n (omega arith)) ∙ ap (λ (y : ℕ). get_or a y 0) back in
     let b : ℕ = get_or a m 0 in
     let last : shifted_at n a (n + m) * x ^ (n + m) ≡ x ^ n * (b * x ^ m) =
-        let y : ℕ = x ^ n in
-        let z : ℕ = x ^ m in
-        let order : b * (y * z) ≡ y * (b * z) = omega arith in
-        ap (λ (w : ℕ). w * x ^ (n + m)) at ∙ ap (λ (w : ℕ). b * w) (pow-add x n m) ∙ order in
+    let y : ℕ = x ^ n in
+    let z : ℕ = x ^ m in
+    let order : b * (y * z) ≡ y * (b * z) = omega arith in
+    ap (λ (w : ℕ). w * x ^ (n + m)) at ∙ ap (λ (w : ℕ). b * w) (pow-add x n m) ∙ order in
     let s : ℕ = poly m (λ i. get_or a i 0) x in
     let split : x ^ n * (s + b * x ^ m) ≡ x ^ n * s + x ^ n * (b * x ^ m) = omega arith in
     ap (λ (y : ℕ). poly y (shifted_at n a) x) next ∙ sum_to-suc (n + m) (λ k. shifted_at n a k * x ^ k)
@@ -86,7 +86,7 @@ shifted_value n (suc m) x a =
 
 -- f (x) + q (x) is x ^ n * q (x) + r (x)
 pub division_value : (n : ℕ) (f q r : List ℕ) (x : ℕ) → IsDivision n f q r
-  → (eval_at f x + eval_at q x) % P ≡ (x ^ n * eval_at q x + eval_at r x) % P
+    → (eval_at f x + eval_at q x) % P ≡ (x ^ n * eval_at q x + eval_at r x) % P
 division_value n f q r x is =
     let m : ℕ = length f + length q in
     let a : ℕ → ℕ = λ i. get_or f i 0 in
@@ -115,16 +115,16 @@ root_value e f q r j l is =
     let g : ℕ = eval_at q x in
     let same : 1 * g ≡ g = omega arith in
     let left : (g + eval_at f x) % P ≡ (g + eval_at r x) % P =
-        let turned : g + eval_at f x ≡ eval_at f x + g = omega arith in
-        ap (λ (y : ℕ). y % P) turned ∙ division_value n f q r x is
-        ∙ plus_same P (x ^ n * g) g (eval_at r x) (eval_at r x)
-          (sym (mul-mod_first (x ^ n) g P) ∙ ap (λ (y : ℕ). (y * g) % P) unit ∙ ap (λ (y : ℕ). y % P) same) refl in
+    let turned : g + eval_at f x ≡ eval_at f x + g = omega arith in
+    ap (λ (y : ℕ). y % P) turned ∙ division_value n f q r x is
+    ∙ plus_same P (x ^ n * g) g (eval_at r x) (eval_at r x)
+    (sym (mul-mod_first (x ^ n) g P) ∙ ap (λ (y : ℕ). (y * g) % P) unit ∙ ap (λ (y : ℕ). y % P) same) refl in
     sym (mod-mod (poly (length f) (λ i. get_or f i 0) x) P) ∙ sum_cancel P g (eval_at f x) (eval_at r x) (lit< tt) left
     ∙ mod-mod (poly (length r) (λ i. get_or r i 0) x) P
 
 -- so division leaves no remainder exactly where f is 0 at the roots
 pub division_exact : (e : ℕ) (f q r : List ℕ) → e ≤ 32 → IsDivision (2 ^ e) f q r
-  → ((j : ℕ) → j < 2 ^ e → eval_at f (root_of e ^ j % P) ≡ 0) → (k : ℕ) → get_or r k 0 % P ≡ 0
+    → ((j : ℕ) → j < 2 ^ e → eval_at f (root_of e ^ j % P) ≡ 0) → (k : ℕ) → get_or r k 0 % P ≡ 0
 division_exact e f q r l is zeros k =
     elim (cases_lt k (2 ^ e)) [
       | inr past ↦ let small : length r ≤ 2 ^ e = is.small in ap (λ (y : ℕ). y % P) (get_or_past r k 0 (omega arith))
@@ -135,13 +135,13 @@ division_exact e f q r l is zeros k =
     values j h =
         let x : ℕ = root_of e ^ j in
         let nothing : poly (2 ^ e) (λ i. 0) x ≡ 0 =
-            sum_same (2 ^ e) (λ i. 0 * x ^ i) (λ i. 0) (λ i l. omega arith) ∙ sum-zero (2 ^ e) in
+        sum_same (2 ^ e) (λ i. 0 * x ^ i) (λ i. 0) (λ i l. omega arith) ∙ sum-zero (2 ^ e) in
         ap (λ (y : ℕ). y % P) (poly_past r (2 ^ e) x is.small)
         ∙ poly_point P (length r) (λ i. get_or r i 0) x (x % P) (sym (mod-mod x P))
         ∙ sym (root_value e f q r j l is) ∙ zeros j h ∙ sym (ap (λ (y : ℕ). y % P) nothing)
 
 pub division_zero : (e : ℕ) (f q r : List ℕ) → e ≤ 32 → IsDivision (2 ^ e) f q r
-  → ((k : ℕ) → get_or r k 0 % P ≡ 0) → (j : ℕ) → eval_at f (root_of e ^ j % P) ≡ 0
+    → ((k : ℕ) → get_or r k 0 % P ≡ 0) → (j : ℕ) → eval_at f (root_of e ^ j % P) ≡ 0
 division_zero e f q r l is none j =
     let x : ℕ = root_of e ^ j % P in
     let n : ℕ = length r in
@@ -166,7 +166,7 @@ column_sum e k b l =
     ]
 
 pub value_sum : (e : ℕ) (a : List ℕ) → e ≤ 32
-  → sum_to (2 ^ e) (λ j. eval_at a (root_of e ^ j % P)) % P ≡ (2 ^ e * sum_to (length a) (λ k. cond (k % 2 ^ e == 0) (get_or a k 0) 0)) % P
+    → sum_to (2 ^ e) (λ j. eval_at a (root_of e ^ j % P)) % P ≡ (2 ^ e * sum_to (length a) (λ k. cond (k % 2 ^ e == 0) (get_or a k 0) 0)) % P
 value_sum e a l =
     let n : ℕ = 2 ^ e in
     let m : ℕ = length a in
@@ -183,4 +183,4 @@ value_sum e a l =
         let c : ℕ → ℕ = λ k. get_or a k 0 in
         mod-mod (poly (length a) c (w ^ j % P)) P ∙ poly_point P (length a) c (w ^ j % P) (w ^ j) (mod-mod (w ^ j) P)
         ∙ ap (λ (y : ℕ). y % P)
-          (sum_same (length a) (λ k. c k * (w ^ j) ^ k) (λ k. c k * (w ^ k) ^ j) (λ k h. ap (λ (y : ℕ). c k * y) (pow_swap w j k)))
+        (sum_same (length a) (λ k. c k * (w ^ j) ^ k) (λ k. c k * (w ^ k) ^ j) (λ k h. ap (λ (y : ℕ). c k * y) (pow_swap w j k)))

@@ -15,17 +15,17 @@ pub no_terms : (c : ℕ → ℕ) (x : ℕ) → 0 ≡ poly 0 c x % P
 no_terms c x = sym (ap (λ (y : ℕ). y % P) (sum_to-zero (λ i. c i * x ^ i)))
 
 pub one_term : (a : List ℕ) (x i v p d t r : ℕ) → i < length a → v ≡ poly i (λ k. get_or a k 0) x % P → p ≡ x ^ i % P
-  → d ≡ get_or a i d → t ≡ (d * p) % P → r ≡ (v + t) % P → r ≡ poly (i + 1) (λ k. get_or a k 0) x % P
+    → d ≡ get_or a i d → t ≡ (d * p) % P → r ≡ (v + t) % P → r ≡ poly (i + 1) (λ k. get_or a k 0) x % P
 one_term a x i v p d t r low value power read product sum =
     let c : ℕ = get_or a i 0 in
     let more : i + 1 ≡ suc i = omega arith in
     let term : t ≡ c * x ^ i % P =
-        product ∙ ap (λ (y : ℕ). (y * p) % P) (read ∙ get_or_default_zero a i d low) ∙ ap (λ (y : ℕ). (c * y) % P) power
-        ∙ mul-mod_second c (x ^ i) P in
+    product ∙ ap (λ (y : ℕ). (y * p) % P) (read ∙ get_or_default_zero a i d low) ∙ ap (λ (y : ℕ). (c * y) % P) power
+    ∙ mul-mod_second c (x ^ i) P in
     sum ∙ ap (λ (y : ℕ). (y + t) % P) value ∙ ap (λ (y : ℕ). (poly i (λ k. get_or a k 0) x % P + y) % P) term
     ∙ sum_of_rests P (poly i (λ k. get_or a k 0) x) (c * x ^ i)
     ∙ ap (λ (y : ℕ). y % P)
-      (sym (sum_to-suc i (λ k. get_or a k 0 * x ^ k)) ∙ ap (λ (y : ℕ). poly y (λ k. get_or a k 0) x) (sym more))
+    (sym (sum_to-suc i (λ k. get_or a k 0 * x ^ k)) ∙ ap (λ (y : ℕ). poly y (λ k. get_or a k 0) x) (sym more))
 
 pub small_log : (k n m : ℕ) → n ≡ 2 ^ k → n / 2 < max 1 m → 0 < m → m < 2 ^ 20 → k ≤ 20
 small_log k n m is below some small =

@@ -15,8 +15,8 @@ use Rattle.gold_ntt.proofs.Values.{poly_point}
 
 -- equal values at the powers of the root of order 2 ^ e give equal coefficients
 pub equal_values : (e : ℕ) → e ≤ 32 → (c d : ℕ → ℕ)
-  → ((j : ℕ) → j < 2 ^ e → poly (2 ^ e) c (root_of e ^ j) % P ≡ poly (2 ^ e) d (root_of e ^ j) % P)
-  → (k : ℕ) → k < 2 ^ e → c k % P ≡ d k % P
+    → ((j : ℕ) → j < 2 ^ e → poly (2 ^ e) c (root_of e ^ j) % P ≡ poly (2 ^ e) d (root_of e ^ j) % P)
+    → (k : ℕ) → k < 2 ^ e → c k % P ≡ d k % P
 equal_values e l c d same k low =
     let n : ℕ = 2 ^ e in
     let w : ℕ = root_of e in
@@ -29,7 +29,7 @@ equal_values e l c d same k low =
 
 -- a place of a transform, with the coefficients named elsewhere
 pub value_at_root : (e : ℕ) (coefs values : List ℕ) (j : ℕ) → length coefs ≡ 2 ^ e → IsTransform e coefs values → j < 2 ^ e
-  → get_or values j 0 ≡ poly (2 ^ e) (λ i. get_or coefs i 0) (root_of e ^ j) % P
+    → get_or values j 0 ≡ poly (2 ^ e) (λ i. get_or coefs i 0) (root_of e ^ j) % P
 value_at_root e coefs values j size transform low =
     let w : ℕ = root_of e in
     transform.value j (omega arith)
@@ -43,12 +43,12 @@ padded_value c a n x pad size =
     ∙ poly_past c n x (omega arith)
 
 pub convolved : (e : ℕ) → e ≤ 32 → (a b at_a at_b product_values new c d : List ℕ) → length a ≡ 2 ^ e → length b ≡ 2 ^ e
-  → IsTransform e a at_a → IsTransform e b at_b
-  → ((k : ℕ) → k < 2 ^ e → get_or product_values k 0 ≡ get_or at_a k 0 * get_or at_b k 0 % P)
-  → length new ≡ 2 ^ e → IsTransform e new product_values
-  → ((k : ℕ) → k < 2 ^ e → get_or new k 0 ≡ get_or new k 0 % P)
-  → IsPadded c a → IsPadded d b → 0 < length c → 0 < length d → length c + length d ≤ length a + 1
-  → (k : ℕ) → k < 2 ^ e → get_or new k 0 ≡ product_at c d k
+    → IsTransform e a at_a → IsTransform e b at_b
+    → ((k : ℕ) → k < 2 ^ e → get_or product_values k 0 ≡ get_or at_a k 0 * get_or at_b k 0 % P)
+    → length new ≡ 2 ^ e → IsTransform e new product_values
+    → ((k : ℕ) → k < 2 ^ e → get_or new k 0 ≡ get_or new k 0 % P)
+    → IsPadded c a → IsPadded d b → 0 < length c → 0 < length d → length c + length d ≤ length a + 1
+    → (k : ℕ) → k < 2 ^ e → get_or new k 0 ≡ product_at c d k
 convolved e l a b at_a at_b product_values new c d size_a size_b transform_a transform_b times size transform below pad_a pad_b some_c some_d fits k low =
     below k low ∙ equal_values e l (λ i. get_or new i 0) (product c d) values k low
   where
@@ -59,16 +59,16 @@ convolved e l a b at_a at_b product_values new c d size_a size_b transform_a tra
         let f : ℕ = poly (length c) (λ i. get_or c i 0) x in
         let g : ℕ = poly (length d) (λ i. get_or d i 0) x in
         let is_f : get_or at_a j 0 ≡ f % P =
-            value_at_root e a at_a j size_a transform_a h ∙ ap (λ (y : ℕ). y % P) (padded_value c a n x pad_a size_a) in
+        value_at_root e a at_a j size_a transform_a h ∙ ap (λ (y : ℕ). y % P) (padded_value c a n x pad_a size_a) in
         let is_g : get_or at_b j 0 ≡ g % P =
-            value_at_root e b at_b j size_b transform_b h ∙ ap (λ (y : ℕ). y % P) (padded_value d b n x pad_b size_b) in
+        value_at_root e b at_b j size_b transform_b h ∙ ap (λ (y : ℕ). y % P) (padded_value d b n x pad_b size_b) in
         sym (value_at_root e new product_values j size transform h) ∙ times j h
         ∙ ap (λ (y : ℕ). (y * get_or at_b j 0) % P) is_f ∙ ap (λ (y : ℕ). (f % P * y) % P) is_g ∙ product_of_rests P f g
         ∙ ap (λ (y : ℕ). y % P) (sym (product_value c d n x (omega arith) (omega arith)))
 
 -- the first places of the product
 pub is_product : (c d new all : List ℕ) (places : ℕ) → places + 1 ≡ length c + length d → places ≤ length all → new ≡ take places all
-  → ((k : ℕ) → k < length all → get_or all k 0 ≡ product_at c d k) → IsProduct c d new
+    → ((k : ℕ) → k < length all → get_or all k 0 ≡ product_at c d k) → IsProduct c d new
 is_product c d new all places count fits cut is =
     let long : length new ≡ places = ap length cut ∙ length-take-le places all fits in
     record {
@@ -79,7 +79,7 @@ is_product c d new all places count fits cut is =
 
 -- one list of values has one list of coefficients
 pub same_coefficients : (e : ℕ) (a b values : List ℕ) → e ≤ 32 → length values ≡ 2 ^ e → IsTransform e a values → IsTransform e b values
-  → (k : ℕ) → k < 2 ^ e → get_or a k 0 % P ≡ get_or b k 0 % P
+    → (k : ℕ) → k < 2 ^ e → get_or a k 0 % P ≡ get_or b k 0 % P
 same_coefficients e a b values l size first second =
     let long_a : length a ≡ 2 ^ e = sym first.same_length ∙ size in
     let long_b : length b ≡ 2 ^ e = sym second.same_length ∙ size in

@@ -31,12 +31,12 @@ pub powers_zero : (n x : ℕ) → (x ^ n) % P ≡ 1 → x % P ≢ 1 → powers n
 powers_zero n x one other =
     let s : ℕ = powers n x in
     let turned : (1 + x * s) % P ≡ (1 + s * 1) % P =
-        let order : 1 + x * s ≡ s + x ^ n = omega (arith, powers-times n x) in
-        let last : s + 1 ≡ 1 + s * 1 = omega arith in
-        ap (λ (y : ℕ). y % P) order ∙ plus_same P s s (x ^ n) 1 refl (one ∙ sym (mod-eq_of_lt {n = 1} {m = P} (lit< tt)))
-        ∙ ap (λ (y : ℕ). y % P) last in
+    let order : 1 + x * s ≡ s + x ^ n = omega (arith, powers-times n x) in
+    let last : s + 1 ≡ 1 + s * 1 = omega arith in
+    ap (λ (y : ℕ). y % P) order ∙ plus_same P s s (x ^ n) 1 refl (one ∙ sym (mod-eq_of_lt {n = 1} {m = P} (lit< tt)))
+    ∙ ap (λ (y : ℕ). y % P) last in
     let same : (s * x) % P ≡ (s * 1) % P =
-        ap (λ (y : ℕ). y % P) (mul_comm s x) ∙ sum_cancel P 1 (x * s) (s * 1) (lit< tt) turned in
+    ap (λ (y : ℕ). y % P) (mul_comm s x) ∙ sum_cancel P 1 (x * s) (s * 1) (lit< tt) turned in
     elim (cases_eq (s % P) 0) [
       | inl is ↦ is
       | inr unit ↦ absurd (other (product_cancel s x 1 unit same ∙ mod-eq_of_lt {n = 1} {m = P} (lit< tt)))
@@ -125,7 +125,7 @@ undoes n w v root a k low =
     ∙ ap (λ (y : ℕ). y % P) (sum-swap n n (λ i j. a i * (w ^ i * v ^ k) ^ j))
     ∙ ap (λ (y : ℕ). y % P) (sum_same n (λ i. sum_to n (λ j. a i * (w ^ i * v ^ k) ^ j)) (λ i. a i * powers n (w ^ i * v ^ k)) (λ i l. sum-scale n (a i) (λ j. (w ^ i * v ^ k) ^ j)))
     ∙ sum_one n P (λ i. a i * powers n (w ^ i * v ^ k)) k low
-      (λ i l ne. times_zero (a i) (powers n (w ^ i * v ^ k)) P (orthogonal n w v root i k l low ne))
+    (λ i l ne. times_zero (a i) (powers n (w ^ i * v ^ k)) P (orthogonal n w v root i k l low ne))
     ∙ times_same P (a k) (powers n (w ^ k * v ^ k)) n (powers_one n (w ^ k * v ^ k) (both P w v k (lit< tt) root.inverse))
   where
     term : (b w v i j k : ℕ) → (v ^ k) ^ j * (b * (w ^ j) ^ i) ≡ b * (w ^ i * v ^ k) ^ j
@@ -134,6 +134,7 @@ undoes n w v root a k low =
         let y : ℕ = (w ^ i) ^ j in
         let order : x * (b * y) ≡ b * (y * x) = omega arith in
         ap (λ (z : ℕ). x * (b * z)) (pow_swap w j i) ∙ order ∙ ap (λ (z : ℕ). b * z) (sym (mul-pow (w ^ i) (v ^ k) j))
+
     inside : (j : ℕ) → poly n a (w ^ j) * (v ^ k) ^ j ≡ sum_to n (λ i. a i * (w ^ i * v ^ k) ^ j)
     inside j =
         mul_comm (poly n a (w ^ j)) ((v ^ k) ^ j) ∙ sym (sum-scale n ((v ^ k) ^ j) (λ i. a i * (w ^ j) ^ i))
@@ -141,15 +142,15 @@ undoes n w v root a k low =
 
 -- b is the scaled transform, at v, of a: then a is the transform of b, at w
 pub undone : (n w v s : ℕ) → IsRoot n w v → (s * n) % P ≡ 1 → (a b : ℕ → ℕ)
-  → ((k : ℕ) → k < n → b k % P ≡ (poly n a (v ^ k) * s) % P)
-  → (j : ℕ) → j < n → a j % P ≡ poly n b (w ^ j) % P
+    → ((k : ℕ) → k < n → b k % P ≡ (poly n a (v ^ k) * s) % P)
+    → (j : ℕ) → j < n → a j % P ≡ poly n b (w ^ j) % P
 undone n w v s root unit a b is j low =
     let back : IsRoot n v w = inverse_root n w v root in
     sym
-      (poly_coefs P n b (λ k. s * poly n a (v ^ k)) (w ^ j) (λ k l. is k l ∙ ap (λ (y : ℕ). y % P) (mul_comm (poly n a (v ^ k)) s))
-       ∙ ap (λ (y : ℕ). y % P) (poly-scale n s (λ k. poly n a (v ^ k)) (w ^ j))
-       ∙ times_same P s (poly n (λ k. poly n a (v ^ k)) (w ^ j)) (a j * n) (undoes n v w back a j low)
-       ∙ scaled P s n (a j) unit)
+    (poly_coefs P n b (λ k. s * poly n a (v ^ k)) (w ^ j) (λ k l. is k l ∙ ap (λ (y : ℕ). y % P) (mul_comm (poly n a (v ^ k)) s))
+    ∙ ap (λ (y : ℕ). y % P) (poly-scale n s (λ k. poly n a (v ^ k)) (w ^ j))
+    ∙ times_same P s (poly n (λ k. poly n a (v ^ k)) (w ^ j)) (a j * n) (undoes n v w back a j low)
+    ∙ scaled P s n (a j) unit)
   where
     scaled : (q s n x : ℕ) → (s * n) % q ≡ 1 → (s * (x * n)) % q ≡ x % q
     scaled q s n x e =
@@ -159,8 +160,8 @@ undone n w v s root unit a b is j low =
 
 -- a is the transform, at w, of d: then d is the scaled transform of a, at v
 pub recovered : (n w v s : ℕ) → IsRoot n w v → (s * n) % P ≡ 1 → (a d : ℕ → ℕ)
-  → ((j : ℕ) → j < n → a j % P ≡ poly n d (w ^ j) % P)
-  → (k : ℕ) → k < n → (poly n a (v ^ k) * s) % P ≡ d k % P
+    → ((j : ℕ) → j < n → a j % P ≡ poly n d (w ^ j) % P)
+    → (k : ℕ) → k < n → (poly n a (v ^ k) * s) % P ≡ d k % P
 recovered n w v s root unit a d is k low =
     same_times P s (poly n a (v ^ k)) (d k * n) (poly_coefs P n a (λ j. poly n d (w ^ j)) (v ^ k) is ∙ undoes n w v root d k low)
     ∙ scaled P s n (d k) unit

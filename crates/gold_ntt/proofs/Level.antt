@@ -22,24 +22,24 @@ half_value q m c d x e is h =
     ap (λ (y : ℕ). y % q) is ∙ mod-mod (poly m c x) q ∙ ap (λ (y : ℕ). y % q) (poly_same m c d x h)
 
 pub whole_block : (old one two new : List ℕ) (start k w s m : ℕ) → m ≡ 2 ^ k → (w ^ m) % P ≡ P - 1 → s ≡ (w * w) % P
-  → TransformsBlock old one start k s → TransformsBlock one two (start + m) k s → IsMerged two new start m w m
-  → TransformsBlock old new start (suc k) w
+    → TransformsBlock old one start k s → TransformsBlock one two (start + m) k s → IsMerged two new start m w m
+    → TransformsBlock old new start (suc k) w
 whole_block old one two new start k w s m size half square first second merged =
     let double : 2 ^ suc k ≡ m + m = two-pow-succ k ∙ ap (λ (y : ℕ). y + y) (sym size) in
     let c : ℕ → ℕ = λ i. get_or old (start + reversed (suc k) i) 0 in
     let even : (j : ℕ) → j < m → get_or two (start + j) 0 % P ≡ poly m (λ i. c (i + i)) (s ^ j) % P =
-        λ j l.
-            half_value P m (λ i. get_or old (start + reversed k i) 0) (λ i. c (i + i)) (s ^ j) (get_or two (start + j) 0)
-            (second.others (start + j) (inl (omega arith)) ∙ first.inside j (omega arith)
-             ∙ ap (λ (y : ℕ). poly y (λ i. get_or old (start + reversed k i) 0) (s ^ j) % P) (sym size))
-            (λ i l. ap (λ (y : ℕ). get_or old (start + y) 0) (sym (reversed-even k i))) in
+    λ j l.
+    half_value P m (λ i. get_or old (start + reversed k i) 0) (λ i. c (i + i)) (s ^ j) (get_or two (start + j) 0)
+    (second.others (start + j) (inl (omega arith)) ∙ first.inside j (omega arith)
+    ∙ ap (λ (y : ℕ). poly y (λ i. get_or old (start + reversed k i) 0) (s ^ j) % P) (sym size))
+    (λ i l. ap (λ (y : ℕ). get_or old (start + y) 0) (sym (reversed-even k i))) in
     let odd : (j : ℕ) → j < m → get_or two (start + m + j) 0 % P ≡ poly m (λ i. c (suc (i + i))) (s ^ j) % P =
-        λ j l.
-            half_value P m (λ i. get_or one (start + m + reversed k i) 0) (λ i. c (suc (i + i))) (s ^ j)
-            (get_or two (start + m + j) 0)
-            (second.inside j (omega arith)
-             ∙ ap (λ (y : ℕ). poly y (λ i. get_or one (start + m + reversed k i) 0) (s ^ j) % P) (sym size))
-            (λ i l. odd_coefficient i) in
+    λ j l.
+    half_value P m (λ i. get_or one (start + m + reversed k i) 0) (λ i. c (suc (i + i))) (s ^ j)
+    (get_or two (start + m + j) 0)
+    (second.inside j (omega arith)
+    ∙ ap (λ (y : ℕ). poly y (λ i. get_or one (start + m + reversed k i) 0) (s ^ j) % P) (sym size))
+    (λ i l. odd_coefficient i) in
     record {
       inside = λ j l.
           elim (cases_lt j m) [
@@ -54,7 +54,7 @@ whole_block old one two new start k w s m size half square first second merged =
                 let power : m + i ≡ j = omega arith in
                 ap (λ (y : ℕ). get_or new y 0) place
                 ∙ high_place P m w s i (get_or two (start + i) 0) (get_or two (start + m + i) 0) (get_or new (start + m + i) 0) c
-                  (lit< tt) half square (even i below) (odd i below) (merged.high i below)
+                (lit< tt) half square (even i below) (odd i below) (merged.high i below)
                 ∙ ap (λ (y : ℕ). poly (m + m) c (w ^ y) % P) power ∙ ap (λ (y : ℕ). poly y c (w ^ j) % P) (sym double)
           ];
       others = λ p h.
@@ -69,7 +69,7 @@ whole_block old one two new start k w s m size half square first second merged =
                 let i : ℕ = j - m in
                 let place : start + j ≡ start + m + i = omega arith in
                 let same : get_or one (start + m + i) 0 ≡ get_or old (start + j) 0 =
-                    first.others (start + m + i) (inr (omega arith)) ∙ ap (λ (y : ℕ). get_or old y 0) (sym place) in
+                first.others (start + m + i) (inr (omega arith)) ∙ ap (λ (y : ℕ). get_or old y 0) (sym place) in
                 omega (arith, second.below i (omega arith))
           ];
     }
@@ -95,7 +95,7 @@ one_place a start log w x none low is below =
       inside = λ j l.
           let first : j ≡ 0 = small j log none l in
           let here : get_or a (start + j) 0 ≡ get_or a start 0 =
-              let place : start + j ≡ start = omega arith in ap (λ (y : ℕ). get_or a y 0) place in
+          let place : start + j ≡ start = omega arith in ap (λ (y : ℕ). get_or a y 0) place in
           let read : get_or a start 0 ≡ x = sym (is ∙ get_or_default_zero a start x low) in
           let self : x % P ≡ x = mod-eq_of_lt {n = x} {m = P} below in
           here ∙ read ∙ sym self
@@ -104,14 +104,15 @@ one_place a start log w x none low is below =
       below = λ j l.
           let first : j ≡ 0 = small j log none l in
           let here : get_or a (start + j) 0 ≡ get_or a start 0 =
-              let place : start + j ≡ start = omega arith in ap (λ (y : ℕ). get_or a y 0) place in
+          let place : start + j ≡ start = omega arith in ap (λ (y : ℕ). get_or a y 0) place in
           omega (arith, is ∙ get_or_default_zero a start x low);
     }
   where
     small : (j log : ℕ) → log ≡ 0 → j < 2 ^ log → j ≡ 0
     small j log none l = let one : 2 ^ log ≡ 1 = ap (λ (y : ℕ). 2 ^ y) none in omega arith
+
     one_term : (a : List ℕ) (start log w j x : ℕ) → log ≡ 0 → j ≡ 0 → get_or a start 0 ≡ x
-      → poly (2 ^ log) (λ i. get_or a (start + reversed log i) 0) (w ^ j) ≡ x
+        → poly (2 ^ log) (λ i. get_or a (start + reversed log i) 0) (w ^ j) ≡ x
     one_term a start log w j x none first read =
         ap (λ (y : ℕ). poly (2 ^ y) (λ i. get_or a (start + reversed y i) 0) (w ^ j)) none
         ∙ sum_to-suc 0 (λ i. get_or a (start + 0) 0 * (w ^ j) ^ i)
@@ -124,11 +125,11 @@ one_place a start log w x none low is below =
             ∙ omega arith
 
 pub whole_block_at : (old one two new : List ℕ) (start log w s m : ℕ) → 0 < log → m ≡ 2 ^ (log - 1) → HalvesAt w log → s ≡ (w * w) % P
-  → TransformsBlock old one start (log - 1) s → TransformsBlock one two (start + m) (log - 1) s
-  → ((j : ℕ) → j < m → get_or new (start + j) 0 ≡ low_of two start m w j)
-  → ((j : ℕ) → j < m → get_or new (start + m + j) 0 ≡ high_of two start m w j)
-  → ((p : ℕ) → (p < start) ⊎ (start + (m + m) ≤ p) → get_or new p 0 ≡ get_or two p 0)
-  → TransformsBlock old new start log w
+    → TransformsBlock old one start (log - 1) s → TransformsBlock one two (start + m) (log - 1) s
+    → ((j : ℕ) → j < m → get_or new (start + j) 0 ≡ low_of two start m w j)
+    → ((j : ℕ) → j < m → get_or new (start + m + j) 0 ≡ high_of two start m w j)
+    → ((p : ℕ) → (p < start) ⊎ (start + (m + m) ≤ p) → get_or new p 0 ≡ get_or two p 0)
+    → TransformsBlock old new start log w
 whole_block_at old one two new start log w s m pos size halves square first second low high others =
     let up : suc (log - 1) ≡ log = omega arith in
     let half : (w ^ m) % P ≡ P - 1 = ap (λ (y : ℕ). (w ^ y) % P) size ∙ halves pos in
@@ -148,8 +149,8 @@ half_fits log pos =
 
 -- with all places: the reversal undoes that of the coefficients
 pub all_values : (old turned new : List ℕ) (log w : ℕ) → length old ≡ 2 ^ log → length new ≡ length old
-  → ((p : ℕ) → p < 2 ^ log → get_or turned p 0 ≡ get_or old (reversed log p) 0)
-  → TransformsBlock turned new 0 log w → HasValues w old new
+    → ((p : ℕ) → p < 2 ^ log → get_or turned p 0 ≡ get_or old (reversed log p) 0)
+    → TransformsBlock turned new 0 log w → HasValues w old new
 all_values old turned new log w size same turn block =
     record {
       same_length = same;
@@ -159,7 +160,7 @@ all_values old turned new log w size same turn block =
           let point : w ^ j % P ≡ w ^ j % P % P = sym (mod-mod (w ^ j) P) in
           ap (λ (y : ℕ). get_or new y 0) (sym zero_first) ∙ block.inside j (omega arith)
           ∙ ap (λ (y : ℕ). y % P)
-            (poly_same (2 ^ log) (λ i. get_or turned (0 + reversed log i) 0) (λ i. get_or old i 0) (w ^ j) (λ i h. coefficient i h))
+          (poly_same (2 ^ log) (λ i. get_or turned (0 + reversed log i) 0) (λ i. get_or old i 0) (w ^ j) (λ i h. coefficient i h))
           ∙ ap (λ (y : ℕ). poly y (λ i. get_or old i 0) (w ^ j) % P) (sym size)
           ∙ poly_point P n (λ i. get_or old i 0) (w ^ j) (w ^ j % P) point;
     }
@@ -172,12 +173,12 @@ all_values old turned new log w size same turn block =
         ∙ ap (λ (y : ℕ). get_or old y 0) (reversed_twice log i h)
 
 pub all_below : (old turned new : List ℕ) (log w : ℕ) → length old ≡ 2 ^ log
-  → ((p : ℕ) → p < 2 ^ log → get_or turned p 0 ≡ get_or old (reversed log p) 0)
-  → TransformsBlock turned new 0 log w → (k : ℕ) → k < length old → get_or old k 0 < P
+    → ((p : ℕ) → p < 2 ^ log → get_or turned p 0 ≡ get_or old (reversed log p) 0)
+    → TransformsBlock turned new 0 log w → (k : ℕ) → k < length old → get_or old k 0 < P
 all_below old turned new log w size turn block k low =
     let below : reversed log k < 2 ^ log = reversed_below log k in
     let place : 0 + reversed log k ≡ reversed log k = omega arith in
     let here : get_or turned (0 + reversed log k) 0 ≡ get_or old k 0 =
-        ap (λ (y : ℕ). get_or turned y 0) place ∙ turn (reversed log k) below
-        ∙ ap (λ (y : ℕ). get_or old y 0) (reversed_twice log k (omega arith)) in
+    ap (λ (y : ℕ). get_or turned y 0) place ∙ turn (reversed log k) below
+    ∙ ap (λ (y : ℕ). get_or old y 0) (reversed_twice log k (omega arith)) in
     omega (arith, block.below (reversed log k) below)

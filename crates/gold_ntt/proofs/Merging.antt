@@ -40,10 +40,10 @@ second_set : (a : List ℕ) (i j x y : ℕ) → j < length a → get_or (set (se
 second_set a i j x y l = let long : j < length (set a i x) = omega (arith, length-set a i x) in get_or-set_same (set a i x) j y 0 long
 
 pub one_merged : (old new : List ℕ) (start half root j twiddle e o odd x y : ℕ)
-  → j < half → start + (half + half) ≤ length new → IsMerged old new start half root j → twiddle ≡ root ^ j % P
-  → e ≡ get_or new (start + j) e → o ≡ get_or new (start + half + j) o
-  → odd ≡ (twiddle * o) % P → x ≡ (e + odd) % P → y ≡ (e + (P - odd)) % P
-  → IsMerged old (set (set new (start + j) x) (start + half + j) y) start half root (j + 1)
+    → j < half → start + (half + half) ≤ length new → IsMerged old new start half root j → twiddle ≡ root ^ j % P
+    → e ≡ get_or new (start + j) e → o ≡ get_or new (start + half + j) o
+    → odd ≡ (twiddle * o) % P → x ≡ (e + odd) % P → y ≡ (e + (P - odd)) % P
+    → IsMerged old (set (set new (start + j) x) (start + half + j) y) start half root (j + 1)
 one_merged old new start half root j twiddle e o odd x y low fits merged power read_e read_o product sum difference =
     let first : e ≡ get_or new (start + j) 0 = read_e ∙ get_or_default_zero new (start + j) e (omega arith) in
     let second : o ≡ get_or new (start + half + j) 0 = read_o ∙ get_or_default_zero new (start + half + j) o (omega arith) in
@@ -51,11 +51,11 @@ one_merged old new start half root j twiddle e o odd x y low fits merged power r
     let is_high : get_or new (start + half + j) 0 ≡ get_or old (start + half + j) 0 = merged.high_left j (omega arith) low in
     let b : ℕ = get_or old (start + half + j) 0 in
     let is_odd : odd ≡ root ^ j * b % P =
-        product ∙ ap (λ (z : ℕ). (twiddle * z) % P) (second ∙ is_high) ∙ ap (λ (z : ℕ). (z * b) % P) power ∙ mul-mod_first (root ^ j) b P in
+    product ∙ ap (λ (z : ℕ). (twiddle * z) % P) (second ∙ is_high) ∙ ap (λ (z : ℕ). (z * b) % P) power ∙ mul-mod_first (root ^ j) b P in
     let is_x : x ≡ low_of old start half root j =
-        sum ∙ ap (λ (z : ℕ). (z + odd) % P) (first ∙ is_low) ∙ ap (λ (z : ℕ). (get_or old (start + j) 0 + z) % P) is_odd in
+    sum ∙ ap (λ (z : ℕ). (z + odd) % P) (first ∙ is_low) ∙ ap (λ (z : ℕ). (get_or old (start + j) 0 + z) % P) is_odd in
     let is_y : y ≡ high_of old start half root j =
-        difference ∙ ap (λ (z : ℕ). (z + (P - odd)) % P) (first ∙ is_low) ∙ ap (λ (z : ℕ). (get_or old (start + j) 0 + (P - z)) % P) is_odd in
+    difference ∙ ap (λ (z : ℕ). (z + (P - odd)) % P) (first ∙ is_low) ∙ ap (λ (z : ℕ). (get_or old (start + j) 0 + (P - z)) % P) is_odd in
     record {
       low = λ k h.
           elim (cases_lt k j) [

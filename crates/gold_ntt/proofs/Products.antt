@@ -50,7 +50,7 @@ product_term : (a b : List ℕ) (x k : ℕ) → product a b k * x ^ k ≡ sum_to
 product_term a b x k =
     mul_comm (product a b k) (x ^ k) ∙ sym (sum-scale (k + 1) (x ^ k) (λ i. get_or a i 0 * get_or b (k - i) 0))
     ∙ sum_same (k + 1) (λ i. x ^ k * (get_or a i 0 * get_or b (k - i) 0)) (λ i. get_or a i 0 * x ^ i * (get_or b (k - i) 0 * x ^ (k - i)))
-      (λ i l. term (get_or a i 0) (get_or b (k - i) 0) x i k (omega arith))
+    (λ i l. term (get_or a i 0) (get_or b (k - i) 0) x i k (omega arith))
   where
     term : (c d x i k : ℕ) → i ≤ k → x ^ k * (c * d) ≡ c * x ^ i * (d * x ^ (k - i))
     term c d x i k l =
@@ -78,6 +78,7 @@ product_value a b n x short fits =
         let none : 0 * x ^ i ≡ 0 = omega arith in
         let still : v * 0 ≡ 0 = omega arith in
         ap (λ (y : ℕ). v * (y * x ^ i)) (get_or_past a i 0 h) ∙ ap (λ (y : ℕ). v * y) none ∙ still
+
     row : (i : ℕ) → sum_to (n - i) (λ j. get_or a i 0 * x ^ i * (get_or b j 0 * x ^ j)) ≡ poly (length b) (λ i. get_or b i 0) x * (get_or a i 0 * x ^ i)
     row i =
         let c : ℕ = get_or a i 0 * x ^ i in
@@ -113,9 +114,9 @@ zero_value : (a b c : List ℕ) (x : ℕ) → (length a ≤ 0) ⊎ (length b ≤
 zero_value a b c x none is =
     reduced a b c x is
     ∙ ap (λ (y : ℕ). y % P)
-      (sum_past 0 (length c) (λ k. product a b k * x ^ k) (omega arith)
-       (λ k h. ap (λ (y : ℕ). y * x ^ k) (zero_coefficient a b k none) ∙ omega arith)
-       ∙ sum_to-zero (λ k. product a b k * x ^ k))
+    (sum_past 0 (length c) (λ k. product a b k * x ^ k) (omega arith)
+    (λ k h. ap (λ (y : ℕ). y * x ^ k) (zero_coefficient a b k none) ∙ omega arith)
+    ∙ sum_to-zero (λ k. product a b k * x ^ k))
 
 pub value_of_product : (a b c : List ℕ) (x : ℕ) → IsProduct a b c → eval_at c x ≡ eval_at a x * eval_at b x % P
 value_of_product a b c x is =
@@ -125,13 +126,13 @@ value_of_product a b c x is =
           zero_value a b c x (inl none) is
           ∙ sym (ap (λ (y : ℕ). (y * eval_at b x) % P) (empty_value a x none) ∙ ap (λ (y : ℕ). y % P) gone)
       | inl some_a ↦ elim (cases_lt 0 (length b)) [
-          | inr none ↦
-              let gone : eval_at a x * 0 ≡ 0 = omega arith in
-              zero_value a b c x (inr none) is
-              ∙ sym (ap (λ (y : ℕ). (eval_at a x * y) % P) (empty_value b x none) ∙ ap (λ (y : ℕ). y % P) gone)
-          | inl some_b ↦
-              let fits : length a + length b ≤ length c + 1 = is.fits some_a some_b in
-              reduced a b c x is ∙ ap (λ (y : ℕ). y % P) (product_value a b (length c) x (omega arith) fits)
-              ∙ sym (product_of_rests P (poly (length a) (λ i. get_or a i 0) x) (poly (length b) (λ i. get_or b i 0) x))
-        ]
+        | inr none ↦
+            let gone : eval_at a x * 0 ≡ 0 = omega arith in
+            zero_value a b c x (inr none) is
+            ∙ sym (ap (λ (y : ℕ). (eval_at a x * y) % P) (empty_value b x none) ∙ ap (λ (y : ℕ). y % P) gone)
+        | inl some_b ↦
+            let fits : length a + length b ≤ length c + 1 = is.fits some_a some_b in
+            reduced a b c x is ∙ ap (λ (y : ℕ). y % P) (product_value a b (length c) x (omega arith) fits)
+            ∙ sym (product_of_rests P (poly (length a) (λ i. get_or a i 0) x) (poly (length b) (λ i. get_or b i 0) x))
+      ]
     ]

@@ -14,8 +14,8 @@ reversed_below (suc k) b =
           omega (arith, reversed_below k (b / 2))
       | inr high ↦
           let one : b % 2 * 2 ^ k ≡ 2 ^ k =
-              let is : b % 2 ≡ 1 = let low : b % 2 < 2 = mod-lt b (lit< tt) in omega arith in
-              ap (λ (y : ℕ). y * 2 ^ k) is ∙ omega arith in
+          let is : b % 2 ≡ 1 = let low : b % 2 < 2 = mod-lt b (lit< tt) in omega arith in
+          ap (λ (y : ℕ). y * 2 ^ k) is ∙ omega arith in
           omega (arith, reversed_below k (b / 2))
     ]
 
@@ -48,7 +48,7 @@ top (suc k) h r two low =
     let small : r / 2 < 2 ^ k = omega arith in
     let first : n % 2 * 2 ^ suc k ≡ r % 2 * t + r % 2 * t = ap (λ (y : ℕ). y * 2 ^ suc k) rest ∙ ap (λ (y : ℕ). r % 2 * y) double ∙ omega arith in
     let second : reversed (suc k) (n / 2) ≡ 2 * reversed k (r / 2) + h =
-        ap (λ (y : ℕ). reversed (suc k) y) half ∙ top k h (r / 2) two small in
+    ap (λ (y : ℕ). reversed (suc k) y) half ∙ top k h (r / 2) two small in
     omega (arith, first, second)
 
 pub reversed_twice : (k b : ℕ) → b < 2 ^ k → reversed k (reversed k b) ≡ b
@@ -69,12 +69,12 @@ next_low k b j is low =
           let half : (b + 1) / 2 ≡ b / 2 = omega arith in
           let none : b % 2 * 2 ^ k ≡ 0 = ap (λ (y : ℕ). y * 2 ^ k) even ∙ omega arith in
           let more : reversed (suc k) (b + 1) ≡ 1 * 2 ^ k + reversed k (b / 2) =
-              ap (λ (y : ℕ). y * 2 ^ k + reversed k ((b + 1) / 2)) rest ∙ ap (λ (y : ℕ). 1 * 2 ^ k + reversed k y) half in
+          ap (λ (y : ℕ). y * 2 ^ k + reversed k ((b + 1) / 2)) rest ∙ ap (λ (y : ℕ). 1 * 2 ^ k + reversed k y) half in
           omega arith
       | inr odd ↦
           let one : b % 2 * 2 ^ k ≡ 2 ^ k =
-              let is_one : b % 2 ≡ 1 = let two : b % 2 < 2 = mod-lt b (lit< tt) in omega arith in
-              ap (λ (y : ℕ). y * 2 ^ k) is_one ∙ omega arith in
+          let is_one : b % 2 ≡ 1 = let two : b % 2 < 2 = mod-lt b (lit< tt) in omega arith in
+          ap (λ (y : ℕ). y * 2 ^ k) is_one ∙ omega arith in
           absurd (omega arith)
     ]
 
@@ -87,12 +87,12 @@ next_high k b j r is high next =
           absurd (omega arith)
       | inr odd ↦
           let one : b % 2 * 2 ^ k ≡ 2 ^ k =
-              let is_one : b % 2 ≡ 1 = let two : b % 2 < 2 = mod-lt b (lit< tt) in omega arith in
-              ap (λ (y : ℕ). y * 2 ^ k) is_one ∙ omega arith in
+          let is_one : b % 2 ≡ 1 = let two : b % 2 < 2 = mod-lt b (lit< tt) in omega arith in
+          ap (λ (y : ℕ). y * 2 ^ k) is_one ∙ omega arith in
           let rest : (b + 1) % 2 ≡ 0 = omega arith in
           let half : (b + 1) / 2 ≡ b / 2 + 1 = omega arith in
           let more : reversed (suc k) (b + 1) ≡ 0 * 2 ^ k + reversed k (b / 2 + 1) =
-              ap (λ (y : ℕ). y * 2 ^ k + reversed k ((b + 1) / 2)) rest ∙ ap (λ (y : ℕ). 0 * 2 ^ k + reversed k y) half in
+          ap (λ (y : ℕ). y * 2 ^ k + reversed k ((b + 1) / 2)) rest ∙ ap (λ (y : ℕ). 0 * 2 ^ k + reversed k y) half in
           let low : j - 2 ^ k ≡ reversed k (b / 2) = omega arith in
           omega (arith, next (b / 2) low)
     ]

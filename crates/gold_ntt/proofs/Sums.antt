@@ -69,8 +69,8 @@ sum_one (suc n) q f k l h =
       | inr high ↦
           let is : k ≡ n = omega arith in
           let none : sum_to n f % q ≡ 0 =
-              sum_mod q n f (λ i. 0) (λ i m. let ne : i ≢ k = omega arith in h i (omega arith) ne ∙ sym (zero-mod q))
-              ∙ ap (λ (y : ℕ). y % q) (sum-zero n) ∙ zero-mod q in
+          sum_mod q n f (λ i. 0) (λ i m. let ne : i ≢ k = omega arith in h i (omega arith) ne ∙ sym (zero-mod q))
+          ∙ ap (λ (y : ℕ). y % q) (sum-zero n) ∙ zero-mod q in
           plus_zero (sum_to n f) (f n) q none ∙ ap (λ (y : ℕ). f y % q) (sym is)
     ]
 
@@ -107,10 +107,10 @@ sum_triangle zero h = refl
 sum_triangle (suc n) h =
     let one_more : n + 1 ≡ suc n = omega arith in
     let rows : sum_to (suc n) (λ i. sum_to (suc n - i) (λ j. h i j)) ≡ sum_to (suc n) (λ i. sum_to (n - i) (λ j. h i j) + h i (n - i)) =
-        sum_same (suc n) (λ i. sum_to (suc n - i) (λ j. h i j)) (λ i. sum_to (n - i) (λ j. h i j) + h i (n - i))
-        (λ i l. let next : suc n - i ≡ suc (n - i) = omega arith in ap (λ (y : ℕ). sum_to y (λ j. h i j)) next) in
+    sum_same (suc n) (λ i. sum_to (suc n - i) (λ j. h i j)) (λ i. sum_to (n - i) (λ j. h i j) + h i (n - i))
+    (λ i l. let next : suc n - i ≡ suc (n - i) = omega arith in ap (λ (y : ℕ). sum_to y (λ j. h i j)) next) in
     let none : sum_to (n - n) (λ j. h n j) ≡ 0 = let is : n - n ≡ 0 = omega arith in ap (λ (y : ℕ). sum_to y (λ j. h n j)) is in
     let split : sum_to (suc n) (λ i. sum_to (n - i) (λ j. h i j) + h i (n - i)) ≡ sum_to (suc n) (λ i. sum_to (n - i) (λ j. h i j)) + sum_to (suc n) (λ i. h i (n - i)) =
-        sum-add (suc n) (λ i. sum_to (n - i) (λ j. h i j)) (λ i. h i (n - i)) in
+    sum-add (suc n) (λ i. sum_to (n - i) (λ j. h i j)) (λ i. h i (n - i)) in
     let last : sum_to (n + 1) (λ i. h i (n - i)) ≡ sum_to (suc n) (λ i. h i (n - i)) = ap (λ (y : ℕ). sum_to y (λ i. h i (n - i))) one_more in
     omega (arith, sum_triangle n h, rows, none, split, last)

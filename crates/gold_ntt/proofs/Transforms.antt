@@ -74,28 +74,28 @@ halves_cancel s k is =
 
 -- what the inverse transform computes, at place k
 scaled_value : (old mid new : List ℕ) (n v s k : ℕ) → n ≡ length old → k < length old → HasValues v old mid
-  → get_or new k 0 ≡ get_or mid k 0 * s % P → get_or new k 0 ≡ (poly n (λ i. get_or old i 0) (v ^ k) * s) % P
+    → get_or new k 0 ≡ get_or mid k 0 * s % P → get_or new k 0 ≡ (poly n (λ i. get_or old i 0) (v ^ k) * s) % P
 scaled_value old mid new n v s k size low values is =
     let point : v ^ k % P % P ≡ v ^ k % P = mod-mod (v ^ k) P in
     is ∙ ap (λ (y : ℕ). (y * s) % P) (values.value k low)
     ∙ mul-mod_first (poly (length old) (λ i. get_or old i 0) (v ^ k % P)) s P
     ∙ same_times P s (poly (length old) (λ i. get_or old i 0) (v ^ k % P)) (poly (length old) (λ i. get_or old i 0) (v ^ k))
-      (poly_point P (length old) (λ i. get_or old i 0) (v ^ k % P) (v ^ k) point)
+    (poly_point P (length old) (λ i. get_or old i 0) (v ^ k % P) (v ^ k) point)
     ∙ ap (λ (y : ℕ). (poly y (λ i. get_or old i 0) (v ^ k) * s) % P) (sym size)
 
 pub inverse_undone : (old mid new : List ℕ) (e v s : ℕ) → e ≤ 32 → length old ≡ 2 ^ e → length new ≡ length old
-  → (root_of e * v) % P ≡ 1 → (s * 2 ^ e) % P ≡ 1 → HasValues v old mid
-  → ((k : ℕ) → k < length old → get_or old k 0 < P)
-  → ((k : ℕ) → k < length old → get_or new k 0 ≡ get_or mid k 0 * s % P)
-  → IsTransform e new old
+    → (root_of e * v) % P ≡ 1 → (s * 2 ^ e) % P ≡ 1 → HasValues v old mid
+    → ((k : ℕ) → k < length old → get_or old k 0 < P)
+    → ((k : ℕ) → k < length old → get_or new k 0 ≡ get_or mid k 0 * s % P)
+    → IsTransform e new old
 inverse_undone old mid new e v s l size same unit scale values below is =
     let n : ℕ = 2 ^ e in
     let a : ℕ → ℕ = λ i. get_or old i 0 in
     let b : ℕ → ℕ = λ i. get_or new i 0 in
     let coefs : (k : ℕ) → k < n → b k % P ≡ (poly n a (v ^ k) * s) % P =
-        λ k h.
-            ap (λ (y : ℕ). y % P) (scaled_value old mid new n v s k (sym size) (omega arith) values (is k (omega arith)))
-            ∙ mod-mod (poly n a (v ^ k) * s) P in
+    λ k h.
+    ap (λ (y : ℕ). y % P) (scaled_value old mid new n v s k (sym size) (omega arith) values (is k (omega arith)))
+    ∙ mod-mod (poly n a (v ^ k) * s) P in
     record {
       same_length = sym same;
       value = λ j h.
@@ -109,9 +109,9 @@ inverse_undone old mid new e v s l size same unit scale values below is =
     }
 
 pub inverse_undoes : (old mid new : List ℕ) (e v s : ℕ) → e ≤ 32 → length old ≡ 2 ^ e → (root_of e * v) % P ≡ 1
-  → (s * 2 ^ e) % P ≡ 1 → HasValues v old mid
-  → ((k : ℕ) → k < length old → get_or new k 0 ≡ get_or mid k 0 * s % P)
-  → (d : List ℕ) → IsTransform e d old → (k : ℕ) → k < length d → get_or new k 0 ≡ get_or d k 0 % P
+    → (s * 2 ^ e) % P ≡ 1 → HasValues v old mid
+    → ((k : ℕ) → k < length old → get_or new k 0 ≡ get_or mid k 0 * s % P)
+    → (d : List ℕ) → IsTransform e d old → (k : ℕ) → k < length d → get_or new k 0 ≡ get_or d k 0 % P
 inverse_undoes old mid new e v s l size unit scale values is d transform k low =
     let n : ℕ = 2 ^ e in
     let w : ℕ = root_of e in
@@ -120,17 +120,17 @@ inverse_undoes old mid new e v s l size unit scale values is d transform k low =
     let same : length old ≡ length d = transform.same_length in
     let whole : length d ≡ n = sym same ∙ size in
     let values_of : (j : ℕ) → j < n → a j % P ≡ poly n c (w ^ j) % P =
-        λ j h.
-            let point : w ^ j % P % P ≡ w ^ j % P = mod-mod (w ^ j) P in
-            ap (λ (y : ℕ). y % P) (transform.value j (omega arith)) ∙ mod-mod (poly (length d) c (w ^ j % P)) P
-            ∙ poly_point P (length d) c (w ^ j % P) (w ^ j) point ∙ ap (λ (y : ℕ). poly y c (w ^ j) % P) whole in
+    λ j h.
+    let point : w ^ j % P % P ≡ w ^ j % P = mod-mod (w ^ j) P in
+    ap (λ (y : ℕ). y % P) (transform.value j (omega arith)) ∙ mod-mod (poly (length d) c (w ^ j % P)) P
+    ∙ poly_point P (length d) c (w ^ j % P) (w ^ j) point ∙ ap (λ (y : ℕ). poly y c (w ^ j) % P) whole in
     scaled_value old mid new n v s k (sym size) (omega arith) values (is k (omega arith))
     ∙ recovered n w v s (is_root e v l unit) scale a c values_of k (omega arith)
 
 -- the coefficients times powers of g have at x the values at g * x
 pub coset_values : (old scaled new : List ℕ) (e g : ℕ) → length scaled ≡ length old
-  → ((k : ℕ) → k < length old → get_or scaled k 0 ≡ get_or old k 0 * g ^ k % P)
-  → IsTransform e scaled new → (j : ℕ) → j < length old → get_or new j 0 ≡ eval_at old (g * root_of e ^ j % P)
+    → ((k : ℕ) → k < length old → get_or scaled k 0 ≡ get_or old k 0 * g ^ k % P)
+    → IsTransform e scaled new → (j : ℕ) → j < length old → get_or new j 0 ≡ eval_at old (g * root_of e ^ j % P)
 coset_values old scaled new e g same is transform j low =
     let w : ℕ = root_of e in
     let n : ℕ = length old in

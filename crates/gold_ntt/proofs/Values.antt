@@ -39,10 +39,10 @@ pub poly_pairs : (m : ℕ) (c : ℕ → ℕ) (x : ℕ) → poly (m + m) c x ≡ 
 poly_pairs m c x =
     sum_pairs m (λ i. c i * x ^ i)
     ∙ ap (λ (y : ℕ). y + sum_to m (λ i. c (suc (i + i)) * x ^ suc (i + i)))
-      (sum_same m (λ i. c (i + i) * x ^ (i + i)) (λ i. c (i + i) * (x * x) ^ i) (λ i l. ap (λ (y : ℕ). c (i + i) * y) (sym (pow_square x i))))
+    (sum_same m (λ i. c (i + i) * x ^ (i + i)) (λ i. c (i + i) * (x * x) ^ i) (λ i l. ap (λ (y : ℕ). c (i + i) * y) (sym (pow_square x i))))
     ∙ ap (λ (y : ℕ). poly m (λ i. c (i + i)) (x * x) + y)
-      (sum_same m (λ i. c (suc (i + i)) * x ^ suc (i + i)) (λ i. x * (c (suc (i + i)) * (x * x) ^ i)) (λ i l. odd_term (c (suc (i + i))) x i)
-       ∙ sum-scale m x (λ i. c (suc (i + i)) * (x * x) ^ i))
+    (sum_same m (λ i. c (suc (i + i)) * x ^ suc (i + i)) (λ i. x * (c (suc (i + i)) * (x * x) ^ i)) (λ i l. odd_term (c (suc (i + i))) x i)
+    ∙ sum-scale m x (λ i. c (suc (i + i)) * (x * x) ^ i))
   where
     odd_term : (a x i : ℕ) → a * x ^ suc (i + i) ≡ x * (a * (x * x) ^ i)
     odd_term a x i =

@@ -2,4 +2,4 @@ use Rattle.gold_ntt.proofs.Division.{division_value, division_exact, division_ze
 use Rattle.gold_ntt.proofs.laws.division.Goals as goal
 
 pub returns : goal.returns
-returns c = record { value = division_value; exact = division_exact; zero = division_zero; }
+returns c = record { value = division_value; exact = division_exact; zero = division_zero }

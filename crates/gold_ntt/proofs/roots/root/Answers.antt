@@ -10,7 +10,7 @@ pub returns : goal.returns
 returns c =
     let none : 32 - c.loop-i.i ≡ 0 = omega arith in
     let is : c.loop-i.root ≡ root_of c.args.e =
-        sym (ap (λ (y : ℕ). squared P y c.loop-i.root) none) ∙ c.loop-i.invariant in
+    sym (ap (λ (y : ℕ). squared P y c.loop-i.root) none) ∙ c.loop-i.invariant in
     let e : ℕ = c.args.e in
     let O : ℕ → Type 0 = λ r. (k : ℕ) → 0 < k → k < 2 ^ e → r ^ k % P ≢ 1 in
     record {
