@@ -1,10 +1,10 @@
 -- One level of the transform: from the values of the even and the odd coefficients to the values of all.
-use Rattle.std.proofs.Common.{◌≡◌, ◌≢◌, ℕ, zero, suc, ◌+◌, ◌-◌, ◌*◌, ◌%◌, ◌^◌, ◌<◌, ◌≤◌, refl, sym, ◌∙◌, ap, arith, mod-eq_of_lt, mul_assoc, mul_comm}
+use Rattle.std.proofs.Common.{◌≡◌, ℕ, zero, suc, ◌+◌, ◌-◌, ◌*◌, ◌%◌, ◌^◌, ◌<◌, refl, sym, ◌∙◌, ap, arith, mod-eq_of_lt, mul_assoc}
 use Rattle.std.proofs.Math.Nat.{mod-mod, mul-mod_right, mul-add-mod_self_right}
-use Rattle.std.proofs.lemmas.Nat.{pow-mod, mul-mod, mul-mod_first, mul-mod_second, mul-pow, pow-add}
-use Rattle.gold_field.proofs.FieldLaws.{sum_cancel, opposite, sum_of_rests}
+use Rattle.std.proofs.lemmas.Nat.{pow-mod, mul-mod, mul-mod_first, mul-pow, pow-add}
+use Rattle.gold_field.proofs.FieldLaws.{sum_cancel, opposite}
 use Rattle.gold_ntt.specs.Polynomial.{poly}
-use Rattle.gold_ntt.proofs.Values.{poly_point, poly_pairs, plus_same, times_same, same_times, pow_same}
+use Rattle.gold_ntt.proofs.Values.{poly_point, poly_pairs, plus_same, times_same, same_times}
 
 square_lem : (q m : ℕ) → q ≡ m + 2 → (q - 1) * (q - 1) ≡ m * q + 1
 square_lem q m e = let less : q - 1 ≡ m + 1 = omega arith in rw (less, e) (omega arith)

@@ -1,7 +1,7 @@
 -- Sums of powers of roots of unity, and division by X ^ n - 1.
-use Rattle.std.proofs.Common.{◌≡◌, ◌≢◌, ℕ, zero, suc, ◌+◌, ◌-◌, ◌*◌, ◌/◌, ◌%◌, ◌^◌, ◌<◌, ◌≤◌, ◌⊎◌, ◌↔◌, inl, inr, refl, sym, ◌∙◌, ap, arith, lit<, mod-eq_of_lt, mod-lt, div-add-mod', List, length, get_or, cond, ◌==◌, eq-eqb}
-use Rattle.std.proofs.Math.Nat.{mod-mod, zero-mod, pow-zero}
-use Rattle.std.proofs.lemmas.Nat.{mul-mod, mul-mod_first, mul-mod_second, pow-mod, pow-add, pow_pos}
+use Rattle.std.proofs.Common.{◌≡◌, ◌≢◌, ℕ, zero, suc, ◌+◌, ◌-◌, ◌*◌, ◌/◌, ◌%◌, ◌^◌, ◌<◌, ◌≤◌, inl, inr, refl, sym, ◌∙◌, ap, arith, lit<, mod-eq_of_lt, mod-lt, div-add-mod', List, length, get_or, cond, ◌==◌, eq-eqb}
+use Rattle.std.proofs.Math.Nat.{mod-mod, pow-zero}
+use Rattle.std.proofs.lemmas.Nat.{mul-mod_first, mul-mod_second, pow-mod, pow-add, pow_pos}
 use Rattle.std.proofs.lemmas.Bool.{cases_lt, cases_eq, lt-ltb, le-ltb, ne_eqb}
 use Rattle.std.proofs.lemmas.List.{get_or_past}
 use Rattle.gold_field.specs.declared.gold.TheConstants.{P}
@@ -16,7 +16,7 @@ use Rattle.gold_ntt.proofs.Interpolation.{equal_values}
 use Rattle.gold_ntt.proofs.Products.{poly_past, poly-add}
 use Rattle.gold_ntt.proofs.RootLaws.{root_one, root_order}
 use Rattle.gold_ntt.proofs.Sums.{sum_to-zero, sum_to-suc, sum_same, sum_mod, sum-scale, sum-swap, sum-zero}
-use Rattle.gold_ntt.proofs.Values.{poly_point, poly_coefs, plus_same, pow_same, same_times, times_same}
+use Rattle.gold_ntt.proofs.Values.{poly_point, poly_coefs, plus_same, times_same}
 
 -- a power of a root depends on the exponent modulo the order
 root_rest : (e k : ℕ) → e ≤ 32 → (root_of e ^ k) % P ≡ (root_of e ^ (k % 2 ^ e)) % P

@@ -1,11 +1,10 @@
 -- Polynomials with equal values at all roots are equal, and so the product that the transforms compute.
-use Rattle.std.proofs.Common.{◌≡◌, ◌≢◌, ℕ, zero, suc, ◌+◌, ◌-◌, ◌*◌, ◌%◌, ◌^◌, ◌<◌, ◌≤◌, refl, sym, ◌∙◌, ap, arith, lit<, List, length, get_or, take}
+use Rattle.std.proofs.Common.{◌≡◌, ℕ, ◌+◌, ◌-◌, ◌*◌, ◌%◌, ◌^◌, ◌<◌, ◌≤◌, refl, sym, ◌∙◌, ap, arith, List, length, get_or, take}
 use Rattle.std.proofs.Math.Nat.{mod-mod}
-use Rattle.std.proofs.lemmas.Nat.{mul-mod}
 use Rattle.std.proofs.lemmas.List.{get_or-take, length-take-le}
 use Rattle.gold_field.specs.declared.gold.TheConstants.{P}
 use Rattle.gold_field.proofs.FieldLaws.{product_of_rests}
-use Rattle.gold_ntt.specs.Polynomial.{poly, eval_at, product_at, IsPadded, IsProduct}
+use Rattle.gold_ntt.specs.Polynomial.{poly, product_at, IsPadded, IsProduct}
 use Rattle.gold_ntt.specs.Transform.{root_of, IsTransform}
 use Rattle.gold_ntt.proofs.Inverse.{IsRoot, recovered}
 use Rattle.gold_ntt.proofs.Products.{product, product_value, poly_past}

@@ -1,14 +1,14 @@
 -- Values of sums, multiples and products of polynomials.
-use Rattle.std.proofs.Common.{◌≡◌, ◌≢◌, ℕ, zero, suc, ◌+◌, ◌-◌, ◌*◌, ◌%◌, ◌^◌, ◌<◌, ◌≤◌, ◌⊎◌, inl, inr, refl, sym, ◌∙◌, ap, arith, lit<, List, [], length, get_or, mul_assoc, mul_comm}
-use Rattle.std.proofs.Math.Nat.{mod-mod, zero-mod}
-use Rattle.std.proofs.lemmas.Nat.{mul-mod, mul-mod_first, mul-mod_second, pow-add}
+use Rattle.std.proofs.Common.{◌≡◌, ℕ, ◌+◌, ◌-◌, ◌*◌, ◌%◌, ◌^◌, ◌≤◌, ◌⊎◌, inl, inr, sym, ◌∙◌, ap, arith, List, length, get_or, mul_comm}
+use Rattle.std.proofs.Math.Nat.{mod-mod}
+use Rattle.std.proofs.lemmas.Nat.{mul-mod_second, pow-add}
 use Rattle.std.proofs.lemmas.List.{get_or_past}
 use Rattle.std.proofs.lemmas.Bool.{cases_lt}
 use Rattle.gold_field.specs.declared.gold.TheConstants.{P}
 use Rattle.gold_field.proofs.FieldLaws.{sum_of_rests, product_of_rests}
-use Rattle.gold_ntt.specs.Polynomial.{sum_to, poly, eval_at, product_at, IsSum, IsMultiple, IsProduct}
+use Rattle.gold_ntt.specs.Polynomial.{sum_to, poly, eval_at, IsSum, IsMultiple, IsProduct}
 use Rattle.gold_ntt.proofs.Sums.{sum_to-zero, sum_same, sum_past, sum-add, sum-scale, sum_triangle}
-use Rattle.gold_ntt.proofs.Values.{poly_coefs, poly-scale, times_same, plus_same}
+use Rattle.gold_ntt.proofs.Values.{poly_coefs, poly-scale}
 
 -- further coefficients are 0
 pub poly_past : (a : List ℕ) (n x : ℕ) → length a ≤ n → poly n (λ i. get_or a i 0) x ≡ poly (length a) (λ i. get_or a i 0) x

@@ -1,16 +1,16 @@
 -- The public transforms: roots of the right order, inverses and cosets.
-use Rattle.std.proofs.Common.{◌≡◌, ◌≢◌, ℕ, zero, suc, ◌+◌, ◌-◌, ◌*◌, ◌%◌, ◌^◌, ◌<◌, ◌≤◌, ◌⊎◌, inl, inr, refl, sym, ◌∙◌, ap, subst, arith, lit<, mod-eq_of_lt, List, length, get_or, mul_assoc}
+use Rattle.std.proofs.Common.{◌≡◌, ◌≢◌, ℕ, zero, suc, ◌+◌, ◌-◌, ◌*◌, ◌%◌, ◌^◌, ◌<◌, ◌≤◌, inl, inr, refl, sym, ◌∙◌, ap, arith, lit<, mod-eq_of_lt, List, length, get_or, mul_assoc}
 use Rattle.std.proofs.Math.Nat.{mod-mod, pow-succ', two-pow-succ}
 use Rattle.std.proofs.lemmas.Nat.{mul-mod_first, mul-mod_second, mul-pow, pow_below, pow_pos}
 use Rattle.std.proofs.lemmas.Bool.{cases_lt}
 use Rattle.gold_field.specs.declared.gold.TheConstants.{P}
 use Rattle.gold_field.proofs.FieldLaws.{product_cancel}
 use Rattle.gold_ntt.specs.Polynomial.{poly, eval_at}
-use Rattle.gold_ntt.specs.Transform.{root_of, HasValues, IsTransform, IsCosetTransform, HalvesAt}
+use Rattle.gold_ntt.specs.Transform.{root_of, HasValues, IsTransform, HalvesAt}
 use Rattle.gold_ntt.proofs.Inverse.{IsRoot, both, undone, recovered}
 use Rattle.gold_ntt.proofs.RootLaws.{root_one, root_half, root_order}
 use Rattle.gold_ntt.proofs.Sums.{sum_same}
-use Rattle.gold_ntt.proofs.Values.{poly_point, poly_coefs, same_times, times_same, pow_same}
+use Rattle.gold_ntt.proofs.Values.{poly_point, poly_coefs, same_times}
 
 -- the exponent of a power of two
 pub log_is : (n r e : ℕ) → 2 ^ r ≤ n → n < 2 * 2 ^ r → n ≡ 2 ^ e → r ≡ e

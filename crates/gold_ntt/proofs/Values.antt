@@ -1,11 +1,11 @@
 -- Values of polynomials modulo q.
-use Rattle.std.proofs.Common.{◌≡◌, ◌≢◌, ℕ, zero, suc, ◌+◌, ◌-◌, ◌*◌, ◌%◌, ◌^◌, ◌<◌, ◌≤◌, refl, sym, ◌∙◌, ap, arith, pow-suc, mul_assoc}
-use Rattle.std.proofs.Math.Nat.{mod-mod, pow-succ'}
-use Rattle.std.proofs.lemmas.Nat.{pow-mod, mul-mod, mul-mod_first, mul-mod_second, mul-pow, pow-add}
+use Rattle.std.proofs.Common.{◌≡◌, ℕ, suc, ◌+◌, ◌*◌, ◌%◌, ◌^◌, ◌<◌, sym, ◌∙◌, ap, arith, mul_assoc}
+use Rattle.std.proofs.Math.Nat.{pow-succ'}
+use Rattle.std.proofs.lemmas.Nat.{pow-mod, mul-mod_first, mul-mod_second}
 use Rattle.gold_field.proofs.Period.{pow_square}
 use Rattle.gold_field.proofs.FieldLaws.{sum_of_rests}
 use Rattle.gold_ntt.specs.Polynomial.{sum_to, poly}
-use Rattle.gold_ntt.proofs.Sums.{sum_same, sum_mod, sum-scale, sum-add, sum_pairs}
+use Rattle.gold_ntt.proofs.Sums.{sum_same, sum_mod, sum-scale, sum_pairs}
 
 pub pow_same : (q x y n : ℕ) → x % q ≡ y % q → (x ^ n) % q ≡ (y ^ n) % q
 pow_same q x y n e = sym (pow-mod x n q) ∙ ap (λ (z : ℕ). (z ^ n) % q) e ∙ pow-mod y n q

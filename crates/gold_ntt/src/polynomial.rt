@@ -23,9 +23,11 @@ pub fn eval(coefs: &[Gold], x: Gold) -> Gold
 /// The product, by transforms. It has no coefficients where a factor has none.
 pub fn mul(alloc: Global, a: &[Gold], b: &[Gold]) -> Result<Vec<Gold>, AllocError>
     requires { length a.now + length b.now ≤ 2 ^ 20 }
-    ensures places { IfOk result (λ c. length c.items ≡ (if length a.now == 0 || length b.now == 0 then 0 else length a.now + length b.now - 1)) }
+    ensures places { IfOk result (λ c. length c.items
+        ≡ (if length a.now == 0 || length b.now == 0 then 0 else length a.now + length b.now - 1)) }
     ensures product { IfOk result (λ c. IsProduct a.now b.now c.items) }
-    ensures values { IfOk result (λ c. (x : ℕ) → eval_at c.items x ≡ eval_at a.now x * eval_at b.now x % P) }
+    ensures values { IfOk result (λ c. (x : ℕ)
+        → eval_at c.items x ≡ eval_at a.now x * eval_at b.now x % P) }
 {
     if a.is_empty() || b.is_empty() {
         return Ok(Vec::new(alloc));
@@ -76,7 +78,9 @@ fn padded(alloc: Global, coefs: &[Gold], size: usize) -> Result<Vec<Gold>, Alloc
 fn convolve(a: &mut [Gold], b: &mut [Gold])
     requires length { IsLength (length a.old) }
     requires same { length b.old ≡ length a.old }
-    ensures { (c d : List ℕ) → IsPadded c a.old → IsPadded d b.old → 0 < length c → 0 < length d → length c + length d ≤ length a.old + 1 → (k : ℕ) → k < length a.old → slice_index a.new k ≡ product_at c d k }
+    ensures { (c d : List ℕ) → IsPadded c a.old → IsPadded d b.old
+        → 0 < length c → 0 < length d → length c + length d ≤ length a.old + 1
+        → (k : ℕ) → k < length a.old → slice_index a.new k ≡ product_at c d k }
 {
     ntt(a);
     ntt(b);
@@ -87,7 +91,8 @@ fn convolve(a: &mut [Gold], b: &mut [Gold])
 /// Place by place.
 fn multiply(a: &mut [Gold], b: &[Gold])
     requires { length b.now ≡ length a.old }
-    ensures { (k : ℕ) → k < length a.old → slice_index a.new k ≡ slice_index a.old k * slice_index b.now k % P }
+    ensures { (k : ℕ) → k < length a.old
+        → slice_index a.new k ≡ slice_index a.old k * slice_index b.now k % P }
 {
     for k in 0..a.len() {
         a[k] = a[k].mul(b[k]);

@@ -6,12 +6,18 @@ ghost use Rattle.gold_ntt.specs.Transform.{IsLength, HasValues, IsTransform, IsC
 use crate::roots::root;
 use gold_field::Gold;
 
+/// (p + 1) / 2
+const INVERSE_OF_TWO: u128 = 9223372034707292161;
+
 /// Two neighbouring transforms of `half` places each, of the even and of the odd coefficients, become one.
 fn merge(a: &mut [Gold], start: usize, half: usize, root: Gold)
     requires { start + (half + half) ≤ length a.old }
-    ensures low { (j : ℕ) → j < half → slice_index a.new (start + j) ≡ (slice_index a.old (start + j) + root ^ j * slice_index a.old (start + half + j) % P) % P }
-    ensures high { (j : ℕ) → j < half → slice_index a.new (start + half + j) ≡ (slice_index a.old (start + j) + (P - root ^ j * slice_index a.old (start + half + j) % P)) % P }
-    ensures others { (p : ℕ) → (p < start) ⊎ (start + (half + half) ≤ p) → slice_index a.new p ≡ slice_index a.old p }
+    ensures low { (j : ℕ) → j < half → slice_index a.new (start + j)
+        ≡ (slice_index a.old (start + j) + root ^ j * slice_index a.old (start + half + j) % P) % P }
+    ensures high { (j : ℕ) → j < half → slice_index a.new (start + half + j)
+        ≡ (slice_index a.old (start + j) + (P - root ^ j * slice_index a.old (start + half + j) % P)) % P }
+    ensures others { (p : ℕ) → (p < start) ⊎ (start + (half + half) ≤ p)
+        → slice_index a.new p ≡ slice_index a.old p }
 {
     let middle = start + half;
     let mut twiddle = Gold::ONE;
@@ -101,7 +107,8 @@ fn scale(a: &mut [Gold], factor: Gold)
 
 /// Number `k` times `factor ^ k`.
 fn scale_by_powers(a: &mut [Gold], factor: Gold)
-    ensures { (k : ℕ) → k < length a.old → slice_index a.new k ≡ slice_index a.old k * factor ^ k % P }
+    ensures { (k : ℕ) → k < length a.old
+        → slice_index a.new k ≡ slice_index a.old k * factor ^ k % P }
 {
     let mut power = Gold::ONE;
     for x in a.iter_mut() {
@@ -133,12 +140,13 @@ pub fn intt(a: &mut [Gold])
     // `ntt` of the answer gives the values back.
     ensures undone { (e : ℕ) → length a.old ≡ 2 ^ e → IsTransform e a.new a.old }
     // Of what `ntt` gave, the answer is the coefficients.
-    ensures undoes { (e : ℕ) → length a.old ≡ 2 ^ e → (b : List ℕ) → IsTransform e b a.old → (k : ℕ) → k < length b → slice_index a.new k ≡ slice_index b k % P }
+    ensures undoes { (e : ℕ) → length a.old ≡ 2 ^ e → (b : List ℕ) → IsTransform e b a.old
+        → (k : ℕ) → k < length b → slice_index a.new k ≡ slice_index b k % P }
 {
     let log = log_of(a.len());
     let last = a.len() as u64 - 1;
     transform_at(a, log, root(log).pow(last));
-    let half = Gold::from_wide(9223372034707292161);
+    let half = Gold::from_wide(INVERSE_OF_TWO);
     scale(a, half.pow(log as u64));
 }
 

@@ -1,4 +1,4 @@
-use Rattle.std.proofs.Common.{◌≡◌, ℕ, ◌^◌, ◌∙◌, sym, length, arith}
+use Rattle.std.proofs.Common.{◌≡◌, ℕ, ◌^◌, length, arith}
 use Rattle.gold_ntt.specs.Transform.{IsTransform}
 use Rattle.gold_ntt.proofs.Interpolation.{convolved}
 use Rattle.gold_ntt.proofs.polynomial.convolve.Goals as goal

@@ -1,4 +1,4 @@
-use Rattle.std.proofs.Common.{◌≡◌, ℕ, ◌%◌, ◌^◌, get_or}
+use Rattle.std.proofs.Common.{◌≡◌, ◌%◌, ◌^◌, get_or}
 use Rattle.gold_field.specs.declared.gold.TheConstants.{P}
 use Rattle.gold_ntt.specs.Polynomial.{poly}
 use Rattle.gold_ntt.proofs.polynomial.eval.Given as goal

@@ -1,4 +1,4 @@
-use Rattle.std.proofs.Common.{rules, ◌≡◌, ℕ, arith}
+use Rattle.std.proofs.Common.{rules}
 use Rattle.gold_ntt.specs.Polynomial.{IsProduct}
 use Rattle.gold_ntt.proofs.Products.{value_of_product}
 use Rattle.gold_ntt.proofs.polynomial.mul.Goals as goal

@@ -1,6 +1,6 @@
-use Rattle.std.proofs.Common.{◌≡◌, ℕ, ◌*◌, ◌%◌, ◌^◌, ◌<◌, ◌-◌, ◌∙◌, sym, ap, subst, arith, length}
+use Rattle.std.proofs.Common.{◌≡◌, ℕ, ◌*◌, ◌%◌, ◌^◌, ◌∙◌, sym, subst, arith, length}
 use Rattle.gold_field.specs.declared.gold.TheConstants.{P}
-use Rattle.gold_ntt.specs.Transform.{HasValues, HalvesAt, IsTransform, root_of}
+use Rattle.gold_ntt.specs.Transform.{IsTransform, root_of}
 use Rattle.gold_ntt.proofs.Transforms.{same_log, root_halves, inverse_halves, inverse_undone, inverse_undoes, unit_of, scale_of}
 use Rattle.gold_ntt.proofs.transform.intt.Goals as goal
 

@@ -1,4 +1,4 @@
-use Rattle.std.proofs.Common.{◌≡◌, ◌^◌, ◌∙◌, sym, ap, subst, arith}
+use Rattle.std.proofs.Common.{◌≡◌, ◌∙◌, sym, ap, subst, arith}
 use Rattle.gold_ntt.specs.Transform.{HasValues, HalvesAt, root_of}
 use Rattle.gold_ntt.proofs.Transforms.{same_log, root_halves}
 use Rattle.gold_ntt.proofs.transform.ntt.Goals as goal

@@ -1,8 +1,8 @@
-use Rattle.std.proofs.Common.{◌≡◌, ◌+◌, ◌^◌, ◌<◌, sym, ◌∙◌, ap, subst, arith}
+use Rattle.std.proofs.Common.{◌≡◌, ◌+◌, ◌^◌, ◌<◌, sym, arith}
 use Rattle.std.proofs.lemmas.Nat.{pow_pos}
 use Rattle.gold_ntt.specs.Reversal.{reversed}
 use Rattle.gold_ntt.proofs.ReversalLaws.{reversed-zero, reversed_below}
-use Rattle.gold_ntt.proofs.Reversing.{IsReversed, none_moved, one_stays, one_moves}
+use Rattle.gold_ntt.proofs.Reversing.{none_moved, one_stays, one_moves}
 use Rattle.gold_ntt.proofs.transform.reverse.Goals as goal
 use Rattle.gold_ntt.proofs.transform.reverse.Goals.{then-i-j, else-i-j}
 
