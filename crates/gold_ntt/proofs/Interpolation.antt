@@ -4,7 +4,7 @@ use Rattle.std.proofs.Math.Nat.{mod-mod}
 use Rattle.std.proofs.lemmas.List.{get_or-take, length-take-le}
 use Rattle.gold_field.specs.declared.gold.TheConstants.{P}
 use Rattle.gold_field.proofs.FieldLaws.{product_of_rests}
-use Rattle.gold_ntt.specs.Polynomial.{poly, product_at, IsPadded, IsProduct}
+use Rattle.gold_ntt.specs.Polynomial.{poly, eval_at, product_at, IsPadded, IsProduct}
 use Rattle.gold_ntt.specs.Transform.{root_of, IsTransform}
 use Rattle.gold_ntt.proofs.Inverse.{IsRoot, recovered}
 use Rattle.gold_ntt.proofs.Products.{product, product_value, poly_past}
@@ -40,6 +40,9 @@ padded_value c a n x pad size =
     let fits : length c ≤ length a = pad.fits in
     sum_same n (λ i. get_or a i 0 * x ^ i) (λ i. get_or c i 0 * x ^ i) (λ i l. ap (λ (y : ℕ). y * x ^ i) (pad.coefficient i))
     ∙ poly_past c n x (omega arith)
+
+pub value_of_padded : (a c : List ℕ) (x : ℕ) → IsPadded a c → eval_at c x ≡ eval_at a x
+value_of_padded a c x pad = ap (λ (y : ℕ). y % P) (padded_value a c (length c) x pad refl)
 
 pub convolved : (e : ℕ) → e ≤ 32 → (a b at_a at_b product_values new c d : List ℕ) → length a ≡ 2 ^ e → length b ≡ 2 ^ e
     → IsTransform e a at_a → IsTransform e b at_b

@@ -6,6 +6,7 @@ pub mod Inverse
 pub mod Level
 pub mod Merging
 pub mod Products
+pub mod Quotient
 pub mod ReversalLaws
 pub mod Reversing
 pub mod RootLaws

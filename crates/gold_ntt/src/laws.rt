@@ -3,7 +3,7 @@
 
 ghost use Rattle.std.specs.Prelude.{◌≡◌, ◌≢◌, ℕ, ◌+◌, ◌*◌, ◌%◌, ◌^◌, ◌<◌, ◌≤◌, ◌==◌, if◌then◌else◌, List, length, slice_index};
 ghost use Rattle.gold_field.specs.declared.gold.TheConstants.{P};
-ghost use Rattle.gold_ntt.specs.Polynomial.{sum_to, eval_at, IsSum, IsMultiple, IsProduct, IsDivision};
+ghost use Rattle.gold_ntt.specs.Polynomial.{sum_to, eval_at, IsSum, IsMultiple, IsProduct, IsPadded, IsDivision};
 ghost use Rattle.gold_ntt.specs.Transform.{root_of, IsTransform};
 
 /// The powers of a root of unity sum to 0, but those of 1, which sum to their number.
@@ -14,7 +14,7 @@ pub fn powers_of_roots()
         → sum_to (2 ^ e) (λ j. (root_of e ^ k) ^ j) % P ≡ 2 ^ e % P }
 {}
 
-/// Values of a sum, a multiple and a product.
+/// Values of a sum, a multiple, a product, and of the same polynomial with zeros behind.
 pub fn values()
     ensures sum { (a b c : List ℕ) (x : ℕ) → IsSum a b c
         → eval_at c x ≡ (eval_at a x + eval_at b x) % P }
@@ -22,6 +22,7 @@ pub fn values()
         → eval_at c x ≡ s * eval_at a x % P }
     ensures product { (a b c : List ℕ) (x : ℕ) → IsProduct a b c
         → eval_at c x ≡ eval_at a x * eval_at b x % P }
+    ensures padded { (a c : List ℕ) (x : ℕ) → IsPadded a c → eval_at c x ≡ eval_at a x }
 {}
 
 /// The values at the roots determine the coefficients.
@@ -38,9 +39,11 @@ pub fn sum_of_values()
         ≡ 2 ^ e * sum_to (length a) (λ k. if k % 2 ^ e == 0 then slice_index a k else 0) % P }
 {}
 
-/// Division by `X ^ n - 1`: its values, and that it leaves no remainder exactly where the values at the roots of
-/// order `n` are 0.
+/// Division by `X ^ n - 1`: there is one, its values, and that it leaves no remainder exactly where the values at the
+/// roots of order `n` are 0.
 pub fn division()
+    ensures exists { (n : ℕ) (f : List ℕ) → 0 < n
+        → (q : List ℕ) × ((r : List ℕ) × IsDivision n f q r) }
     ensures value { (n : ℕ) (f q r : List ℕ) (x : ℕ) → IsDivision n f q r
         → (eval_at f x + eval_at q x) % P ≡ (x ^ n * eval_at q x + eval_at r x) % P }
     ensures exact { (e : ℕ) (f q r : List ℕ) → e ≤ 32 → IsDivision (2 ^ e) f q r
