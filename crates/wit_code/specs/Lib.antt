@@ -1,0 +1,4 @@
+pub mod Code
+pub mod Frames
+pub mod Seen
+pub mod Table

@@ -1,0 +1,15 @@
+//! The witness machine: a register machine over the field that computes what a statement of a circuit
+//! writes, from what it reads and a budget of units.
+#![tactic(auto)]
+
+mod code;
+mod frames;
+pub mod laws;
+mod machine;
+#[cfg(test)]
+mod tests;
+mod well_formed;
+
+pub use code::{Op, Proc, Stands, Step, Stop};
+pub use machine::Machine;
+pub use well_formed::is_well_formed;
