@@ -1,0 +1,79 @@
+use cir_lexer::{LexCause, Text};
+
+/// Where a refusal stands. Lines and columns count from 1, and a column counts bytes.
+#[derive(Debug, Drop)]
+pub struct Place {
+    pub file: Text,
+    pub line: u32,
+    pub column: u32,
+    /// The path of the instance, or `-` before any is made.
+    pub path: Text,
+}
+
+/// Why a source is refused, and where.
+#[derive(Debug, Drop)]
+pub struct Refusal {
+    pub kind: Kind,
+    pub place: Place,
+}
+
+/// The 22 kinds of refusal of a source, E1 to E22.
+#[derive(Debug, Clone, Copy, PartialEq, Eq)]
+pub enum Kind {
+    Lexical { cause: LexCause },
+    Syntax,
+    Include,
+    Duplicate,
+    Main,
+    UnknownName,
+    Arity,
+    WrongKind,
+    UnknownControl,
+    UnknownIndex,
+    NonQuadratic,
+    ReadBeforeWrite,
+    SecondWrite,
+    NeverWritten,
+    InputsMissing,
+    OutOfBounds,
+    ZeroDivisor,
+    AssertFalse,
+    Limit { which: Which, count: u64 },
+    TooDeep,
+    NotInProfile { form: Form },
+    ShapeDiffers,
+}
+
+/// A form that isn't in the language's profile.
+#[derive(Debug, Clone, Copy, PartialEq, Eq)]
+pub enum Form {
+    Version,
+    CustomTemplate,
+    Bus,
+    Tag,
+    NoReturn,
+    MixedComponents,
+    LiteralPlace,
+    DeclarationPlace,
+    LogPlace,
+    RunArray,
+    RunDimension,
+    /// In the profile, and not built yet.
+    Unbuilt,
+}
+
+/// What a limit counts.
+#[derive(Debug, Clone, Copy, PartialEq, Eq)]
+pub enum Which {
+    Source,
+    Files,
+    Signals,
+    Constraints,
+    Terms,
+    Elements,
+    Cells,
+    Steps,
+    Nodes,
+    Reads,
+    Statements,
+}

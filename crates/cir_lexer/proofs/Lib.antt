@@ -1,0 +1,6 @@
+pub mod Reach
+pub mod Spelled
+pub mod Runs
+pub mod Taking
+pub mod Tokens
+pub mod Whole
