@@ -4,3 +4,4 @@ pub mod Runs
 pub mod Taking
 pub mod Tokens
 pub mod Whole
+pub mod Unique

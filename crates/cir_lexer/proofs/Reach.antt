@@ -8,7 +8,7 @@ use Rattle.std.proofs.lemmas.Bool.{cond-true, cond-false, false≢true, leb-true
 use Rattle.std.proofs.lemmas.Bool.Decides.{Decides-eqb}
 use Rattle.std.proofs.lemmas.Slice.Eq.{starts_is, bytes_eq-Decides}
 use Rattle.std.proofs.lemmas.List.Sums.{prefix_len-le-length}
-use Rattle.cir_lexer.specs.Bytes.{is_mark, is_letter, is_name_byte, digit_value}
+use Rattle.cir_lexer.specs.Bytes.{is_mark, digit_value}
 use Rattle.std.proofs.lemmas.List.{drop_more, take_rest}
 use Rattle.std.specs.Option.{option_map}
 use Rattle.cir_lexer.specs.Lengths.{identifier_len, lettered_len, longer, IsLongestSymbol, begins_close, close_at}
@@ -47,12 +47,6 @@ identifier_by_marks [] = refl
 identifier_by_marks (c ∷ cs) = by_test (is_mark c)
     (λ e. rw (e, drop_one (prefix_len is_mark cs) c cs, identifier_by_marks cs) (longer_behind (prefix_len is_mark cs) (lettered_len (drop (prefix_len is_mark cs) cs))))
     (λ e. rw e (sym (behind_none (lettered_len (c ∷ cs)))))
-
-pub lettered_within : (text : List ℕ) → lettered_len text ≤ length text
-lettered_within [] = omega arith
-lettered_within (c ∷ cs) = by_test (is_letter c)
-    (λ e. rw e (omega (arith, prefix_within is_name_byte cs)))
-    (λ e. rw e (omega arith))
 
 -- where a symbol stands in the table
 abbrev place_of : Symbol → ℕ
@@ -355,14 +349,6 @@ close_more text at l e =
     ap (λ xs. option_map (λ n. at + n) (close_at xs)) cut
     ∙ ap (option_map (λ n. at + n)) (close_step (get_or text at 0) (drop (at + 1) text) (ap begins_close (sym cut) ∙ e))
     ∙ shifted at (close_at (drop (at + 1) text))
-
-pub close_here : (text : List ℕ) (at : ℕ) → at < length text → begins_close (drop at text) ≡ true
-    → option_map (λ n. at + n) (close_at (drop at text)) ≡ Some at
-close_here text at l e =
-    let cut : drop at text ≡ get_or text at 0 ∷ drop (at + 1) text = drop_more text at 0 l in
-    let found : close_at (drop at text) ≡ Some 0 = ap close_at cut ∙ cond-true _ _ _ (ap begins_close (sym cut) ∙ e) in
-    let z : at + 0 ≡ at = omega arith in
-    ap (option_map (λ n. at + n)) found ∙ ap Some z
 
 -- what is left of a text, as a slice of it
 pub rest_of : (n : ℕ) (text : List ℕ) → take (length text - n) (drop n text) ≡ drop n text

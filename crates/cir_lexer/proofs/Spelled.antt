@@ -23,7 +23,7 @@ use Rattle.cir_lexer.specs.declared.token.Reserved.TheVariants.{Pragma, Include,
 abbrev pub first_class : List ℕ → Class
 first_class text = class_of (get_or text 0 0)
 
-symbol_first : (symbol : Symbol) → (first_class (symbol_bytes symbol) ≡ Other) × (0 < length (symbol_bytes symbol))
+pub symbol_first : (symbol : Symbol) → (first_class (symbol_bytes symbol) ≡ Other) × (0 < length (symbol_bytes symbol))
 unfolding is_blank is_letter is_mark is_digit
 symbol_first ConstrainLeft = (refl, omega arith)
 symbol_first ConstrainRight = (refl, omega arith)
@@ -79,7 +79,7 @@ symbol_first CloseBracket = (refl, omega arith)
 symbol_first OpenBrace = (refl, omega arith)
 symbol_first CloseBrace = (refl, omega arith)
 
-reserved_first : (word : Reserved) → (first_class (reserved_bytes word) ≡ Letter) × (is_identifier (reserved_bytes word) ≡ true)
+pub reserved_first : (word : Reserved) → (first_class (reserved_bytes word) ≡ Letter) × (is_identifier (reserved_bytes word) ≡ true)
 unfolding is_blank is_letter is_mark is_digit
 reserved_first Pragma = (refl, refl)
 reserved_first Include = (refl, refl)
@@ -132,9 +132,6 @@ identifier_first (c ∷ cs) e = by_test (is_mark c)
 digits_first : (bytes : List ℕ) → bytes ≢ [] → list_all is_digit bytes ≡ true → (first_class bytes ≡ Digit) × (0 < length bytes)
 digits_first [] n e = absurd (n refl)
 digits_first (c ∷ cs) n e = (digit_class c (and_both _ _ e).0, omega arith)
-
-reserved_some : (word : Reserved) → 0 < length (reserved_bytes word)
-reserved_some word = (identifier_first (reserved_bytes word) (reserved_first word).1).1
 
 -- a spelling has bytes, and its first one is of its token's class
 pub spelled_first : (bytes : List ℕ) (kind : TokenKind) → IsSpelling bytes kind → FitsClass kind (first_class bytes) × (0 < length bytes)

@@ -19,7 +19,6 @@ use Rattle.cir_lexer.proofs.Reach.{by_test, and_both}
 use Rattle.cir_lexer.proofs.Spelled.{first_class, no_comment, spelled_first, front_class, other_front}
 use Rattle.cir_lexer.proofs.Runs.{identifier_within, identifier_taken, word_longest, mark_none, string_longest, quotable_from, quotable_ends, prefix_passes, decimal_longest, hexadecimal_longest}
 use Rattle.cir_lexer.proofs.Taking.{takes_token, takes_gap, cut_marks, mark_piece}
-use Rattle.cir_lexer.specs.declared.class.Class.{Class}
 use Rattle.cir_lexer.specs.declared.class.Class.TheVariants.{Letter, Mark, Digit, Quote, Other}
 use Rattle.cir_lexer.specs.declared.token.Token.{Token}
 use Rattle.cir_lexer.specs.declared.token.TokenKind.{TokenKind}
@@ -27,9 +26,6 @@ use Rattle.cir_lexer.specs.declared.token.TokenKind.TheVariants.{Number, Str, Sy
 use Rattle.cir_lexer.specs.declared.token.Symbol.{Symbol}
 use Rattle.cir_lexer.specs.declared.token.LexCause.TheVariants.{BadChar, OpenString, NumberTooWide}
 use Rattle.cir_lexer.specs.declared.class.Class.TheVariants.{Blank as BlankClass}
-
-apart : (a b : Class) → a ≡ b → (P : Class → Type 0) → P b → P a
-apart a b e P h = subst P (sym e) h
 
 word_no_gap : (text : List ℕ) → IsWordClass (first_class text) → ¬ BeginsComment text
 word_no_gap text w = no_comment text (λ e. subst IsWordClass e w)
@@ -45,7 +41,7 @@ pub word_is : (text : List ℕ) (n : ℕ) → n ≡ identifier_len text → n �
 word_is text zero e some = absurd (some refl)
 word_is text (suc n) e some = identifier_taken text n (sym e)
 
-quote_class : class_of 34 ≡ Quote
+pub quote_class : class_of 34 ≡ Quote
 unfolding is_blank is_letter is_mark is_digit
 quote_class = refl
 
@@ -56,7 +52,7 @@ quote_is c e = grind (arith, nat_tests)
 no_quote : (c : ℕ) → class_of c ≢ Quote → c ≢ 34
 no_quote c n h = n (ap class_of h ∙ quote_class)
 
-no_blank : (c : ℕ) → class_of c ≢ BlankClass → is_blank c ≡ false
+pub no_blank : (c : ℕ) → class_of c ≢ BlankClass → is_blank c ≡ false
 no_blank c n = by_test (is_blank c) (λ e. absurd (n (cond-true (is_blank c) _ _ e))) (λ e. e)
 
 is_mark_run : (c : ℕ) (cs : List ℕ) → c ≡ 95 → prefix_len (λ c. c == 95) (c ∷ cs) ≢ 0

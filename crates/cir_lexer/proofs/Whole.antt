@@ -1,11 +1,9 @@
 -- The lexer's loop, as a cut of the whole text.
-use Rattle.std.proofs.Common.{◌≡◌, ℕ, ◌+◌, ◌≤◌, List, [], ◌∷◌, ◌++◌, length, drop, refl, sym, ap, subst, ◌∙◌, arith, Ok, Err}
-use Rattle.std.proofs.lemmas.List.{length-append, length-drop, drop-drop, drop_all}
-use Rattle.cir_lexer.specs.Reading.{IsReading, IsFault, Piece, Gap, Spelled, Begins, IsCut, tokens_of}
+use Rattle.std.proofs.Common.{◌≡◌, ℕ, ◌+◌, ◌≤◌, List, [], ◌∷◌, ◌++◌, length, drop, sym, ap, subst, ◌∙◌, arith}
+use Rattle.std.proofs.lemmas.List.{length-append, length-drop, drop-drop}
+use Rattle.cir_lexer.specs.Reading.{Piece, Gap, Spelled, Begins, IsCut, tokens_of}
 use Rattle.cir_lexer.specs.Steps.{Takes}
 use Rattle.cir_lexer.specs.declared.token.Token.{Token}
-use Rattle.cir_lexer.specs.declared.token.LexCause.{LexCause}
-use Rattle.cir_lexer.specs.declared.token.LexFault.TheVariants.{At}
 
 abbrev size_of : Piece → ℕ
 size_of (Gap n) = n
@@ -43,9 +41,6 @@ pub record Progress (text : List ℕ) (at : ℕ) (tokens : List Token) : Type 0 
   pub cut : IsCut text pieces (drop at text)
   pub made : tokens ≡ tokens_of 0 pieces
 
-pub none_yet : (text : List ℕ) → Progress text 0 []
-none_yet text = record { pieces = []; within = omega arith; cut = refl; made = refl }
-
 sized : (text : List ℕ) (at : ℕ) (tokens : List Token) (p : Progress text at tokens) → size p.pieces ≡ at
 sized text at tokens p = let w : at ≤ length text = p.within in omega (arith, cut_size text p.pieces (drop at text) p.cut, length-drop at text)
 
@@ -61,11 +56,3 @@ one_more text at old new n p t =
           ∙ ap (λ k. tokens_of 0 p.pieces ++ tokens_of k t.pieces) (sym (sized text at old p) ∙ omega arith)
           ∙ sym (tokens_append 0 p.pieces t.pieces);
     }
-
-pub all_read : (text : List ℕ) (at : ℕ) (tokens : List Token) → length text ≤ at → Progress text at tokens → IsReading text (Ok tokens)
-all_read text at tokens l p = (p.pieces, subst (λ r. IsCut text p.pieces r) (drop_all at text l) p.cut, p.made)
-
-pub at_fault : (text : List ℕ) (at : ℕ) (tokens : List Token) (cause : LexCause) (offset : ℕ) → Progress text at tokens
-    → (n : ℕ) × IsFault (drop at text) cause n × (offset ≡ at + n) → IsReading text (Err (At cause offset))
-at_fault text at tokens cause offset p f = let w : at ≤ length text = p.within in
-    (p.pieces, drop at text, f.0, p.cut, f.1, omega (arith, f.2, length-drop at text))

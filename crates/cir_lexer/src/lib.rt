@@ -7,8 +7,10 @@ mod scan;
 mod spelling;
 mod token;
 
-ghost use Rattle.std.specs.Prelude.{◌≡◌, ◌^◌, ◌≤◌, length};
-ghost use Rattle.cir_lexer.specs.Reading.{Reads};
+ghost use Rattle.std.specs.Prelude.{◌≡◌, ◌^◌, ◌≤◌, ℕ, List, Result, length};
+ghost use Rattle.cir_lexer.specs.Reading.{Reads, IsReading};
+ghost use Rattle.cir_lexer.specs.declared.token.Token.{Token as TheToken};
+ghost use Rattle.cir_lexer.specs.declared.token.LexFault.{LexFault as TheFault};
 
 pub use spelling::{RESERVED_WORDS, SYMBOLS};
 use std::alloc::Global;
@@ -27,6 +29,11 @@ pub fn lex(alloc: Global, bytes: &[u8]) -> Result<Vec<Token>, LexFault>
     }
     Ok(tokens)
 }
+
+/// Bytes have one reading: no two lists of tokens, no two faults, and not both tokens and a fault.
+pub fn one_reading()
+    ensures { (bytes : List ℕ) (a b : Result (List TheToken) TheFault) → IsReading bytes a → IsReading bytes b → a ≡ b }
+{}
 
 #[cfg(test)]
 mod tests {
