@@ -22,11 +22,13 @@ abbrev pub accepted : {X : Type 0} → List ℕ → Result X Fault → Result X 
 accepted name (Ok x) = Ok x
 accepted name (Err fault) = Err (BadFile name fault.cause fault.offset)
 
+-- the file of constraints under the name
 unfoldable pub r1cs_in : Contents → List ℕ → Result File Refusal
 r1cs_in files name = do
   bytes ← bytes_in files name
   accepted name (r1cs_of bytes)
 
+-- the values under the name
 unfoldable pub wtns_in : Contents → List ℕ → Result (List ℕ) Refusal
 wtns_in files name = do
   bytes ← bytes_in files name

@@ -12,6 +12,7 @@ use items::Items;
 use out_io::Store;
 use std::alloc::Global;
 
+// The bytes under the name.
 fn bytes_in<S: Store>(alloc: Global, store: &mut S, name: &str) -> Result<Vec<u8>, Stop>
     ensures step { Steps (λ v. v.items) (S.contents store.old) (λ files. bytes_in files name.now)
         (Rose (S.faults store.old) (S.faults store.new)) result }

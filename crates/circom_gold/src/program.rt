@@ -25,6 +25,8 @@ const FAULT: u8 = 3;
 /// - 2: the values don't satisfy the constraints
 /// - 3: a call to the store or the sink failed
 /// - 64: the words have no reading
+///
+/// The error is want of memory.
 pub fn run<S: Store, K: Sink>(
     alloc: Global,
     words: &[String],

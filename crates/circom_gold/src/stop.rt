@@ -4,7 +4,7 @@ ghost use Rattle.circom_gold.specs.declared.stop.Stop.TheVariants.{OutOfMemory};
 
 use crate::answer::Refusal;
 use out_io::IoFault;
-use std::alloc::{AllocError, AllocFailed};
+use std::alloc::AllocError;
 
 /// Why a command ends before its last step.
 #[derive(Debug, Drop)]
