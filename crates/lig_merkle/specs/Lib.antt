@@ -1,2 +1,3 @@
+pub mod Hashing
 pub mod Merkle
 pub mod Nodes

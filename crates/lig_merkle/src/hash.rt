@@ -1,7 +1,8 @@
 //! The hashes of leaves and nodes.
 
 ghost use Rattle.std.specs.Prelude.{◌≡◌};
-ghost use Rattle.lig_merkle.specs.Merkle.{leaf_hash, node_hash, root_of};
+ghost use Rattle.lig_merkle.specs.Merkle.{leaf_hash, node_hash, root_of, column_bytes};
+ghost use Rattle.lig_merkle.specs.Hashing.{Absorbs};
 
 use gold_field::Gold;
 use sha2::{Digest, Sha256};
@@ -21,10 +22,17 @@ pub fn leaf(column: &[Gold]) -> Hash
 {
     let mut hasher = Sha256::new();
     hasher.update([LEAF]);
-    for value in column {
+    absorb(&mut hasher, column);
+    hasher.finalize()
+}
+
+/// Adds values to the message of a hasher, as 8 bytes each, low byte first. It takes no memory.
+pub fn absorb(hasher: &mut Sha256, values: &[Gold])
+    ensures { Absorbs (column_bytes values.now) hasher.old hasher.new }
+{
+    for value in values {
         hasher.update(value.get().to_le_bytes());
     }
-    hasher.finalize()
 }
 
 // The hash of a node: of a byte 1, and the hashes of its two children.

@@ -10,7 +10,7 @@ mod hash;
 mod laws;
 mod tree;
 
-pub use hash::{Hash, leaf, root_of};
+pub use hash::{Hash, absorb, leaf, root_of};
 pub use laws::path_leads_to_root;
 pub use tree::Tree;
 
