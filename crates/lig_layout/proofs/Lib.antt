@@ -1,0 +1,6 @@
+pub mod Widths
+pub mod Sums
+pub mod Wired
+pub mod Forms
+pub mod Products
+pub mod Solving

@@ -1,0 +1,7 @@
+pub mod Width
+pub mod Sizes
+pub mod Sides
+pub mod Layout
+pub mod System
+pub mod Laws
+pub mod Adding
