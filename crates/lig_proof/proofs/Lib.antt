@@ -1,0 +1,4 @@
+pub mod Draws
+pub mod Loops
+pub mod Takes
+pub mod Whole

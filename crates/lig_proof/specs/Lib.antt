@@ -1,0 +1,4 @@
+pub mod ProofBytes
+pub mod Reading
+pub mod Transcript
+pub mod Drawing

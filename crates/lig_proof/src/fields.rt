@@ -1,0 +1,75 @@
+//! The fields of a proof.
+
+ghost use Rattle.std.specs.Prelude.{◌≡◌};
+ghost use Rattle.binary_format.specs.Reading.{repeated};
+ghost use Rattle.lig_proof.specs.Reading.{Reads, value_at, hash_at};
+
+use crate::fault::ProofFault;
+use binary_format::Reader;
+use gold_field::Gold;
+use lig_merkle::Hash;
+use std::alloc::Global;
+
+/// The next number of the field.
+#[tactic(auto, unfolding(crate::specs::Reading::value_at))]
+pub fn next_value(fields: &mut Reader<'_>) -> Result<Gold, ProofFault>
+    ensures read { Reads (λ v. v) fields.new.rest.now result (value_at fields.old.end fields.old.rest.now) }
+    ensures end { fields.new.end ≡ fields.old.end }
+{
+    let offset = fields.offset();
+    let Some(number) = fields.u64() else {
+        return Err(ProofFault::Malformed { offset: fields.end });
+    };
+    match Gold::new(number) {
+        Some(value) => Ok(value),
+        None => Err(ProofFault::Malformed { offset }),
+    }
+}
+
+/// The next hash.
+#[tactic(auto, unfolding(crate::specs::Reading::hash_at))]
+pub fn next_hash(fields: &mut Reader<'_>) -> Result<Hash, ProofFault>
+    ensures read { Reads (λ h. h) fields.new.rest.now result (hash_at fields.old.end fields.old.rest.now) }
+    ensures end { fields.new.end ≡ fields.old.end }
+{
+    let Some(bytes) = fields.bytes(32) else {
+        return Err(ProofFault::Malformed { offset: fields.end });
+    };
+    let mut hash = [0; 32];
+    hash.copy_from_slice(bytes);
+    Ok(hash)
+}
+
+/// The next numbers of the field.
+pub fn next_values(
+    alloc: Global,
+    fields: &mut Reader<'_>,
+    count: u32,
+) -> Result<Vec<Gold>, ProofFault>
+    ensures read { Reads (λ v. v.items) fields.new.rest.now result (repeated (value_at fields.old.end) count fields.old.rest.now) }
+    ensures end { fields.new.end ≡ fields.old.end }
+{
+    let mut values = Vec::with_capacity(alloc, (count as usize).min(fields.rest.len() / 8))?;
+    for _ in 0..count {
+        let value = next_value(fields)?;
+        values.push(value)?;
+    }
+    Ok(values)
+}
+
+/// The next hashes.
+pub fn next_hashes(
+    alloc: Global,
+    fields: &mut Reader<'_>,
+    count: u32,
+) -> Result<Vec<Hash>, ProofFault>
+    ensures read { Reads (λ v. v.items) fields.new.rest.now result (repeated (hash_at fields.old.end) count fields.old.rest.now) }
+    ensures end { fields.new.end ≡ fields.old.end }
+{
+    let mut hashes = Vec::with_capacity(alloc, (count as usize).min(fields.rest.len() / 32))?;
+    for _ in 0..count {
+        let hash = next_hash(fields)?;
+        hashes.push(hash)?;
+    }
+    Ok(hashes)
+}
