@@ -1,0 +1,30 @@
+//! Laws over the values of expressions, each the contract of a function that does nothing.
+
+ghost use Rattle.std.specs.Prelude.{◌≡◌, ◌≢◌, ℕ, Some};
+ghost use Rattle.gold_field.specs.declared.operators.Op1.{Op1};
+ghost use Rattle.gold_field.specs.declared.operators.Op2.{Op2};
+ghost use Rattle.gold_field.specs.Operators.{binary_of, unary_of};
+ghost use Rattle.cir_lc.specs.Number.{Assignment};
+ghost use Rattle.cir_meaning.specs.declared.class.Class.{Class};
+ghost use Rattle.cir_meaning.specs.Classes.{class_by, unary_class};
+ghost use Rattle.cir_meaning.specs.Values.{IsValue, Value, class_of, known_number, number_of, result_of, unary_result};
+
+/// The class of an operator's result is the table's, whatever the numbers are.
+pub fn classes_are_the_table()
+    ensures { (op : Op2) (x y v : Value) → result_of op x y ≡ Some v →
+        class_of v ≡ class_by op (class_of x) (class_of y) (known_number y) }
+{}
+
+/// The number of an operator's result is the operator's on the numbers of its operands, at each
+/// assignment; of an opaque result no number is told.
+pub fn numbers_are_the_operators()
+    ensures { (op : Op2) (x y v : Value) (s : Assignment) → IsValue x → IsValue y → result_of op x y ≡ Some v →
+        class_of v ≢ Class.Opaque → binary_of op (number_of x s) (number_of y s) ≡ Some (number_of v s) }
+{}
+
+/// The same of the operators of one operand: `-` keeps the class, and `!` and `~` are of known numbers alone.
+pub fn unary_operators()
+    ensures class { (op : Op1) (x : Value) → class_of (unary_result op x) ≡ unary_class op (class_of x) }
+    ensures number { (op : Op1) (x : Value) (s : Assignment) → IsValue x →
+        class_of (unary_result op x) ≢ Class.Opaque → unary_of op (number_of x s) ≡ number_of (unary_result op x) s }
+{}

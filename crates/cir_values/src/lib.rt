@@ -1,0 +1,16 @@
+//! Values of a circuit's expressions, shapes of arrays, and the table of a circuit's signals.
+#![tactic(auto)]
+
+mod class;
+mod names;
+mod shape;
+mod signals;
+#[cfg(test)]
+mod tests;
+mod value;
+
+pub use cir_meaning::Class;
+pub use class::class_of;
+pub use shape::{Shape, flat};
+pub use signals::{InputShape, SignalName, Signals, Text};
+pub use value::Value;
