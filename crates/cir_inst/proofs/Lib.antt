@@ -1,0 +1,4 @@
+pub mod Within
+pub mod Recording
+pub mod Leading
+pub mod Numbers

@@ -1,0 +1,4 @@
+pub mod Names
+pub mod Seen
+pub mod Source
+pub mod Meaning

@@ -1,0 +1,7 @@
+-- The meaning of a program at compile time: what it refuses, and what satisfies its constraints.
+pub mod Tried
+pub mod Value
+pub mod Scope
+pub mod Equation
+pub mod Source
+pub mod Statement

@@ -1,0 +1,34 @@
+-- The source list: the normal constraints of a program's equations.
+use Rattle.std.specs.Prelude.{◌≡◌, ℕ, List, [], ◌∷◌}
+use Rattle.gold_field.specs.declared.form.Constraint.{Constraint}
+use Rattle.gold_field.specs.Rises.{RisesFrom}
+use Rattle.cir_lc.specs.declared.quad.Quad.{Quad}
+use Rattle.cir_lc.specs.Number.{value_of}
+use Rattle.cir_lc.specs.Normal.{IsNormal, IsQuadWithin, IsConstraintWithin}
+use Rattle.cir_inst.specs.Meaning.Value.{Parts}
+use Rattle.cir_inst.specs.Meaning.Equation.{Equation}
+
+-- the numbers of a, b and c
+abbrev pub parts_from : Quad → Parts
+parts_from q = record { a = value_of q.a; b = value_of q.b; c = value_of q.c }
+
+-- a, b and c have sparse forms, and this is the normal constraint of a * b + c = 0
+pub record IsConstraintOf (n : ℕ) (e : Equation) (k : Constraint) : Type 0 where
+  pub quad : Quad
+  pub numbers : e.parts ≡ parts_from quad
+  pub rises_a : RisesFrom 0 quad.a
+  pub rises_b : RisesFrom 0 quad.b
+  pub rises_c : RisesFrom 0 quad.c
+  pub within : IsQuadWithin n quad
+  pub normal : IsNormal quad k
+  pub rises_left : RisesFrom 0 k.a
+  pub rises_right : RisesFrom 0 k.b
+  pub rises_product : RisesFrom 0 k.c
+  pub within_constraint : IsConstraintWithin n k
+
+-- constraint i stands for equation i
+abbrev pub IsSource : ℕ → List Equation → List Constraint → Type 0
+IsSource n [] [] = Unit {0}
+IsSource n [] (k ∷ ks) = ⊥
+IsSource n (e ∷ es) [] = ⊥
+IsSource n (e ∷ es) (k ∷ ks) = IsConstraintOf n e k × IsSource n es ks

@@ -1,0 +1,47 @@
+-- Equations, and the normal constraints that stand for them.
+use Rattle.std.specs.Prelude.{◌≡◌, ℕ, ◌+◌, ◌≤◌, ◌<◌, List, [], ◌∷◌, length, Result, Ok, Err}
+use Rattle.gold_field.specs.declared.form.Constraint.{Constraint}
+use Rattle.gold_field.specs.Rises.{RisesFrom}
+use Rattle.cir_lc.specs.declared.quad.Quad.{Quad}
+use Rattle.cir_lc.specs.Normal.{IsNormal, IsQuadWithin, IsConstraintWithin}
+use Rattle.cir_inst.specs.declared.record.Recorder.{Recorder}
+use Rattle.cir_inst.specs.declared.stop.Fault.{Fault}
+use Rattle.cir_ast.specs.declared.tree.Simple.TheVariants.{Signals, Assign, Constrain}
+use Rattle.cir_ast.specs.declared.program.StatementForm.{StatementForm}
+use Rattle.cir_ast.specs.declared.program.StatementForm.TheVariants.{Simple}
+use Rattle.cir_inst.specs.Meaning.Tried.{Tried}
+use Rattle.cir_inst.specs.Meaning.Scope.{Scope, next_number}
+use Rattle.cir_inst.specs.Meaning.Statement.{World}
+use Rattle.cir_inst.specs.Meaning.Value.{Parts}
+use Rattle.cir_inst.specs.Meaning.Equation.{Equation, all_terms, most_signals, most_constraints, most_terms}
+use Rattle.cir_inst.specs.Meaning.Source.{IsSource}
+use Rattle.cir_inst.specs.Seen.{IsRefusal}
+
+-- the recorder holds the source list, and counts its terms
+pub record IsRecord (es : List Equation) (r : Recorder) : Type 0 where
+  pub some : 0 < r.wires
+  pub source : IsSource r.wires es r.constraints
+  pub terms : r.terms ≡ all_terms r.wires es
+  pub few : length es ≤ most_constraints
+  pub small : all_terms r.wires es ≤ most_terms
+
+-- what is recorded is the meaning's
+abbrev pub Records : Result (Unit {0}) Fault → Recorder → Tried (List Equation) → Type 0
+Records (Ok _) r m = (es : List Equation) × (m ≡ Ok es) × IsRecord es r
+Records (Err f) r m = IsRefusal f m
+
+-- the scope is the meaning's
+abbrev pub Becomes : Result (Unit {0}) Fault → Scope → Tried Scope → Type 0
+Becomes (Ok _) s m = m ≡ Ok s
+Becomes (Err f) s m = IsRefusal f m
+
+-- scope and equations are the meaning's
+abbrev pub Leads : Result (Unit {0}) Fault → Scope → Recorder → Tried World → Type 0
+Leads (Ok _) s r m = (es : List Equation) × (m ≡ Ok record { scope = s; equations = es }) × IsRecord es r
+Leads (Err f) s r m = IsRefusal f m
+
+-- the signals that a statement creates have numbers below n
+abbrev pub IsReady : ℕ → StatementForm → Scope → Type 0
+IsReady n (Simple (Signals d)) s = length s.signals + length d.signals ≤ most_signals → next_number d.direction s + length d.signals ≤ n
+IsReady n (Simple (Assign a)) s = Unit {0}
+IsReady n (Simple (Constrain l r)) s = Unit {0}

@@ -1,0 +1,44 @@
+ghost use Rattle.std.specs.Prelude.{◌≡◌};
+ghost use Rattle.cir_inst.specs.declared.stop.Fault.TheVariants.{Refused};
+
+use cir_ast::Kind;
+use std::alloc::AllocError;
+
+/// Where a statement or an item begins: the place of its file among the program's, its line and column.
+#[derive(Clone, Copy, Debug, PartialEq, Eq)]
+pub struct Spot {
+    pub file: u32,
+    pub line: u32,
+    pub column: u32,
+}
+
+/// Why a program is refused, and where.
+#[derive(Clone, Copy, Debug, PartialEq, Eq)]
+pub struct Stop {
+    pub kind: Kind,
+    pub spot: Spot,
+}
+
+/// How a step ends that doesn't go on.
+#[derive(Debug, Drop)]
+pub enum Fault {
+    Refused(Stop),
+    OutOfMemory,
+}
+
+impl From<AllocError> for Fault {
+    ghost use Rattle.std.specs.Prelude.{◌≡◌};
+    ghost use Rattle.cir_inst.specs.declared.stop.Fault.TheVariants.{OutOfMemory};
+
+    ghost from_gives = { λ _ r. r ≡ OutOfMemory };
+
+    fn from(_error: AllocError) -> Fault {
+        Fault::OutOfMemory
+    }
+}
+
+pub fn refused(spot: Spot, kind: Kind) -> Fault
+    ensures { result ≡ Refused record { kind = kind; spot = spot } }
+{
+    Fault::Refused(Stop { kind, spot })
+}
