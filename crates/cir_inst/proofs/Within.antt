@@ -31,7 +31,7 @@ single_at : (k : ℕ) (s : Assignment) → k < P → value_of (record { signal =
 unfolding constant
 single_at k s h =
     let all : total s.at (record { signal = 0; coef = k } ∷ []) ≡ k =
-        total-cons s.at (record { signal = 0; coef = k }) [] ∙ omega (arith, total-nil s.at, ap (λ (n : ℕ). k * n) s.one) in
+    total-cons s.at (record { signal = 0; coef = k }) [] ∙ omega (arith, total-nil s.at, ap (λ (n : ℕ). k * n) s.one) in
     value-total s (record { signal = 0; coef = k } ∷ []) ∙ ap (λ (n : ℕ). n % P) all ∙ mod-eq_of_lt {n = k} {m = P} h
 
 pub single_value : (k : ℕ) (f : List Term) → k < P → f ≡ record { signal = 0; coef = k } ∷ [] → value_of f ≡ constant k
@@ -41,7 +41,7 @@ signal_at : (k : ℕ) (s : Assignment) → value_of (record { signal = k; coef =
 unfolding signal
 signal_at k s =
     let all : total s.at (record { signal = k; coef = 1 } ∷ []) ≡ s.at k =
-        total-cons s.at (record { signal = k; coef = 1 }) [] ∙ omega (arith, total-nil s.at) in
+    total-cons s.at (record { signal = k; coef = 1 }) [] ∙ omega (arith, total-nil s.at) in
     value-total s (record { signal = k; coef = 1 } ∷ []) ∙ ap (λ (n : ℕ). n % P) all ∙ mod-eq_of_lt {n = s.at k} {m = P} (s.below k)
 
 pub signal_value : (k : ℕ) (f : List Term) → f ≡ record { signal = k; coef = 1 } ∷ [] → value_of f ≡ signal k

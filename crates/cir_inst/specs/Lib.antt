@@ -1,4 +1,6 @@
 pub mod Names
 pub mod Seen
 pub mod Source
+pub mod Compiled
+pub mod Progress
 pub mod Meaning

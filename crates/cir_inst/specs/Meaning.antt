@@ -5,3 +5,5 @@ pub mod Scope
 pub mod Equation
 pub mod Source
 pub mod Statement
+pub mod Loading
+pub mod Program

@@ -1,9 +1,6 @@
 -- Equations, and the normal constraints that stand for them.
 use Rattle.std.specs.Prelude.{◌≡◌, ℕ, ◌+◌, ◌≤◌, ◌<◌, List, [], ◌∷◌, length, Result, Ok, Err}
-use Rattle.gold_field.specs.declared.form.Constraint.{Constraint}
-use Rattle.gold_field.specs.Rises.{RisesFrom}
-use Rattle.cir_lc.specs.declared.quad.Quad.{Quad}
-use Rattle.cir_lc.specs.Normal.{IsNormal, IsQuadWithin, IsConstraintWithin}
+use Rattle.std.specs.List.{AllByRecursion}
 use Rattle.cir_inst.specs.declared.record.Recorder.{Recorder}
 use Rattle.cir_inst.specs.declared.stop.Fault.{Fault}
 use Rattle.cir_ast.specs.declared.tree.Simple.TheVariants.{Signals, Assign, Constrain}
@@ -12,9 +9,11 @@ use Rattle.cir_ast.specs.declared.program.StatementForm.TheVariants.{Simple}
 use Rattle.cir_inst.specs.Meaning.Tried.{Tried}
 use Rattle.cir_inst.specs.Meaning.Scope.{Scope, next_number}
 use Rattle.cir_inst.specs.Meaning.Statement.{World}
+use Rattle.cir_inst.specs.Meaning.Program.{total}
+use Rattle.cir_inst.specs.declared.counts.Counts.{Counts}
 use Rattle.cir_inst.specs.Meaning.Value.{Parts}
 use Rattle.cir_inst.specs.Meaning.Equation.{Equation, all_terms, most_signals, most_constraints, most_terms}
-use Rattle.cir_inst.specs.Meaning.Source.{IsSource}
+use Rattle.cir_inst.specs.Meaning.Source.{IsSource, IsDifference}
 use Rattle.cir_inst.specs.Seen.{IsRefusal}
 
 -- the recorder holds the source list, and counts its terms
@@ -24,6 +23,7 @@ pub record IsRecord (es : List Equation) (r : Recorder) : Type 0 where
   pub terms : r.terms ≡ all_terms r.wires es
   pub few : length es ≤ most_constraints
   pub small : all_terms r.wires es ≤ most_terms
+  pub differences : AllByRecursion IsDifference es
 
 -- what is recorded is the meaning's
 abbrev pub Records : Result (Unit {0}) Fault → Recorder → Tried (List Equation) → Type 0
@@ -45,3 +45,13 @@ abbrev pub IsReady : ℕ → StatementForm → Scope → Type 0
 IsReady n (Simple (Signals d)) s = length s.signals + length d.signals ≤ most_signals → next_number d.direction s + length d.signals ≤ n
 IsReady n (Simple (Assign a)) s = Unit {0}
 IsReady n (Simple (Constrain l r)) s = Unit {0}
+
+-- nothing changes, or the fault is the meaning's
+abbrev pub Ends : Result (Unit {0}) Fault → World → Tried World → Type 0
+Ends (Ok _) w m = m ≡ Ok w
+Ends (Err f) w m = IsRefusal f m
+
+-- the recorder holds the source list of a template that declares C
+abbrev pub Executes : Counts → Result Recorder Fault → Tried World → Type 0
+Executes C (Ok r) m = (w : World) × (m ≡ Ok w) × IsRecord w.equations r × (r.wires ≡ 1 + total C)
+Executes C (Err f) m = IsRefusal f m

@@ -1,10 +1,21 @@
-//! What a program compiles to: the normal constraints of its main template.
+//! What a program compiles to: the normal constraints of its main component.
 #![tactic(auto)]
 
+mod check;
+mod circuit;
+mod counts;
 mod evaluate;
 mod execute;
+mod laws;
 mod names;
 mod record;
+mod run;
 mod scope;
 mod stop;
 mod value;
+
+pub use circuit::{Circuit, InstFault, instantiate};
+pub use laws::one_source_list;
+
+#[cfg(test)]
+mod tests;

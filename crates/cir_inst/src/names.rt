@@ -1,36 +1,36 @@
 ghost use Rattle.std.specs.Prelude.{◌≡◌, List, ℕ, Option, Some, None, OnOk};
 ghost use Rattle.std.specs.Map.{update};
 ghost use Rattle.std.specs.Str.{bytes_eq};
-ghost use Rattle.cir_inst.specs.Names.{place_in};
+ghost use Rattle.cir_inst.specs.Names.{value_in};
 
 use std::alloc::{AllocError, Global};
 use std::collections::BTreeMap;
 
-/// The places of names.
+/// What is known of each name.
 #[derive(Drop)]
-pub struct Names<'p> {
-    places: BTreeMap<&'p [u8], u32>,
+pub struct Names<'p, V: Copy> {
+    values: BTreeMap<&'p [u8], V>,
 }
 
-impl<'p> Names<'p> {
-    pub fn new(alloc: Global) -> Names<'p>
-        ensures { place_in result ≡ (λ _. None) }
+impl<'p, V: Copy> Names<'p, V> {
+    pub fn new(alloc: Global) -> Names<'p, V>
+        ensures { value_in result ≡ (λ _. None) }
     {
         Names {
-            places: BTreeMap::new(alloc),
+            values: BTreeMap::new(alloc),
         }
     }
 
-    pub fn place_of(&self, name: &[u8]) -> Option<u32>
-        ensures { result ≡ place_in self.now name.now }
+    pub fn get(&self, name: &[u8]) -> Option<V>
+        ensures { result ≡ value_in self.now name.now }
     {
-        self.places.get(name).copied()
+        self.values.get(name).copied()
     }
 
-    pub fn insert(&mut self, name: &'p [u8], place: u32) -> Result<(), AllocError>
-        ensures { OnOk result (place_in self.new ≡ update bytes_eq (place_in self.old) name.now (Some place)) }
+    pub fn insert(&mut self, name: &'p [u8], value: V) -> Result<(), AllocError>
+        ensures { OnOk result (value_in self.new ≡ update bytes_eq (value_in self.old) name.now (Some value)) }
     {
-        self.places.insert(name, place)?;
+        self.values.insert(name, value)?;
         Ok(())
     }
 }

@@ -3,7 +3,7 @@ ghost use Rattle.gold_field.specs.Rises.{RisesFrom};
 ghost use Rattle.cir_lc.specs.Normal.{IsQuadWithin};
 ghost use Rattle.cir_inst.specs.Meaning.Value.{parts_of};
 ghost use Rattle.cir_inst.specs.Meaning.Equation.{Equation, counted, constrained};
-ghost use Rattle.cir_inst.specs.Meaning.Source.{parts_from};
+ghost use Rattle.cir_inst.specs.Meaning.Source.{parts_from, IsDifference};
 ghost use Rattle.cir_inst.specs.Seen.{meant, meant_parts, IsValueWithin};
 ghost use Rattle.cir_inst.specs.declared.stop.Fault.TheVariants.{Refused};
 ghost use Rattle.cir_ast.specs.declared.refusal.Kind.TheVariants.{Limit};
@@ -32,7 +32,13 @@ pub struct Recorder {
 }
 
 /// One more constraint, that two values are equal.
-pub fn constrain(alloc: Global, spot: Spot, x: Value, y: Value, recorder: &mut Recorder) -> Result<(), Fault>
+pub fn constrain(
+    alloc: Global,
+    spot: Spot,
+    x: Value,
+    y: Value,
+    recorder: &mut Recorder,
+) -> Result<(), Fault>
     ensures value { (es : List Equation) → IsRecord es recorder.old → IsValueWithin recorder.old.wires x → IsValueWithin recorder.old.wires y
         → Records result recorder.new (constrained recorder.old.wires spot (meant x) (meant y) es) }
     ensures wires { recorder.new.wires ≡ recorder.old.wires }
@@ -68,7 +74,7 @@ fn quad_of(alloc: Global, v: Value) -> Result<Option<Quad>, AllocError>
 }
 
 fn append(alloc: Global, spot: Spot, q: &Quad, recorder: &mut Recorder) -> Result<(), Fault>
-    ensures value { (e : Equation) (es : List Equation) → IsRecord es recorder.old → e.parts ≡ parts_from q.now → IsQuadWithin recorder.old.wires q.now
+    ensures value { (e : Equation) (es : List Equation) → IsRecord es recorder.old → IsDifference e → e.parts ≡ parts_from q.now → IsQuadWithin recorder.old.wires q.now
         → Records result recorder.new (counted recorder.old.wires spot (es ++ e ∷ [])) }
     ensures wires { recorder.new.wires ≡ recorder.old.wires }
 {

@@ -22,7 +22,7 @@ pub struct Signal {
 /// The signals of a template, as far as they are declared and written.
 #[derive(Drop)]
 pub struct Scope<'p> {
-    pub names: Names<'p>,
+    pub names: Names<'p, u32>,
     /// In order of creation.
     pub signals: Vec<Signal>,
     pub next_output: u32,
@@ -136,7 +136,7 @@ pub fn write(spot: Spot, name: &[u8], scope: &mut Scope<'_>) -> Result<Signal, F
 fn place_of(spot: Spot, name: &[u8], scope: &Scope<'_>) -> Result<u32, Fault>
     ensures { Gives (λ k. k) result (sc.place_of spot name.now (seen scope.now)) }
 {
-    match scope.names.place_of(name) {
+    match scope.names.get(name) {
         Some(place) => Ok(place),
         None => Err(refused(spot, Kind::UnknownName)),
     }

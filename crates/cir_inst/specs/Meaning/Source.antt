@@ -1,12 +1,22 @@
 -- The source list: the normal constraints of a program's equations.
-use Rattle.std.specs.Prelude.{◌≡◌, ℕ, List, [], ◌∷◌}
+use Rattle.std.specs.Prelude.{◌≡◌, ℕ, ◌+◌, ◌%◌, ◌<◌, List, [], ◌∷◌}
 use Rattle.gold_field.specs.declared.form.Constraint.{Constraint}
+use Rattle.gold_field.specs.declared.gold.TheConstants.{P}
 use Rattle.gold_field.specs.Rises.{RisesFrom}
 use Rattle.cir_lc.specs.declared.quad.Quad.{Quad}
-use Rattle.cir_lc.specs.Number.{value_of}
+use Rattle.cir_lc.specs.Number.{Assignment, Number, added, multiplied, value_of}
 use Rattle.cir_lc.specs.Normal.{IsNormal, IsQuadWithin, IsConstraintWithin}
 use Rattle.cir_inst.specs.Meaning.Value.{Parts}
 use Rattle.cir_inst.specs.Meaning.Equation.{Equation}
+
+-- the number a * b + c
+abbrev pub number_of_parts : Parts → Number
+number_of_parts p = added (multiplied p.a p.b) p.c
+
+-- a * b + c is left minus right, at each assignment
+pub record IsDifference (e : Equation) : Type 0 where
+  pub sum : (s : Assignment) → (number_of_parts e.parts s + e.right s) % P ≡ e.left s
+  pub small : (s : Assignment) → e.right s < P
 
 -- the numbers of a, b and c
 abbrev pub parts_from : Quad → Parts

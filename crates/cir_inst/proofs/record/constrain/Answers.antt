@@ -6,6 +6,7 @@ use Rattle.cir_inst.specs.Meaning.Equation.{appended}
 use Rattle.cir_inst.specs.Meaning.Source.{parts_from}
 use Rattle.cir_inst.specs.Seen.{meant, meant_parts}
 use Rattle.cir_inst.specs.Source.{Records}
+use Rattle.cir_inst.proofs.Difference.{difference_is}
 use Rattle.cir_inst.proofs.record.constrain.Goals as goal
 
 pub returns-in-Some-clause-value : goal.returns-in-Some-clause-value
@@ -14,8 +15,8 @@ returns-in-Some-clause-value c = λ es h v w.
     let x = meant c.args.x in
     let y = meant c.args.y in
     let e : parts_of (difference_of x y) ≡ Some (parts_from c.in-Some.q) =
-        ap parts_of (sym c.in_ok-v.ensures.value) ∙ sym c.in_ok-parts.ensures.value ∙ ap meant_parts c.in-Some.is in
+    ap parts_of (sym c.in_ok-v.ensures.value) ∙ sym c.in_ok-parts.ensures.value ∙ ap meant_parts c.in-Some.is in
     let within = c.in_ok-parts.ensures.within n h.some (c.in_ok-v.ensures.within n h.some v w) in
     subst (λ (o : Option Parts). Records c.append.result c.append.new.recorder (appended n c.args.spot x y es o)) (sym e)
-    (c.append.ensures.value (record { left = number_of x; right = number_of y; parts = parts_from c.in-Some.q }) es h refl
+    (c.append.ensures.value (record { left = number_of x; right = number_of y; parts = parts_from c.in-Some.q }) es h (difference_is n c.args.x c.args.y (parts_from c.in-Some.q) e v w) refl
     (subst (λ (o : Option Quad). IfSome o (λ q. IsQuadWithin n q)) c.in-Some.is within))

@@ -3,9 +3,9 @@ use Rattle.std.specs.Ordering.{nat_cmp}
 use Rattle.std.specs.Cmp.Lexicographic.{slice_cmp}
 use Rattle.std.specs.BTreeMap.{get_by, is_at}
 use Rattle.std.specs.Map.{lookup}
-use Rattle.cir_inst.specs.Names.{place_in}
+use Rattle.cir_inst.specs.Names.{value_in}
 use Rattle.cir_inst.proofs.names.Names.new.Goals as goal
 
 pub returns : goal.returns
-unfolding place_in
-returns c = λ i q. (ap (λ es. lookup (is_at (λ k. slice_cmp nat_cmp q k.now)) es) c.new.ensures.empty) i
+unfolding value_in
+returns g c = λ i q. (ap (λ es. lookup (is_at (λ k. slice_cmp nat_cmp q k.now)) es) c.new.ensures.empty) i

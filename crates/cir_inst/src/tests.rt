@@ -1,0 +1,124 @@
+use crate::{InstFault, instantiate};
+use cir_ast::program::{Block, Main, Program, Statement, StatementForm, Template};
+use cir_ast::tree::{Assign, Binary, DeclaredSignal, Direction, Expr, Place, Signals, Simple};
+use cir_ast::{Kind, Text};
+use gold_field::{Lc, P};
+use items::Items;
+use std::alloc::{AllocError, Global};
+use std::process::Abort;
+use std::test::Fail;
+
+fn text(alloc: Global, name: &str) -> Result<Text, AllocError> {
+    Text::from_slice(alloc, name.as_bytes())
+}
+
+fn declared(alloc: Global, direction: Direction, name: &str) -> Result<Simple, AllocError> {
+    let mut signals = Items::new(alloc);
+    signals.push(DeclaredSignal {
+        name: text(alloc, name)?,
+    })?;
+    Ok(Simple::Signals(Signals { direction, signals }))
+}
+
+fn place(alloc: Global, name: &str) -> Result<Expr, AllocError> {
+    Ok(Expr::Place(Place {
+        name: text(alloc, name)?,
+    }))
+}
+
+fn product(alloc: Global, a: Expr, b: Expr) -> Result<Expr, AllocError> {
+    let a = Box::new(alloc, a).map_err(AllocError::from)?;
+    let b = Box::new(alloc, b).map_err(AllocError::from)?;
+    Ok(Expr::Binary(Binary::Mul, a, b))
+}
+
+// `template Mul() { signal input a; signal input b; signal output c; c <== VALUE; }`, a statement a line
+fn program(alloc: Global, value: Expr) -> Result<Program, AllocError> {
+    let assign = Simple::Assign(Assign::ConstrainLeft(
+        Place {
+            name: text(alloc, "c")?,
+        },
+        value,
+    ));
+    let mut statements = Items::new(alloc);
+    let forms = [
+        declared(alloc, Direction::Input, "a")?,
+        declared(alloc, Direction::Input, "b")?,
+        declared(alloc, Direction::Output, "c")?,
+        assign,
+    ];
+    let mut line = 2;
+    for form in forms {
+        statements.push(Statement {
+            line,
+            column: 3,
+            form: StatementForm::Simple(form),
+        })?;
+        line = 5.min(line + 1);
+    }
+    let mut templates = Items::new(alloc);
+    templates.push(Template {
+        file: 0,
+        line: 1,
+        column: 1,
+        name: text(alloc, "Mul")?,
+        body: Block { statements },
+    })?;
+    let mut mains = Items::new(alloc);
+    mains.push(Main {
+        file: 0,
+        line: 7,
+        column: 1,
+        template: text(alloc, "Mul")?,
+    })?;
+    let mut files = Items::new(alloc);
+    files.push(text(alloc, "mul.circom")?)?;
+    Ok(Program {
+        files,
+        templates,
+        functions: Items::new(alloc),
+        mains,
+    })
+}
+
+fn expect_term(rt: &impl Abort, f: &Lc, signal: u32, coef: u64) {
+    let terms = f.as_slice();
+    assert_eq!(rt; terms.len(), 1);
+    assert_eq!(rt; terms[0].signal, signal);
+    assert_eq!(rt; terms[0].coef.get(), coef);
+}
+
+#[test]
+fn a_product_is_one_constraint(rt: HostRuntime) -> Result<(), Fail> {
+    let alloc = rt.alloc();
+    let value = product(alloc, place(alloc, "a")?, place(alloc, "b")?)?;
+    let circuit = instantiate(alloc, &program(alloc, value)?)?;
+    assert_eq!(rt; circuit.outputs, 1);
+    assert_eq!(rt; circuit.inputs, 2);
+    assert_eq!(rt; circuit.signals, 3);
+    let constraints = circuit.constraints.as_slice();
+    assert_eq!(rt; constraints.len(), 1);
+    let constraint = &constraints[0];
+    expect_term(&rt, &constraint.a, 2, P - 1);
+    expect_term(&rt, &constraint.b, 3, 1);
+    expect_term(&rt, &constraint.c, 1, P - 1);
+    Ok(())
+}
+
+#[test]
+fn a_product_of_three_is_refused(rt: HostRuntime) -> Result<(), Fail> {
+    let alloc = rt.alloc();
+    let two = product(alloc, place(alloc, "a")?, place(alloc, "b")?)?;
+    let value = product(alloc, two, place(alloc, "a")?)?;
+    match instantiate(alloc, &program(alloc, value)?) {
+        Err(InstFault::Refused(refusal)) => {
+            assert_eq!(rt; refusal.kind, Kind::NonQuadratic);
+            assert_eq!(rt; refusal.place.file.as_slice(), b"mul.circom".as_slice());
+            assert_eq!(rt; refusal.place.line, 5);
+            assert_eq!(rt; refusal.place.column, 3);
+            assert_eq!(rt; refusal.place.path.as_slice(), b"main".as_slice());
+        }
+        _ => assert!(rt; false),
+    }
+    Ok(())
+}
