@@ -1,0 +1,4 @@
+pub mod Walk
+pub mod Counting
+pub mod Building
+pub mod Bounded

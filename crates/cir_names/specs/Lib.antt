@@ -1,0 +1,5 @@
+pub mod Places
+pub mod Names
+pub mod Programs
+pub mod Refusing
+pub mod Loading
