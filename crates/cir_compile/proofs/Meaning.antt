@@ -1,0 +1,60 @@
+-- What the values of a written file mean.
+use Rattle.std.proofs.Common.{◌≡◌, ℕ, suc, ◌+◌, ◌*◌, ◌%◌, ◌<◌, List, [], ◌∷◌, Result, Ok, Err, refl, ap, sym, ◌∙◌, subst, arith, inl}
+use Rattle.std.specs.Prelude.{All, IsErrAnd, sum_by, slice_index, slice_index_or, ◌↔◌}
+use Rattle.std.proofs.lemmas.List.Sums.{sum_by-cons}
+use Rattle.gold_field.specs.Form.{Holds, value_at, SignalsBelow, ConstraintBelow}
+use Rattle.gold_field.specs.declared.form.Term.{Term}
+use Rattle.gold_field.specs.declared.form.Constraint.{Constraint}
+use Rattle.gold_field.specs.declared.gold.TheConstants.{P}
+use Rattle.iden_files.specs.File.{File}
+use Rattle.cir_ast.specs.declared.program.Program.{Program}
+use Rattle.cir_lc.specs.Number.{Assignment}
+use Rattle.cir_names.specs.Loading.{Loads}
+use Rattle.cir_names.specs.declared.fault.LoadFault.{LoadFault}
+use Rattle.cir_names.specs.declared.fault.LoadFault.TheVariants as load
+use Rattle.cir_inst.specs.declared.circuit.Circuit.{Circuit}
+use Rattle.cir_inst.specs.Meaning.Program.{Satisfies}
+use Rattle.cir_compile.specs.declared.fault.CompileFault.{CompileFault}
+use Rattle.cir_compile.specs.Compiled.{Compiles}
+use Rattle.cir_compile.specs.Faults.{of_load}
+use Rattle.cir_compile.specs.Written.{file_of, Means}
+
+-- a value depends on the numbers of its own signals alone
+sum_agrees : (n : ℕ) (s t : ℕ → ℕ) → ((k : ℕ) → k < n → s k ≡ t k) → (terms : List Term) → SignalsBelow n terms
+    → sum_by (λ x. x.coef * s x.signal) terms ≡ sum_by (λ x. x.coef * t x.signal) terms
+sum_agrees n s t same [] below = refl
+sum_agrees n s t same (x ∷ terms) below =
+    sum_by-cons (λ x. x.coef * s x.signal) x terms
+    ∙ ap (λ (v : ℕ). x.coef * v + sum_by (λ x. x.coef * s x.signal) terms) (same x.signal (below 0 x (omega arith)))
+    ∙ ap (λ (v : ℕ). x.coef * t x.signal + v) (sum_agrees n s t same terms (λ k d h. below (suc k) d (omega arith)))
+    ∙ sym (sum_by-cons (λ x. x.coef * t x.signal) x terms)
+
+value_agrees : (n : ℕ) (s t : ℕ → ℕ) → ((k : ℕ) → k < n → s k ≡ t k) → (terms : List Term) → SignalsBelow n terms → value_at s terms ≡ value_at t terms
+value_agrees n s t same terms below = ap (λ (v : ℕ). v % P) (sum_agrees n s t same terms below)
+
+holds_agrees : (n : ℕ) (s t : ℕ → ℕ) → ((k : ℕ) → k < n → s k ≡ t k) → (k : Constraint) → ConstraintBelow n k → Holds s k → Holds t k
+holds_agrees n s t same k below h =
+    let a = value_agrees n s t same k.a below.a in
+    let b = value_agrees n s t same k.b below.b in
+    let c = value_agrees n s t same k.c below.c in
+    ap (λ (v : ℕ). (v * value_at t k.b) % P) (sym a) ∙ ap (λ (v : ℕ). (value_at s k.a * v) % P) (sym b) ∙ h ∙ c
+
+pub means : (p : Program) (c : Circuit) → All (ConstraintBelow (1 + c.signals)) c.constraints
+    → ((s : Assignment) → Satisfies p s ↔ All (Holds s.at) c.constraints) → Means p (file_of c)
+means p c below satisfied w values = (
+  λ holds. (
+    record { at = slice_index w; one = values.one; below = values.below },
+    record { agrees = λ k h. refl },
+    (satisfied (record { at = slice_index w; one = values.one; below = values.below })).1 holds,
+  ),
+  λ found. λ k d h. holds_agrees (1 + c.signals) found.0.at (slice_index w) found.1.agrees (slice_index_or c.constraints k d) (below k d h)
+      ((satisfied found.0).0 found.2 k d h),
+)
+
+pub not_loaded : (name source : List ℕ) (r : Result File CompileFault) (f : LoadFault) → IsErrAnd r (λ e. e ≡ of_load f) → Loads name source (Err f) → Compiles name source r
+not_loaded name source (Ok x) f h s = absurd h
+not_loaded name source (Err e) f h s = subst (λ (x : CompileFault). Compiles name source (Err x)) (sym h) (from f s)
+  where
+    from : (f : LoadFault) → Loads name source (Err f) → Compiles name source (Err (of_load f))
+    from (load.Refused r) s = inl s
+    from load.OutOfMemory s = tt

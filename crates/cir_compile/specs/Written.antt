@@ -1,0 +1,36 @@
+-- The file that a circuit is written as, and what its values mean for the source.
+use Rattle.std.specs.Prelude.{◌≡◌, ◌↔◌, ℕ, ◌+◌, ◌<◌, List, length, All, slice_index}
+use Rattle.std.specs.List.{range_with_len}
+use Rattle.gold_field.specs.Form.{Holds}
+use Rattle.gold_field.specs.declared.gold.TheConstants.{P}
+use Rattle.iden_files.specs.File.{File}
+use Rattle.cir_ast.specs.declared.program.Program.{Program}
+use Rattle.cir_lc.specs.Number.{Assignment}
+use Rattle.cir_inst.specs.declared.circuit.Circuit.{Circuit}
+use Rattle.cir_inst.specs.Meaning.Program.{Satisfies}
+
+-- every signal is a wire, and its label is its number; all inputs are private
+abbrev pub file_of : Circuit → File
+file_of c = record {
+  wires = 1 + c.signals;
+  outputs = c.outputs;
+  public_inputs = 0;
+  private_inputs = c.inputs;
+  label_count = 1 + c.signals;
+  labels = range_with_len 0 (1 + c.signals);
+  constraints = c.constraints;
+}
+
+-- values of the wires: numbers of the field, with 1 at wire 0
+pub record AreValues (f : File) (w : List ℕ) : Type 0 where
+  pub count : length w ≡ f.wires
+  pub one : slice_index w 0 ≡ 1
+  pub below : (k : ℕ) → slice_index w k < P
+
+-- an assignment of numbers to the signals that has these values at the wires
+pub record Extends (f : File) (w : List ℕ) (s : Assignment) : Type 0 where
+  pub agrees : (k : ℕ) → k < f.wires → s.at k ≡ slice_index w k
+
+-- values of the wires satisfy the file exactly when they extend to an assignment that satisfies the program
+abbrev pub Means : Program → File → Type 0
+Means p f = (w : List ℕ) → AreValues f w → All (Holds (slice_index w)) f.constraints ↔ ((s : Assignment) × Extends f w s × Satisfies p s)

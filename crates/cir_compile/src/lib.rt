@@ -1,0 +1,12 @@
+//! From the bytes of a Circom source to the `.r1cs` file of its constraints.
+#![tactic(auto)]
+
+mod compiling;
+mod fault;
+mod file;
+
+pub use compiling::compile;
+pub use fault::CompileFault;
+
+#[cfg(test)]
+mod tests;
