@@ -1,13 +1,12 @@
 -- The parts of a difference are left minus right.
-use Rattle.std.proofs.Common.{◌≡◌, ℕ, ◌+◌, ◌-◌, ◌*◌, ◌%◌, ◌<◌, Option, Some, None, refl, ap, sym, ◌∙◌, arith, mod-lt, mod-eq_of_lt, lit<}
+use Rattle.std.proofs.Common.{◌≡◌, ℕ, ◌+◌, ◌-◌, ◌*◌, ◌%◌, ◌<◌, Some, refl, ap, sym, ◌∙◌, arith, mod-lt, mod-eq_of_lt, lit<}
 use Rattle.std.proofs.Math.Nat.{mod-add-mod, add-mod-mod, mod-mod, add_comm, mul_assoc, mul-add, add-mul-mod_self_left}
 use Rattle.std.proofs.lemmas.Nat.{mul-mod_first, mul-mod_second}
 use Rattle.gold_field.specs.declared.gold.TheConstants.{P}
-use Rattle.cir_lc.specs.Number.{Assignment, Number, constant, added, scaled, multiplied, negated, value_of}
+use Rattle.cir_lc.specs.Number.{Assignment, constant, added, multiplied, negated, value_of}
 use Rattle.cir_inst.specs.declared.value.Value.{Value as Code}
 use Rattle.cir_inst.specs.declared.value.Value.TheVariants.{Known as CodeKnown, Linear as CodeLinear, Quadratic as CodeQuadratic, Opaque as CodeOpaque}
 use Rattle.cir_inst.specs.Meaning.Value.{Value, Known, Linear, Quadratic, Opaque, Parts, sum_of, negative_of, difference_of, number_of, parts_of}
-use Rattle.cir_inst.specs.Meaning.Equation.{Equation}
 use Rattle.cir_inst.specs.Meaning.Source.{number_of_parts, IsDifference}
 use Rattle.cir_inst.specs.Seen.{meant, IsValueWithin}
 

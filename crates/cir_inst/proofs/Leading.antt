@@ -1,5 +1,5 @@
 -- A statement's last step.
-use Rattle.std.proofs.Common.{◌≡◌, ℕ, ◌<◌, List, Result, Ok, Err, Option, Some, None, Bool, true, false, ap}
+use Rattle.std.proofs.Common.{List, Result, Ok, Err, ap}
 use Rattle.cir_inst.specs.declared.record.Recorder.{Recorder}
 use Rattle.cir_inst.specs.declared.stop.Fault.{Fault}
 use Rattle.cir_inst.specs.declared.stop.Fault.TheVariants.{Refused, OutOfMemory}
@@ -8,7 +8,7 @@ use Rattle.cir_inst.specs.Meaning.Scope.{Scope}
 use Rattle.cir_inst.specs.Meaning.Equation.{Equation}
 use Rattle.cir_inst.specs.Meaning.Statement.{World}
 use Rattle.cir_inst.specs.Seen.{IsRefusal}
-use Rattle.cir_inst.specs.Source.{IsRecord, Records, Leads}
+use Rattle.cir_inst.specs.Source.{Records, Leads}
 
 -- what is refused its first step is refused
 pub exits : {A B : Type 0} (f : Fault) (m : Tried A) (go : A → Tried B) → IsRefusal f m → IsRefusal f (next m go)

@@ -1,12 +1,12 @@
 -- The numbers of signals.
-use Rattle.std.proofs.Common.{◌≡◌, ℕ, ◌+◌, ◌<◌, ◌≤◌, List, [], ◌∷◌, ◌++◌, length, Result, Ok, Err, Option, Some, None, Bool, true, false, cond, slice_get, slice_set, refl, subst, ap, sym, ◌∙◌, arith}
+use Rattle.std.proofs.Common.{◌≡◌, ℕ, ◌<◌, List, length, Ok, Option, Some, None, Bool, true, false, slice_get, slice_set, refl, subst, ap, sym, ◌∙◌}
 use Rattle.std.proofs.lemmas.List.{length-set}
 use Rattle.cir_inst.specs.Progress.{numbers_of}
 use Rattle.std.proofs.lemmas.Option.{get_or_from_slice_get, slice_get_within}
-use Rattle.std.proofs.lemmas.List.Elements.{All-set, All-push, All-get_or}
+use Rattle.std.proofs.lemmas.List.Elements.{All-set}
 use Rattle.cir_inst.specs.declared.stop.Spot.{Spot}
 use Rattle.cir_inst.specs.declared.scope.Signal.{Signal}
-use Rattle.cir_inst.specs.Meaning.Tried.{Tried, next, refused}
+use Rattle.cir_inst.specs.Meaning.Tried.{next}
 use Rattle.cir_inst.specs.Meaning.Scope.{Scope, found_at, written_to, write_of_name}
 use Rattle.cir_inst.specs.Seen.{AreBelow}
 

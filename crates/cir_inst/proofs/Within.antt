@@ -1,16 +1,16 @@
 -- The signals of a value's parts.
-use Rattle.std.proofs.Common.{◌≡◌, ℕ, ◌+◌, ◌-◌, ◌*◌, ◌%◌, ◌<◌, List, [], ◌∷◌, refl, ap, subst, sym, ◌∙◌, arith, mod-eq_of_lt}
+use Rattle.std.proofs.Common.{◌≡◌, ℕ, ◌*◌, ◌%◌, ◌<◌, List, [], ◌∷◌, ap, subst, ◌∙◌, arith, mod-eq_of_lt}
 use Rattle.gold_field.specs.declared.form.Term.{Term}
 use Rattle.gold_field.specs.declared.gold.TheConstants.{P}
 use Rattle.cir_lc.specs.declared.quad.Quad.{Quad}
 use Rattle.cir_lc.specs.Terms.{IsWithin}
 use Rattle.cir_lc.specs.Normal.{IsQuadWithin}
-use Rattle.cir_lc.specs.Number.{Assignment, Number, value_of, constant, signal}
+use Rattle.cir_lc.specs.Number.{Assignment, value_of, constant, signal}
 use Rattle.cir_lc.specs.Merge.{total}
 use Rattle.cir_lc.proofs.Totals.{total-nil, total-cons}
 use Rattle.cir_lc.proofs.Values.{value-total}
 use Rattle.cir_inst.specs.declared.value.Value.{Value}
-use Rattle.cir_inst.specs.declared.value.Value.TheVariants.{Known, Linear, Quadratic, Opaque}
+use Rattle.cir_inst.specs.declared.value.Value.TheVariants.{Linear, Quadratic}
 use Rattle.cir_inst.specs.Seen.{IsValueWithin}
 
 pub at_linear : (n : ℕ) (v : Value) (f : List Term) → v ≡ Linear f → IsValueWithin n v → IsWithin n f

@@ -1,5 +1,5 @@
 -- Equations, and the normal constraints that stand for them.
-use Rattle.std.specs.Prelude.{◌≡◌, ℕ, ◌+◌, ◌≤◌, ◌<◌, List, [], ◌∷◌, length, Result, Ok, Err}
+use Rattle.std.specs.Prelude.{◌≡◌, ℕ, ◌+◌, ◌≤◌, ◌<◌, List, length, Result, Ok, Err}
 use Rattle.std.specs.List.{AllByRecursion}
 use Rattle.cir_inst.specs.declared.record.Recorder.{Recorder}
 use Rattle.cir_inst.specs.declared.stop.Fault.{Fault}
@@ -11,7 +11,6 @@ use Rattle.cir_inst.specs.Meaning.Scope.{Scope, next_number}
 use Rattle.cir_inst.specs.Meaning.Statement.{World}
 use Rattle.cir_inst.specs.Meaning.Program.{total}
 use Rattle.cir_inst.specs.declared.counts.Counts.{Counts}
-use Rattle.cir_inst.specs.Meaning.Value.{Parts}
 use Rattle.cir_inst.specs.Meaning.Equation.{Equation, all_terms, most_signals, most_constraints, most_terms}
 use Rattle.cir_inst.specs.Meaning.Source.{IsSource, IsDifference}
 use Rattle.cir_inst.specs.Seen.{IsRefusal}

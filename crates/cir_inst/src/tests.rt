@@ -1,7 +1,7 @@
-use crate::{InstFault, instantiate};
+use crate::{Circuit, InstFault, instantiate};
 use cir_ast::program::{Block, Main, Program, Statement, StatementForm, Template};
 use cir_ast::tree::{Assign, Binary, DeclaredSignal, Direction, Expr, Place, Signals, Simple};
-use cir_ast::{Kind, Text};
+use cir_ast::{Kind, Refusal, Text};
 use gold_field::{Lc, P};
 use items::Items;
 use std::alloc::{AllocError, Global};
@@ -42,19 +42,17 @@ fn program(alloc: Global, value: Expr) -> Result<Program, AllocError> {
     ));
     let mut statements = Items::new(alloc);
     let forms = [
-        declared(alloc, Direction::Input, "a")?,
-        declared(alloc, Direction::Input, "b")?,
-        declared(alloc, Direction::Output, "c")?,
-        assign,
+        (2, declared(alloc, Direction::Input, "a")?),
+        (3, declared(alloc, Direction::Input, "b")?),
+        (4, declared(alloc, Direction::Output, "c")?),
+        (5, assign),
     ];
-    let mut line = 2;
-    for form in forms {
+    for (line, form) in forms {
         statements.push(Statement {
             line,
             column: 3,
             form: StatementForm::Simple(form),
         })?;
-        line = 5.min(line + 1);
     }
     let mut templates = Items::new(alloc);
     templates.push(Template {
@@ -105,20 +103,27 @@ fn a_product_is_one_constraint(rt: HostRuntime) -> Result<(), Fail> {
     Ok(())
 }
 
+fn refusal_of(answer: Result<Circuit, InstFault>) -> Option<Refusal> {
+    match answer {
+        Err(InstFault::Refused(refusal)) => Some(refusal),
+        _ => None,
+    }
+}
+
 #[test]
 fn a_product_of_three_is_refused(rt: HostRuntime) -> Result<(), Fail> {
     let alloc = rt.alloc();
     let two = product(alloc, place(alloc, "a")?, place(alloc, "b")?)?;
     let value = product(alloc, two, place(alloc, "a")?)?;
-    match instantiate(alloc, &program(alloc, value)?) {
-        Err(InstFault::Refused(refusal)) => {
-            assert_eq!(rt; refusal.kind, Kind::NonQuadratic);
-            assert_eq!(rt; refusal.place.file.as_slice(), b"mul.circom".as_slice());
-            assert_eq!(rt; refusal.place.line, 5);
-            assert_eq!(rt; refusal.place.column, 3);
-            assert_eq!(rt; refusal.place.path.as_slice(), b"main".as_slice());
-        }
-        _ => assert!(rt; false),
-    }
+    let program = program(alloc, value)?;
+    let refusal = refusal_of(instantiate(alloc, &program)).ok_or("not refused")?;
+    let place = refusal.place;
+    assert_eq!(rt; refusal.kind, Kind::NonQuadratic);
+    assert_eq!(rt; place.line, 5);
+    assert_eq!(rt; place.column, 3);
+    let file = place.file.into_vec();
+    let path = place.path.into_vec();
+    assert!(rt; file.as_slice() == b"mul.circom".as_slice());
+    assert!(rt; path.as_slice() == b"main".as_slice());
     Ok(())
 }

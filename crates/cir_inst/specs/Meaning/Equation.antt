@@ -1,12 +1,12 @@
 -- The constraints of a program.
-use Rattle.std.specs.Prelude.{ℕ, ◌+◌, ◌-◌, ◌^◌, List, [], ◌∷◌, ◌++◌, length, min, sum_by, Bool, Option, Some, None, Ok, if◌then◌else◌, nat_le}
+use Rattle.std.specs.Prelude.{ℕ, ◌+◌, ◌-◌, ◌^◌, List, [], ◌∷◌, ◌++◌, length, min, sum_by, Option, Some, None, Ok, if◌then◌else◌, nat_le}
 use Rattle.cir_ast.specs.declared.refusal.Kind.TheVariants.{NonQuadratic, Limit}
 use Rattle.cir_ast.specs.declared.refusal.Which.{Which}
 use Rattle.cir_ast.specs.declared.refusal.Which.TheVariants.{Constraints, Terms}
 use Rattle.cir_lc.specs.Number.{Number, added, scaled, negated}
 use Rattle.cir_lc.specs.Coefficient.{terms_below, constant_in}
 use Rattle.cir_inst.specs.declared.stop.Spot.{Spot}
-use Rattle.cir_inst.specs.Meaning.Tried.{Tried, next, refused}
+use Rattle.cir_inst.specs.Meaning.Tried.{Tried, refused}
 use Rattle.cir_inst.specs.Meaning.Value.{Value, Parts, difference_of, parts_of, number_of}
 
 -- the numbers of two sides that have to be equal, and the parts a, b, c of left minus right

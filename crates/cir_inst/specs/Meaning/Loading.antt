@@ -18,7 +18,7 @@ use Rattle.cir_ast.specs.declared.tree.Simple.{Simple}
 use Rattle.cir_ast.specs.declared.tree.Simple.TheVariants.{Signals, Assign, Constrain}
 use Rattle.cir_ast.specs.declared.tree.Assign.{Assign as Assignment}
 use Rattle.cir_ast.specs.declared.tree.Assign.TheVariants.{ConstrainLeft}
-use Rattle.cir_ast.specs.declared.refusal.Kind.TheVariants.{Duplicate, Main as MainKind, UnknownName, WrongKind}
+use Rattle.cir_ast.specs.declared.refusal.Kind.TheVariants.{Main as MainKind, UnknownName, WrongKind}
 use Rattle.cir_inst.specs.declared.stop.Spot.{Spot}
 use Rattle.cir_inst.specs.Meaning.Tried.{Tried, next, refused}
 

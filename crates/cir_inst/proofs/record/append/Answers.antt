@@ -1,4 +1,4 @@
-use Rattle.std.proofs.Common.{◌≡◌, ◌++◌, ◌∷◌, [], ◌+◌, ◌≤◌, length, arith, ap, ◌∙◌}
+use Rattle.std.proofs.Common.{◌++◌, ◌∷◌, [], ◌≤◌, length, arith}
 use Rattle.std.proofs.lemmas.List.{length_push}
 use Rattle.cir_inst.specs.Meaning.Equation.{all_terms}
 use Rattle.cir_inst.proofs.Recording.{source_push, source_length, too_many, too_long, all_fit, made, terms_more, differences_push}
