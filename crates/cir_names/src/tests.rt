@@ -32,47 +32,39 @@ fn places_items_and_statements(rt: HostRuntime) -> Result<(), Fail> {
     Ok(())
 }
 
-#[test]
-fn refuses_at_the_first_fault(rt: HostRuntime) {
-    let sources = [
-        (
-            b"template T() {\n ?? # }".as_slice(),
-            Kind::Lexical {
-                cause: LexCause::BadChar,
-            },
-            2,
-            5,
-        ),
-        (
-            b" function".as_slice(),
-            Kind::NotInProfile {
-                form: Form::Unbuilt,
-            },
-            1,
-            2,
-        ),
-        (
-            b"".as_slice(),
-            Kind::NotInProfile {
-                form: Form::Unbuilt,
-            },
-            1,
-            1,
-        ),
-        (
-            b"template T() { signal a;\n signal b, a; }\ncomponent main = T();".as_slice(),
-            Kind::Duplicate,
-            2,
-            2,
-        ),
-    ];
-    for (bytes, kind, line, column) in sources {
-        match load(rt.alloc(), b"a.circom", bytes) {
-            Err(LoadFault::Refused(refusal)) => {
-                assert_eq!(rt; refusal.kind, kind);
-                assert_eq!(rt; (refusal.place.line, refusal.place.column), (line, column));
-            }
-            _ => assert!(rt; false),
+/// Why the source is refused, and its line and column.
+fn refusal(rt: &HostRuntime, bytes: &[u8]) -> Option<(Kind, u32, u32)> {
+    match load(rt.alloc(), b"a.circom", bytes) {
+        Err(LoadFault::Refused(refusal)) => {
+            Some((refusal.kind, refusal.place.line, refusal.place.column))
         }
+        Err(LoadFault::OutOfMemory) => None,
+        Ok(_program) => None,
     }
+}
+
+#[test]
+fn names_a_bad_character(rt: HostRuntime) {
+    let kind = Kind::Lexical {
+        cause: LexCause::BadChar,
+    };
+    assert_eq!(rt;
+        refusal(&rt, b"template T() {\n ?? # }"),
+        Some((kind, 2, 5))
+    );
+}
+
+#[test]
+fn names_another_form(rt: HostRuntime) {
+    let kind = Kind::NotInProfile {
+        form: Form::Unbuilt,
+    };
+    assert_eq!(rt; refusal(&rt, b" function"), Some((kind, 1, 2)));
+    assert_eq!(rt; refusal(&rt, b""), Some((kind, 1, 1)));
+}
+
+#[test]
+fn names_a_second_declaration(rt: HostRuntime) {
+    let source = b"template T() { signal a;\n signal b, a; }\ncomponent main = T();";
+    assert_eq!(rt; refusal(&rt, source), Some((Kind::Duplicate, 2, 2)));
 }
