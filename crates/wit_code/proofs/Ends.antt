@@ -1,23 +1,21 @@
 -- A run of well-formed code ends: with each instruction a number falls.
-use Rattle.std.proofs.Common.{◌≡◌, ◌≢◌, ℕ, zero, suc, ◌+◌, ◌*◌, ◌-◌, ◌<◌, ◌≤◌, Bool, true, false, cond, max, List, [], ◌∷◌, ◌++◌, length, drop, replicate, Option, Some, None, refl, sym, ap, subst, ◌∙◌, arith, length-set, length-append, inl, inr}
+use Rattle.std.proofs.Common.{◌≡◌, ℕ, zero, suc, ◌+◌, ◌*◌, ◌-◌, ◌<◌, ◌≤◌, Bool, true, false, cond, max, List, [], ◌∷◌, length, drop, replicate, Option, Some, None, refl, sym, ap, subst, ◌∙◌, arith, length-set, length-append, inl, inr}
 use Rattle.std.proofs.lemmas.List.{length-replicate, length-take-le, length-drop}
-use Rattle.std.proofs.lemmas.Option.{slice_get_within, slice_get-get_or, unwrap_or-slice_get}
-use Rattle.std.specs.Prelude.{slice_get, slice_set, slice_range, slice_index, ◌==◌, nat_lt, unwrap_or}
+use Rattle.std.proofs.lemmas.Option.{slice_get_within, slice_get-get_or}
+use Rattle.std.specs.Prelude.{slice_get, slice_set, slice_range, ◌==◌, nat_lt, unwrap_or}
 use Rattle.std.proofs.lemmas.Bool.{cases_lt, ltb-true}
 use Rattle.gold_field.specs.Operators.{binary_of}
 use Rattle.wit_code.specs.declared.code.Op.{Op}
 use Rattle.wit_code.specs.declared.code.Op.TheVariants.{Const, Move, Read, Un, Bin, Bound, Load, Store, Jump, JumpZero, Turn, Call, Return, Check, Assert, Write}
 use Rattle.wit_code.specs.declared.code.Proc.{Proc}
-use Rattle.wit_code.specs.declared.code.Stands.{Stands}
-use Rattle.wit_code.specs.declared.code.Stands.TheVariants.{InStep, InProc}
 use Rattle.wit_code.specs.declared.code.Stop.{Stop}
 use Rattle.wit_code.specs.declared.code.Stop.TheVariants.{FuelSpent}
 use Rattle.wit_code.specs.declared.frames.Running.{Running}
 use Rattle.wit_code.specs.declared.frames.Running.TheVariants.{Own, Called}
-use Rattle.wit_code.specs.Code.{Leads, MayCall, Fits, IsCode, IsWellFormed}
-use Rattle.wit_code.specs.Frames.{Open, Frames}
-use Rattle.wit_code.specs.Table.{no_code, State, Outcome, Stopped, RunsTo, Next, Goes, Over, act, answer, call, code_of, exec, frame_of, go_on, jump_to, leave, longest, most_steps, outcome_of, outcome_or, next_of, pay, proc_at, put, put_result, slot_of, start_of, step, turn_of, unless, written_with}
-use Rattle.wit_code.specs.Seen.{IsThere, stands_of, AnswersFit}
+use Rattle.wit_code.specs.Code.{Leads, Fits, IsWellFormed}
+use Rattle.wit_code.specs.Frames.{Open}
+use Rattle.wit_code.specs.Table.{no_code, State, Outcome, Stopped, RunsTo, Next, Goes, Over, act, answer, code_of, exec, frame_of, go_on, jump_to, longest, most_steps, outcome_of, outcome_or, next_of, proc_at, put, put_result, slot_of, start_of, step, unless}
+use Rattle.wit_code.specs.Seen.{IsThere, stands_of}
 
 -- a frame of some code, at one of its places
 pub record IsFrame (procs : List Proc) (own : Proc) (running : Running) (place : ℕ) (slots : List ℕ) : Type 0 where

@@ -1,6 +1,5 @@
 -- The code's steps are those of the table, from the start on.
-use Rattle.std.proofs.Common.{◌≡◌, ℕ, zero, suc, ◌+◌, ◌<◌, List, [], ◌∷◌, length, Option, Some, None, Result, Ok, Err, refl, sym, ap, subst, ◌∙◌, arith}
-use Rattle.std.proofs.lemmas.List.{length-replicate}
+use Rattle.std.proofs.Common.{◌≡◌, ℕ, zero, suc, ◌<◌, List, [], ◌∷◌, length, Result, Ok, Err, refl, sym, ap, subst, ◌∙◌}
 use Rattle.std.specs.Prelude.{slice_get}
 use Rattle.std.specs.declared.vec.Vec.{Vec}
 use Rattle.std.specs.declared.alloc.Global.{Global}
@@ -14,7 +13,7 @@ use Rattle.wit_code.specs.declared.machine.Flow.TheVariants.{Stays, Moves, Ends}
 use Rattle.wit_code.specs.Code.{IsWellFormed, Names}
 use Rattle.wit_code.specs.Frames.{Open}
 use Rattle.wit_code.specs.Table.{State, Outcome, Wrote, Stopped, Next, Goes, Over, act, code_of, exec, next_of, outcome_of, start_of, step, RunsTo}
-use Rattle.wit_code.specs.Seen.{seen, Follows, NextFits, AnswersFit, IsOutcome, ParamsFit, stands_of}
+use Rattle.wit_code.specs.Seen.{seen, Follows, NextFits, AnswersFit, IsOutcome, stands_of}
 use Rattle.wit_code.proofs.Ends.{AreFrames, IsGood, ends_so, falls, fits_at, measure, one_outcome}
 
 -- the run has come to this state

@@ -1,5 +1,5 @@
 -- Which code is well formed: it names nothing that isn't there, and goes back only to a Turn.
-use Rattle.std.specs.Prelude.{◌≡◌, ℕ, ◌+◌, ◌<◌, ◌≤◌, List, [], All, Option, Some, None, slice_get, unwrap_or, length}
+use Rattle.std.specs.Prelude.{◌≡◌, ℕ, ◌+◌, ◌<◌, ◌≤◌, List, Some, slice_get, length}
 use Rattle.wit_code.specs.declared.code.Op.{Op}
 use Rattle.wit_code.specs.declared.code.Op.TheVariants.{Const, Move, Read, Un, Bin, Bound, Load, Store, Jump, JumpZero, Turn, Call, Return, Check, Assert, Write}
 use Rattle.wit_code.specs.declared.code.Proc.{Proc}

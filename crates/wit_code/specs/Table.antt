@@ -8,7 +8,6 @@ use Rattle.wit_code.specs.declared.code.Stop.{Stop}
 use Rattle.wit_code.specs.declared.code.Stop.TheVariants.{ConstraintFails, AssertFails, ZeroDivisor, IndexOut, FuelSpent, TooDeep}
 use Rattle.wit_code.specs.declared.frames.Running.{Running}
 use Rattle.wit_code.specs.declared.frames.Running.TheVariants.{Own, Called}
-use Rattle.wit_code.specs.declared.frames.Resume.{Resume}
 use Rattle.wit_code.specs.Frames.{Open, Frames}
 
 -- the code that runs and its next place, the frames, the units left, and what was written

@@ -70,6 +70,7 @@ impl Frames {
     }
 
     /// How many calls are open.
+    #[inline(always)]
     pub fn depth(&self) -> usize
         ensures { result ≡ length self.now.open_calls }
     {
@@ -94,6 +95,7 @@ impl Frames {
 
     /// Opens a call, whose parameters are the slots from `first` on.
     #[tactic(auto, using(crate::proofs::Stack::width_of_push))]
+    #[inline(always)]
     pub fn open(
         &mut self,
         resume: Resume,
@@ -119,6 +121,7 @@ impl Frames {
 
     /// Ends the running call, if it is one.
     #[tactic(auto, using(crate::proofs::Stack::width_of_push))]
+    #[inline(always)]
     pub fn close(&mut self) -> Option<Resume>
         ensures { Closes self.old result self.new }
     {

@@ -239,6 +239,7 @@ impl Run {
         Ok(self.on())
     }
 
+    #[inline(always)]
     fn call(&mut self, callee: &Proc, f: u32, first: u32, d: u32) -> Result<Flow, Stop>
         requires params { first + callee.now.params ≤ length self.old.frames.slots }
         requires callee { callee.now.params ≤ callee.now.slots }
@@ -269,6 +270,7 @@ impl Run {
     }
 
     // The answer of the running call, or the end of the step's own code.
+    #[inline(always)]
     fn leave(&mut self, v: Gold) -> Flow
         requires { AnswersFit self.old.frames.open_calls }
         ensures { Follows self.old (Ok result) self.new (leave v (seen self.old)) }
@@ -310,6 +312,7 @@ impl Run {
         }
     }
 
+    #[inline(always)]
     fn write(&mut self, a: u32) -> Result<Flow, Stop>
         requires slot { a < length self.old.frames.slots }
         requires place { self.old.place < 2 ^ 64 - 1 }
@@ -359,6 +362,7 @@ fn run_to_end(
     }
 }
 
+#[inline(always)]
 fn body_of<'a>(procs: &'a [Proc], code: &'a Proc, running: Running) -> &'a [Op]
     requires { IsThere procs.now running }
     ensures { result.now ≡ (code_of procs.now code.now running).body }

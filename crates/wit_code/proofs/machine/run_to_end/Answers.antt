@@ -1,7 +1,5 @@
-use Rattle.std.proofs.Common.{length, sym, ap, ◌∙◌}
+use Rattle.std.proofs.Common.{length}
 use Rattle.std.proofs.lemmas.Result.{err_from_is_err_and}
-use Rattle.wit_code.specs.Seen.{seen}
-use Rattle.wit_code.specs.Table.{RunsTo}
 use Rattle.wit_code.proofs.Runs as runs
 use Rattle.wit_code.proofs.machine.run_to_end.Goals as goal
 

@@ -1,8 +1,6 @@
-use Rattle.std.proofs.Common.{◌≡◌, ◌<◌, Some, length, ap, subst, ◌∙◌, arith, rules, get_or}
-use Rattle.std.specs.Prelude.{slice_get}
+use Rattle.std.proofs.Common.{◌≡◌, length, ap, subst, ◌∙◌, arith, rules, get_or}
 use Rattle.std.proofs.lemmas.Option.{slice_get_within, get_or_from_slice_get}
 use borrow.Author.Count.{below_more}
-use Rattle.wit_code.specs.declared.code.Op.{Op}
 use Rattle.wit_code.specs.Code.{Fits}
 use Rattle.wit_code.proofs.well_formed.each_fits.Goals as goal
 
