@@ -1,4 +1,5 @@
 pub mod Check
+pub mod Compile
 pub mod Files
 pub mod Lines
 pub mod Reply

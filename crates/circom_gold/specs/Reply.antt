@@ -1,11 +1,11 @@
 -- The answer to the words over the files, and what a run may have put.
-use Rattle.std.specs.Prelude.{◌≡◌, ℕ, List, Option, Some, None, Result, Ok, Err, ◌⊎◌}
-use Rattle.out_io.specs.Contents.{Contents}
+use Rattle.std.specs.Prelude.{◌≡◌, ℕ, List, [], Option, Some, None, Result, Ok, Err, ◌⊎◌}
+use Rattle.out_io.specs.Contents.{Contents, Changes}
 use Rattle.out_io.specs.Written.{IsAppended, IsAppendedInPart}
 use Rattle.circom_gold.specs.Check.{check_of}
+use Rattle.circom_gold.specs.Compile.{IsCompileAnswer, MayWriteFile}
 use Rattle.circom_gold.specs.Lines.{status_of, line_of}
-use Rattle.circom_gold.specs.Steps.{Told}
-use Rattle.circom_gold.specs.Words.{Command, check, command_of}
+use Rattle.circom_gold.specs.Words.{Command, check, compile}
 use Rattle.circom_gold.specs.declared.answer.Answer.{Answer}
 use Rattle.circom_gold.specs.declared.answer.Answer.TheVariants.{Usage, StoreFailed, Refused, Checked}
 use Rattle.circom_gold.specs.declared.answer.Refusal.{Refusal}
@@ -15,29 +15,47 @@ abbrev pub either : {X : Type 0} → (X → Answer) → Result X Refusal → Ans
 either answer (Ok x) = answer x
 either answer (Err refusal) = Refused refusal
 
-abbrev pub answer_to : Contents → Option Command → Answer
-answer_to files None = Usage
-answer_to files (Some (check r1cs wtns)) = either Checked (check_of files r1cs wtns)
+-- the answer of `check`, which leaves the files as they are
+abbrev pub IsCheckAnswer : Contents → List ℕ → List ℕ → Contents → Answer → Type 0
+IsCheckAnswer files r1cs wtns new answer = (answer ≡ either Checked (check_of files r1cs wtns)) × (new ≡ files)
 
--- the answer to the words over the files
-abbrev pub answer_of : Contents → List (List ℕ) → Answer
-answer_of files words = answer_to files (command_of words)
+-- the answer to a command over the files, and the files that it leaves
+abbrev pub IsAnswer : Contents → Option Command → Contents → Answer → Type 0
+IsAnswer files None new answer = (answer ≡ Usage) × (new ≡ files)
+IsAnswer files (Some (check r1cs wtns)) new answer = IsCheckAnswer files r1cs wtns new answer
+IsAnswer files (Some (compile source out)) new answer = IsCompileAnswer files source out new answer
+
+-- what a command may have done to the files, whatever ended it
+abbrev pub MayWrite : Contents → Option Command → Contents → Type 0
+MayWrite files None new = new ≡ files
+MayWrite files (Some (check r1cs wtns)) new = new ≡ files
+MayWrite files (Some (compile source out)) new = MayWriteFile files source out new
+
+-- the answer is of this kind, or says that the store failed, where it did
+abbrev pub SaysOr : Type 0 → (Answer → Type 0) → Answer → Type 0
+SaysOr failed Is answer = Is answer ⊎ (failed × (answer ≡ StoreFailed))
 
 -- the program says this to the words, or that the store failed, where it did
-abbrev pub Says : Option Contents → List (List ℕ) → Type 0 → Answer → Type 0
-Says contents words failed answer =
-    Told contents (λ files. answer ≡ answer_of files words) ⊎ (failed × (answer ≡ StoreFailed))
+abbrev pub Says : Option Contents → Option Contents → Option Command → Type 0 → Answer → Type 0
+Says old new command failed answer =
+    SaysOr failed (λ answer. Changes (λ files after. IsAnswer files command after answer) old new) answer
 
 -- the exit status is the answer's, and its line was put
 pub record Answers (answer : Answer) (old new : Option (List ℕ)) (exit : ℕ) : Type 0 where
   pub status : exit ≡ status_of answer
   pub line : IsAppended (line_of answer) old new
 
+-- the answer to the command is the exit status and the line, and the files are those that it leaves
+abbrev pub Replies : Option Command → Option (List ℕ) → Option (List ℕ) → ℕ → Contents → Contents → Type 0
+Replies command old new exit files after = (answer : Answer) × IsAnswer files command after answer × Answers answer old new exit
+
 -- the same, or the sink failed
 abbrev pub Puts : Answer → Type 0 → Option (List ℕ) → Option (List ℕ) → ℕ → Type 0
 Puts answer failed old new exit = Answers answer old new exit ⊎ (failed × (exit ≡ 3))
 
--- what was put is a front of the answer's line, or where the store failed, of the line that says so
-abbrev pub PutsFront : Answer → Type 0 → Option (List ℕ) → Option (List ℕ) → Type 0
-PutsFront answer failed old new =
-    IsAppendedInPart (line_of answer) old new ⊎ (failed × IsAppendedInPart (line_of StoreFailed) old new)
+-- nothing was put, or a front of the answer's line, or where the store failed, of the line that says so
+abbrev pub PutsFront : Option Command → Type 0 → Option (List ℕ) → Option (List ℕ) → Contents → Contents → Type 0
+PutsFront command failed old new files after =
+    IsAppendedInPart [] old new
+    ⊎ (((answer : Answer) × IsAnswer files command after answer × IsAppendedInPart (line_of answer) old new)
+    ⊎ (failed × IsAppendedInPart (line_of StoreFailed) old new))

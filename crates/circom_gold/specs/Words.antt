@@ -9,6 +9,7 @@ use Rattle.circom_gold.specs.declared.words.Command.TheVariants as asked
 -- a command, with the names of its files
 pub data Command : Type 0 where
   check : (r1cs wtns : List ℕ) → Command
+  compile : (source out : List ℕ) → Command
 
 -- the words by their bytes
 abbrev pub texts : List (String Global) → List (List ℕ)
@@ -23,11 +24,17 @@ abbrev pub check_words : List (List ℕ) → Option Command
 check_words (r1cs ∷ wtns ∷ []) = if is_name r1cs && is_name wtns then Some (check r1cs wtns) else None
 check_words _ = None
 
+-- the words behind `compile`: SRC OUT
+abbrev pub compile_words : List (List ℕ) → Option Command
+compile_words (source ∷ out ∷ []) = if is_name source && is_name out then Some (compile source out) else None
+compile_words _ = None
+
 -- the reading of the words, None where they have none
 abbrev pub command_of : List (List ℕ) → Option Command
 command_of [] = None
-command_of (name ∷ others) = if bytes_eq name (codes "check") then check_words others else None
+command_of (name ∷ others) = if bytes_eq name (codes "check") then check_words others else (if bytes_eq name (codes "compile") then compile_words others else None)
 
 -- what the program's own value for a command stands for
 abbrev pub meant : Asked → Command
 meant (asked.Check r1cs wtns) = check r1cs.now wtns.now
+meant (asked.Compile source out) = compile source.now out.now

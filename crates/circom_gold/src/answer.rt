@@ -10,6 +10,8 @@ pub enum Answer {
     StoreFailed,
     Refused(Refusal),
     Checked(Verdict),
+    /// The file is written.
+    Compiled { wires: u32, constraints: u32 },
 }
 
 /// Why a command refuses what it was given.
@@ -24,6 +26,8 @@ pub enum Refusal {
         cause: FileCause,
         offset: u64,
     },
+    /// What is wrong with a source, and where.
+    BadSource(cir_ast::Refusal),
 }
 
 /// What `check` finds.

@@ -13,7 +13,7 @@ use out_io::Store;
 use std::alloc::Global;
 
 // The bytes under the name.
-fn bytes_in<S: Store>(alloc: Global, store: &mut S, name: &str) -> Result<Vec<u8>, Stop>
+pub fn bytes_in<S: Store>(alloc: Global, store: &mut S, name: &str) -> Result<Vec<u8>, Stop>
     ensures step { Steps (λ v. v.items) (S.contents store.old) (λ files. bytes_in files name.now)
         (Rose (S.faults store.old) (S.faults store.new)) result }
     ensures store { OnlyReads (S.contents store.old) (S.contents store.new)

@@ -4,10 +4,12 @@
 
 mod answer;
 mod check;
+mod compile;
 mod inputs;
 mod laws;
 mod lines;
 mod program;
+mod sources;
 mod stop;
 mod words;
 

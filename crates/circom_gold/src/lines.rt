@@ -1,7 +1,8 @@
 ghost use Rattle.std.specs.Prelude.{◌≡◌, map, IfOk};
-ghost use Rattle.circom_gold.specs.Lines.{line, bad_file_line, cause_text};
+ghost use Rattle.circom_gold.specs.Lines.{line, line_of, bad_file_line, cause_text};
 
 use crate::answer::{Answer, Refusal, Verdict};
+use crate::sources::source_line;
 use iden_files::FileCause;
 use std::alloc::{AllocError, Global};
 
@@ -19,6 +20,7 @@ impl Answer {
             Answer::StoreFailed => 3,
             Answer::Refused(_) => 1,
             Answer::Checked(verdict) => verdict.status(),
+            Answer::Compiled { .. } => 0,
         }
     }
 
@@ -31,6 +33,7 @@ impl Answer {
             Answer::StoreFailed => line(alloc, &[b"fault: store"]),
             Answer::Refused(refusal) => refusal.line(alloc),
             Answer::Checked(verdict) => verdict.line(alloc),
+            Answer::Compiled { wires, constraints } => compiled_line(alloc, *wires, *constraints),
         }
     }
 }
@@ -53,6 +56,7 @@ impl Refusal {
                 let offset = format!(in alloc; "{offset}")?;
                 bad_file_line(alloc, name.as_slice(), cause_text(*cause), offset.as_str())
             }
+            Refusal::BadSource(refusal) => source_line(alloc, refusal),
         }
     }
 }
@@ -137,8 +141,24 @@ fn cause_text(cause: FileCause) -> &'static str
     }
 }
 
+fn compiled_line(alloc: Global, wires: u32, constraints: u32) -> Result<Vec<u8>, AllocError>
+    ensures { IfOk result (λ v. v.items ≡ line_of (Answer.Compiled wires constraints)) }
+{
+    let wires = format!(in alloc; "{wires}")?;
+    let constraints = format!(in alloc; "{constraints}")?;
+    line(
+        alloc,
+        &[
+            b"compiled: wires ",
+            wires.as_bytes(),
+            b", constraints ",
+            constraints.as_bytes(),
+        ],
+    )
+}
+
 // The parts one after another, and a line feed.
-fn line(alloc: Global, parts: &[&[u8]]) -> Result<Vec<u8>, AllocError>
+pub fn line(alloc: Global, parts: &[&[u8]]) -> Result<Vec<u8>, AllocError>
     ensures { IfOk result (λ v. v.items ≡ line (map (λ part. part.now) parts.now)) }
 {
     let mut bytes = Vec::new(alloc);

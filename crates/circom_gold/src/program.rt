@@ -1,15 +1,17 @@
 ghost use Rattle.std.specs.Prelude.{◌≡◌, ◌≤◌, ◌⊎◌, ◌≢◌, [], None, Some, IfOk};
+ghost use Rattle.out_io.specs.Contents.{Changes};
 ghost use Rattle.out_io.specs.Faults.{Rose};
 ghost use Rattle.out_io.specs.Memory.{files_of};
 ghost use Rattle.out_io.specs.Written.{IsAppended, IsAppendedInPart};
+ghost use Rattle.circom_gold.specs.Compile.{Counting, IsCompileAnswer, MayWriteFile};
 ghost use Rattle.circom_gold.specs.Lines.{line_of};
-ghost use Rattle.circom_gold.specs.Reply.{Says, Answers, Puts, PutsFront, answer_of};
-ghost use Rattle.circom_gold.specs.Steps.{Told, OnlyReads};
+ghost use Rattle.circom_gold.specs.Reply.{Says, SaysOr, IsCheckAnswer, Answers, Replies, Puts, PutsFront, MayWrite};
 ghost use Rattle.circom_gold.specs.Words.{texts, command_of};
 ghost use Rattle.circom_gold.specs.declared.answer.Answer.TheVariants.{Usage, StoreFailed};
 
 use crate::answer::Answer;
 use crate::check::check;
+use crate::compile::compile;
 use crate::stop::Stop;
 use crate::words::Command;
 use out_io::{IoFault, MemSink, MemStore, Sink, Store};
@@ -20,8 +22,8 @@ const FAULT: u8 = 3;
 
 /// Does what the words ask for, and gives the exit status:
 ///
-/// - 0: success; the values satisfy the constraints
-/// - 1: a file is refused
+/// - 0: success; the values satisfy the constraints, or the file is written
+/// - 1: a file or a source is refused
 /// - 2: the values don't satisfy the constraints
 /// - 3: a call to the store or the sink failed
 /// - 64: the words have no reading
@@ -33,10 +35,12 @@ pub fn run<S: Store, K: Sink>(
     store: &mut S,
     out: &mut K,
 ) -> Result<u8, AllocError>
-    // Where no call failed, the status and the line are those of the answer to the words over the files.
+    // Where no call failed, the status, the line and the files are those of the answer to the words over the
+    // files. Of `compile`, values satisfy the file that it writes exactly when they extend to an assignment
+    // that satisfies the source.
     ensures reply { IfOk result (λ exit.
         ¬ Rose (S.faults store.old) (S.faults store.new) → ¬ Rose (K.faults out.old) (K.faults out.new)
-        → Told (S.contents store.old) (λ files. Answers (answer_of files (texts words.now)) (K.contents out.old) (K.contents out.new) exit)) }
+        → Changes (Replies (command_of (texts words.now)) (K.contents out.old) (K.contents out.new) exit) (S.contents store.old) (S.contents store.new)) }
 
     // 64 and the usage line where the words have no reading, unless the sink failed; 64 only there.
     ensures usage { command_of (texts words.now) ≡ None
@@ -49,11 +53,12 @@ pub fn run<S: Store, K: Sink>(
         ⊎ Rose (K.faults out.old) (K.faults out.new)) }
 
     // Whatever comes, for want of memory too, what was put is a front of the line.
-    ensures front { Told (S.contents store.old) (λ files. PutsFront (answer_of files (texts words.now))
-        (Rose (S.faults store.old) (S.faults store.new)) (K.contents out.old) (K.contents out.new)) }
+    ensures front { Changes (PutsFront (command_of (texts words.now)) (Rose (S.faults store.old) (S.faults store.new)) (K.contents out.old) (K.contents out.new))
+        (S.contents store.old) (S.contents store.new) }
 
-    // No command writes a file.
-    ensures same { S.contents store.new ≡ S.contents store.old }
+    // Whatever comes, no file changes but the one that the command writes, which is as before, or the
+    // command's file, or a prefix of it.
+    ensures kept { Changes (λ files after. MayWrite files (command_of (texts words.now)) after) (S.contents store.old) (S.contents store.new) }
 
     // The counts of faults never fall, and stand still where no call fails.
     ensures store_later { S.faults store.old ≤ S.faults store.new }
@@ -76,8 +81,8 @@ pub fn run_in_memory(
     requires store_faults { store.old.faults ≡ 0 }
     requires out { out.old.fail.items ≡ [] }
     requires out_faults { out.old.faults ≡ 0 }
-    ensures reply { IfOk result (Answers (answer_of (files_of store.old.files) (texts words.now))
-        (Some out.old.bytes.items) (Some out.new.bytes.items)) }
+    ensures reply { IfOk result (λ exit. Replies (command_of (texts words.now))
+        (Some out.old.bytes.items) (Some out.new.bytes.items) exit (files_of store.old.files) (files_of store.new.files)) }
     ensures no_fault { IfOk result (λ exit. exit ≢ 3) }
 {
     run(alloc, words, store, out)
@@ -85,19 +90,59 @@ pub fn run_in_memory(
 
 // The answer to the words.
 fn answer_to<S: Store>(alloc: Global, words: &[String], store: &mut S) -> Result<Answer, AllocError>
-    ensures says { IfOk result (Says (S.contents store.old) (texts words.now) (Rose (S.faults store.old) (S.faults store.new))) }
+    ensures says { IfOk result (Says (S.contents store.old) (S.contents store.new) (command_of (texts words.now)) (Rose (S.faults store.old) (S.faults store.new))) }
     ensures usage { command_of (texts words.now) ≡ None → IfOk result (λ answer. answer ≡ Usage) }
     ensures only_usage { IfOk result (λ answer. answer ≡ Usage → command_of (texts words.now) ≡ None) }
     ensures fault { IfOk result (λ answer. answer ≡ StoreFailed → Rose (S.faults store.old) (S.faults store.new)) }
-    ensures store { OnlyReads (S.contents store.old) (S.contents store.new)
-        (S.faults store.old) (S.faults store.new) (S.never_fails store.old) (S.never_fails store.new) }
+    ensures kept { Changes (λ files after. MayWrite files (command_of (texts words.now)) after) (S.contents store.old) (S.contents store.new) }
+    ensures counting { Counting (S.faults store.old) (S.faults store.new) (S.never_fails store.old) (S.never_fails store.new) }
 {
-    let found = match Command::of(words) {
-        None => return Ok(Answer::Usage),
-        Some(Command::Check { r1cs, wtns }) => check(alloc, r1cs, wtns, store),
-    };
-    match found {
+    match Command::of(words) {
+        None => Ok(Answer::Usage),
+        Some(Command::Check { r1cs, wtns }) => check_answer(alloc, r1cs, wtns, store),
+        Some(Command::Compile { source, out }) => compile_answer(alloc, source, out, store),
+    }
+}
+
+fn check_answer<S: Store>(
+    alloc: Global,
+    r1cs: &str,
+    wtns: &str,
+    store: &mut S,
+) -> Result<Answer, AllocError>
+    ensures says { IfOk result (SaysOr (Rose (S.faults store.old) (S.faults store.new)) (λ answer.
+        Changes (λ files after. IsCheckAnswer files r1cs.now wtns.now after answer) (S.contents store.old) (S.contents store.new))) }
+    ensures no_usage { IfOk result (λ answer. answer ≢ Usage) }
+    ensures fault { IfOk result (λ answer. answer ≡ StoreFailed → Rose (S.faults store.old) (S.faults store.new)) }
+    ensures same { S.contents store.new ≡ S.contents store.old }
+    ensures counting { Counting (S.faults store.old) (S.faults store.new) (S.never_fails store.old) (S.never_fails store.new) }
+{
+    match check(alloc, r1cs, wtns, store) {
         Ok(verdict) => Ok(Answer::Checked(verdict)),
+        Err(Stop::Refused(refusal)) => Ok(Answer::Refused(refusal)),
+        Err(Stop::StoreFailed) => Ok(Answer::StoreFailed),
+        Err(Stop::OutOfMemory) => Err(AllocError),
+    }
+}
+
+fn compile_answer<S: Store>(
+    alloc: Global,
+    source: &str,
+    out: &str,
+    store: &mut S,
+) -> Result<Answer, AllocError>
+    ensures says { IfOk result (SaysOr (Rose (S.faults store.old) (S.faults store.new)) (λ answer.
+        Changes (λ files after. IsCompileAnswer files source.now out.now after answer) (S.contents store.old) (S.contents store.new))) }
+    ensures no_usage { IfOk result (λ answer. answer ≢ Usage) }
+    ensures fault { IfOk result (λ answer. answer ≡ StoreFailed → Rose (S.faults store.old) (S.faults store.new)) }
+    ensures kept { Changes (λ files after. MayWriteFile files source.now out.now after) (S.contents store.old) (S.contents store.new) }
+    ensures counting { Counting (S.faults store.old) (S.faults store.new) (S.never_fails store.old) (S.never_fails store.new) }
+{
+    match compile(alloc, source, out, store) {
+        Ok(written) => Ok(Answer::Compiled {
+            wires: written.wires,
+            constraints: written.constraints,
+        }),
         Err(Stop::Refused(refusal)) => Ok(Answer::Refused(refusal)),
         Err(Stop::StoreFailed) => Ok(Answer::StoreFailed),
         Err(Stop::OutOfMemory) => Err(AllocError),

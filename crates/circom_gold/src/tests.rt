@@ -151,3 +151,82 @@ fn words_without_a_reading_get_the_usage_line(rt: HostRuntime) -> Result<(), Fai
     }
     Ok(())
 }
+
+const PRODUCT: &str = "template Mul() {
+  signal input a;
+  signal input b;
+  signal output c;
+  c <== a*b;
+}
+component main = Mul();
+";
+
+const CUBIC: &str = "template T() {
+  signal input a; signal input b; signal input c; signal output out;
+  out <== a*b*c;
+}
+component main = T();
+";
+
+const DIFFERENT: &str = "template T() { signal input a; signal output b; b <== a; 1 === 2; }
+component main = T();
+";
+
+// A store of one source.
+fn source_store(alloc: Global, source: &str) -> Result<MemStore, Fail> {
+    let mut store = MemStore::new(alloc);
+    store.files.insert(
+        String::from_str(alloc, "t.circom")?,
+        Vec::from_slice(alloc, source.as_bytes())?,
+    )?;
+    Ok(store)
+}
+
+#[test]
+fn compile_writes_a_file_that_check_accepts(rt: HostRuntime) -> Result<(), Fail> {
+    let alloc = rt.alloc();
+    let mut store = source_store(alloc, PRODUCT)?;
+    let mut out = MemSink::new(alloc);
+    let words = split(alloc, "compile t.circom m.r1cs")?;
+    assert_eq!(rt; run(alloc, words.as_slice(), &mut store, &mut out)?, 0);
+    assert_eq!(rt;
+        out.bytes.as_slice(),
+        b"compiled: wires 4, constraints 1\n".as_slice()
+    );
+    assert_eq!(rt; out.calls, 1);
+    store.files.insert(
+        String::from_str(alloc, "m.wtns")?,
+        wtns(alloc, &[1, 33, 3, 11])?,
+    )?;
+    let mut out = MemSink::new(alloc);
+    let words = split(alloc, "check m.r1cs m.wtns")?;
+    assert_eq!(rt; run(alloc, words.as_slice(), &mut store, &mut out)?, 0);
+    assert_eq!(rt; out.bytes.as_slice(), b"satisfied\n".as_slice());
+    Ok(())
+}
+
+#[test]
+fn compile_says_why_a_source_is_refused(rt: HostRuntime) -> Result<(), Fail> {
+    let alloc = rt.alloc();
+    let words = split(alloc, "compile t.circom m.r1cs")?;
+    for (source, status, line) in [
+        (
+            CUBIC,
+            1,
+            "refused: E11 NonQuadratic at t.circom:3:3 in main\n",
+        ),
+        (DIFFERENT, 0, "compiled: wires 3, constraints 2\n"),
+        (
+            "component main = T();",
+            1,
+            "refused: E21 NotInProfile Unbuilt at t.circom:1:1 in -\n",
+        ),
+    ] {
+        let mut store = source_store(alloc, source)?;
+        let mut out = MemSink::new(alloc);
+        assert_eq!(rt; run(alloc, words.as_slice(), &mut store, &mut out)?, status);
+        assert_eq!(rt; out.bytes.as_slice(), line.as_bytes());
+        assert_eq!(rt; out.calls, 1);
+    }
+    Ok(())
+}

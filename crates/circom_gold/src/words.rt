@@ -6,10 +6,11 @@ ghost use Rattle.circom_gold.specs.Words.{is_name};
 #[derive(Clone, Copy, Debug, PartialEq, Eq)]
 pub enum Command<'w> {
     Check { r1cs: &'w str, wtns: &'w str },
+    Compile { source: &'w str, out: &'w str },
 }
 
 impl<'w> Command<'w> {
-    ghost use Rattle.circom_gold.specs.Words.{texts, command_of, check_words, meant};
+    ghost use Rattle.circom_gold.specs.Words.{texts, command_of, check_words, compile_words, meant};
 
     /// `None` exactly where the words have no reading.
     pub fn of(words: &'w [String]) -> Option<Command<'w>>
@@ -17,6 +18,7 @@ impl<'w> Command<'w> {
     {
         match words {
             [name, others @ ..] if name.as_str() == "check" => Command::of_check(others),
+            [name, others @ ..] if name.as_str() == "compile" => Command::of_compile(others),
             _ => None,
         }
     }
@@ -29,6 +31,19 @@ impl<'w> Command<'w> {
             [r1cs, wtns] if is_name(r1cs) && is_name(wtns) => Some(Command::Check {
                 r1cs: r1cs.as_str(),
                 wtns: wtns.as_str(),
+            }),
+            _ => None,
+        }
+    }
+
+    // The words behind `compile`.
+    fn of_compile(words: &'w [String]) -> Option<Command<'w>>
+        ensures { option_map meant result ≡ compile_words (texts words.now) }
+    {
+        match words {
+            [source, out] if is_name(source) && is_name(out) => Some(Command::Compile {
+                source: source.as_str(),
+                out: out.as_str(),
             }),
             _ => None,
         }
