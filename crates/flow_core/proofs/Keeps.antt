@@ -13,7 +13,7 @@ use Rattle.flow_core.specs.Counts.{times}
 use Rattle.flow_core.specs.Net.{Net, IsNet, writes_of, preds_of, succs_of}
 use Rattle.flow_core.specs.Flow.{Flow, IsFlow, Refuses, Gives, HasValue, start_of, answer_of}
 use Rattle.flow_core.specs.Core.{missing_of, phase_of, published_at, released_at, releases, HoldsValues, AnswersKept, IsSound, IsKept}
-use Rattle.flow_core.specs.Events.{holding, is_waiting, can_publish, can_release, can_finish, can_refuse, is_enabled, turned, published, released, refused, after, after_all, opening, IsHonest, AreHonest}
+use Rattle.flow_core.specs.Events.{holding, is_waiting, can_publish, can_release, can_finish, can_refuse, is_enabled, turned, published, released, refused, after, after_all, opening, opening_of, CanStart, IsHonest, AreHonest}
 use Rattle.flow_core.proofs.Totals.{total_none, is_in_at}
 use Rattle.flow_core.proofs.Lists.{set_all, get_or-all_same, get_or-map_length}
 use Rattle.flow_core.proofs.Steady.{awaited, Steady, steady, sound, turns, refuses, releases_next, publishes_next}
@@ -118,24 +118,30 @@ keeps_all f ok flow s h (e ∷ es) says = let st = steady f.net s h.sound in let
     let hon = keeps_honest f ok flow s st record { holds_values = h.holds_values; answers_kept = h.answers_kept } e says.0 in
     keeps_all f ok flow next record { sound = sound f.net next (keeps_steady f.net ok s st e); holds_values = hon.holds_values; answers_kept = hon.answers_kept } es says.1
 
-waits_at_first : (f : Flow) (k : ℕ) → phase_of (opening f) k ≡ Waiting
-waits_at_first f k = get_or-all_same f.net.strands k Waiting
+pub waits_first : (n : Net) (start : List (Option ℕ)) (k : ℕ) → phase_of (opening_of n start) k ≡ Waiting
+waits_first n start k = get_or-all_same n.strands k Waiting
+
+pub waits_at_first : (f : Flow) (k : ℕ) → phase_of (opening f) k ≡ Waiting
+waits_at_first f k = waits_first f.net f.start k
+
+pub opens_sound : (n : Net) (start : List (Option ℕ)) → IsNet n → CanStart n start → IsSound n (opening_of n start)
+opens_sound n start ok can = let s : State = opening_of n start in let waits = waits_first n start in record {
+  fits = record { cells_each = can.each; missing_each = length-map n.preds length ∙ ok.preds_each; phase_each = length-replicate n.strands Waiting };
+  holds_one = λ w j k a b a' b' e e'. let x = waits j in cc;
+  counts_missing = λ k _. let m = get_or-map_length n.preds k in
+      let none = total_none (releases n s k) (preds_of n k) (λ p. ap (λ (q : Phase). times k (take (released_at n p q) (succs_of n p))) (waits p)) in omega arith;
+  begun_released = λ k e. absurd (e (waits k));
+  fills_first = record {
+    filled = λ k i lt. ap is_some (can.free k (get_or (writes_of n k) i 0) (is_in_at (writes_of n k) i lt)) ∙ sym (le-ltb i 0 (omega arith)) ∙ ap (λ (q : Phase). nat_lt i (published_at n k q)) (sym (waits k));
+    few = λ k w a b e. let x = waits k in cc;
+    published_first = λ k w a b e. let x = waits k in cc;
+  };
+  least_refused = λ k e. let x = waits k in cc;
+}
 
 pub opens : (f : Flow) → IsNet f.net → IsFlow f → IsKept f (opening f)
-opens f ok flow = let s : State = opening f in let waits = waits_at_first f in record {
-  sound = record {
-    fits = record { cells_each = flow.start_each; missing_each = length-map f.net.preds length ∙ ok.preds_each; phase_each = length-replicate f.net.strands Waiting };
-    holds_one = λ w j k a b a' b' e e'. let x = waits j in cc;
-    counts_missing = λ k _. let m = get_or-map_length f.net.preds k in
-        let none = total_none (releases f.net s k) (preds_of f.net k) (λ p. ap (λ (q : Phase). times k (take (released_at f.net p q) (succs_of f.net p))) (waits p)) in omega arith;
-    begun_released = λ k e. absurd (e (waits k));
-    fills_first = record {
-      filled = λ k i lt. ap is_some (flow.written_no_start k (get_or (writes_of f.net k) i 0) (is_in_at (writes_of f.net k) i lt)) ∙ sym (le-ltb i 0 (omega arith)) ∙ ap (λ (q : Phase). nat_lt i (published_at f.net k q)) (sym (waits k));
-      few = λ k w a b e. let x = waits k in cc;
-      published_first = λ k w a b e. let x = waits k in cc;
-    };
-    least_refused = λ k e. let x = waits k in cc;
-  };
+opens f ok flow = let waits = waits_at_first f in record {
+  sound = opens_sound f.net f.start ok record { each = flow.start_each; free = flow.written_no_start };
   holds_values = record { starts = λ c x e. e; values = λ c x e. inl e };
   answers_kept = record { done_gives = λ k e. let x = waits k in cc; refused_refuses = λ k e. let x = waits k in cc };
 }

@@ -6,3 +6,8 @@ pub mod Keeps
 pub mod Nets
 pub mod Steps
 pub mod Rests
+pub mod Marks
+pub mod Rising
+pub mod Linked
+pub mod Draws
+pub mod Starts

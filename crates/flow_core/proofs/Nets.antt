@@ -21,3 +21,6 @@ succs_near n ok p k h = let inv = ok.inverse p k in let each = ok.preds_each in 
 
 pub succs_few : (n : Net) → IsNet n → (p : ℕ) → length (succs_of n p) ≤ n.strands
 succs_few n ok p = length_le n.strands (succs_of n p) (λ k. let inv = ok.inverse p k in let once = ok.preds_once p k in omega arith) (λ k h. succs_near n ok p k h)
+
+pub preds_few : (n : Net) → IsNet n → (k : ℕ) → length (preds_of n k) ≤ k
+preds_few n ok k = length_le k (preds_of n k) (λ p. ok.preds_once p k) (λ p h. ok.preds_below p k h)

@@ -111,7 +111,7 @@ least_more (Some l) f g r here there back h = (
 received_same : (n : Net) (s t : State) → ((p : ℕ) → released_at n p (phase_of t p) ≡ released_at n p (phase_of s p)) → (k : ℕ) → received n t k ≡ received n s k
 received_same n s t e k = total_same (releases n t k) (releases n s k) (preds_of n k) (λ p. ap (λ (m : ℕ). times k (take m (succs_of n p))) (e p))
 
-release_le : (n : Net) (ok : IsNet n) (s : State) (k p : ℕ) → releases n s k p ≤ 1
+pub release_le : (n : Net) (ok : IsNet n) (s : State) (k p : ℕ) → releases n s k p ≤ 1
 release_le n ok s k p =
     let a = times_take-le k (released_at n p (phase_of s p)) (succs_of n p) in let e = ok.inverse p k in let b = ok.preds_once p k in omega arith
 

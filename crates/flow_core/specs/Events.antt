@@ -1,5 +1,5 @@
 -- The five events: where each is enabled, and what it does
-use Rattle.std.specs.Prelude.{◌≡◌, ℕ, ◌+◌, ◌-◌, ◌<◌, ◌≤◌, Bool, true, false, cond, ◌&&◌, IsTrue, nat_lt, ◌==◌, min, List, [], ◌∷◌, map, length, replicate, slice_index, slice_set, Option, Some, None, is_none, ⊤}
+use Rattle.std.specs.Prelude.{◌≡◌, ℕ, ◌+◌, ◌-◌, ◌<◌, ◌≤◌, Bool, true, false, cond, ◌&&◌, IsTrue, nat_lt, ◌==◌, min, List, [], ◌∷◌, map, length, replicate, slice_index, slice_index_or, slice_set, Option, Some, None, is_none, ⊤}
 use Rattle.std.specs.Option.{option_map_or}
 use Rattle.flow_core.specs.declared.state.Phase.{Phase}
 use Rattle.flow_core.specs.declared.state.Phase.TheVariants.{Waiting, Held, Done, Refused}
@@ -7,6 +7,7 @@ use Rattle.flow_core.specs.declared.state.Event.{Event}
 use Rattle.flow_core.specs.declared.state.Event.TheVariants.{Take, Publish, Release, Finish, Refuse}
 use Rattle.flow_core.specs.declared.state.State.{State}
 use Rattle.flow_core.specs.declared.state.Hold.{Hold}
+use Rattle.flow_core.specs.Counts.{IsIn}
 use Rattle.flow_core.specs.Net.{Net, writes_of, succs_of}
 use Rattle.flow_core.specs.Flow.{Flow, Refuses, Gives, answer_of}
 use Rattle.flow_core.specs.Core.{missing_of, phase_of}
@@ -105,8 +106,16 @@ after_all n s [] = s
 after_all n s (e ∷ es) = after_all n (after n s e) es
 
 -- the start cells are filled, each strand waits for all its predecessors, and none is refused
+abbrev pub opening_of : Net → List (Option ℕ) → State
+opening_of n start = record { cells = start; missing = map length n.preds; phase = replicate n.strands Waiting; least = None }
+
 abbrev pub opening : Flow → State
-opening f = record { cells = f.start; missing = map length f.net.preds; phase = replicate f.net.strands Waiting; least = None }
+opening f = opening_of f.net f.start
+
+-- the start values have one place for each cell, which is None where a strand writes the cell
+pub record CanStart (n : Net) (start : List (Option ℕ)) : Type 0 where
+  pub each : length start ≡ n.cells
+  pub free : (k c : ℕ) → IsIn c (writes_of n k) → slice_index_or start c None ≡ None
 
 -- An event is honest for the answers where a published value is the answer's next one, a refused strand's answer is a refusal, and the answer of a strand that publishes, releases or finishes is a list
 abbrev pub IsHonestOf : Flow → Event → Hold → Type 0

@@ -4,3 +4,4 @@ pub mod Flow
 pub mod Core
 pub mod Events
 pub mod Quiet
+pub mod Drawn

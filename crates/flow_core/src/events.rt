@@ -60,8 +60,7 @@ fn held(graph: &Graph, state: &State, worker: u32) -> Option<Hold>
     ensures cells { graph.now.cells < 2 ^ 32 }
     ensures strands { graph.now.strands < 2 ^ 32 }
 {
-    let _cells = graph.cells;
-    let _strands = graph.strands;
+    graph.facts();
     state.holding(worker)
 }
 

@@ -31,8 +31,18 @@ impl Model for Graph {
 }
 
 impl Graph {
-    ghost use Rattle.std.specs.Prelude.{◌≡◌, ◌<◌};
-    ghost use Rattle.flow_core.specs.Net.{reads_of, writes_of, preds_of, succs_of};
+    ghost use Rattle.std.specs.Prelude.{◌≡◌, ◌<◌, ◌^◌};
+    ghost use Rattle.flow_core.specs.Net.{IsNet, reads_of, writes_of, preds_of, succs_of};
+
+    /// Does nothing: its clauses tell a caller what the type keeps.
+    pub fn facts(&self)
+        ensures net { IsNet self.now }
+        ensures strands { self.now.strands < 2 ^ 32 }
+        ensures cells { self.now.cells < 2 ^ 32 }
+    {
+        let _strands = self.strands;
+        let _cells = self.cells;
+    }
 
     /// The cells that a strand reads.
     pub fn reads_of(&self, strand: u32) -> &[u32]

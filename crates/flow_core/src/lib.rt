@@ -3,12 +3,17 @@
 #![tactic(auto)]
 
 mod at_rest;
+mod drawing;
 mod events;
 mod graph;
 mod laws;
+mod linking;
 mod state;
+#[cfg(test)]
+mod tests;
 
 pub use at_rest::quiet;
+pub use drawing::GraphFault;
 pub use events::step;
 pub use graph::Graph;
 pub use laws::{

@@ -1,8 +1,12 @@
-ghost use Rattle.std.specs.Prelude.{◌≡◌, ◌<◌, ◌^◌, length, IfOk};
-ghost use Rattle.flow_core.specs.Events.{holding};
+ghost use Rattle.std.specs.Prelude.{◌≡◌, ◌<◌, ◌^◌, length, map, IfOk, IfSome, MatchOption, ⊤};
+ghost use Rattle.std.specs.Bool.{MatchBool};
+ghost use Rattle.flow_core.specs.Core.{IsSound};
+ghost use Rattle.flow_core.specs.Events.{holding, opening_of, CanStart};
 
+use crate::graph::Graph;
 use gold_field::Gold;
 use items::Items;
+use std::alloc::{AllocError, Global};
 
 /// Where a strand stands.
 #[derive(Clone, Copy, Debug, PartialEq, Eq)]
@@ -58,7 +62,61 @@ pub struct State {
     pub least: Option<u32>,
 }
 
+/// Whether every cell that a strand writes is without a start value.
+fn leaves_written(graph: &Graph, start: &[Option<Gold>]) -> bool
+    requires { length start.now ≡ graph.now.cells }
+    ensures { MatchBool result (CanStart graph.now start.now) (CanStart graph.now start.now → ⊥) }
+{
+    graph.facts();
+    for strand in 0..graph.strands {
+        for cell in graph.writes_of(strand) {
+            if start[*cell as usize].is_some() {
+                return false;
+            }
+        }
+    }
+    true
+}
+
+/// How many predecessors each strand has.
+fn missing_counts(alloc: Global, graph: &Graph) -> Result<Vec<u32>, AllocError>
+    ensures { IfOk result (λ counts. counts.items ≡ map length graph.now.preds) }
+{
+    graph.facts();
+    let mut counts = Vec::with_capacity(alloc, graph.strands as usize)?;
+    for strand in 0..graph.strands {
+        counts.push(graph.preds_of(strand).len() as u32)?;
+    }
+    Ok(counts)
+}
+
 impl State {
+    /// The state before the first event. `start` has one place for each cell: its start value, or None
+    /// where a strand writes it. None where it has another length, or a value for such a cell.
+    pub fn opening(
+        alloc: Global,
+        graph: &Graph,
+        start: &[Option<Gold>],
+    ) -> Result<Option<State>, AllocError>
+        ensures value { IfOk result (λ o. IfSome o (λ s. s ≡ opening_of graph.now start.now)) }
+        ensures sound { IfOk result (λ o. IfSome o (IsSound graph.now)) }
+        ensures none { IfOk result (λ o. MatchOption o (CanStart graph.now start.now → ⊥) (λ _. ⊤)) }
+    {
+        graph.facts();
+        if start.len() != graph.cells as usize || !leaves_written(graph, start) {
+            return Ok(None);
+        }
+        let cells = Items::from_slice(alloc, start)?;
+        let missing = missing_counts(alloc, graph)?;
+        let phase = vec![in alloc; Phase::Waiting; graph.strands as usize]?;
+        Ok(Some(State {
+            cells,
+            missing: Items::of(missing),
+            phase: Items::of(phase),
+            least: None,
+        }))
+    }
+
     /// The strand that a worker holds, found by a look at each strand in turn: a worker's number may
     /// be any, and a step takes no memory in which an index could be kept.
     pub fn holding(&self, worker: u32) -> Option<Hold>

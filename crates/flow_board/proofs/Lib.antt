@@ -1,0 +1,11 @@
+pub mod Kept
+pub mod Views
+pub mod Moved
+pub mod Showing
+pub mod Steps
+pub mod Sharing
+pub mod Ends
+pub mod Calls
+pub mod Openings
+pub mod Makes
+pub mod Who

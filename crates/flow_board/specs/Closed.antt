@@ -1,0 +1,52 @@
+-- What the words of a closed board show, and how they are read
+use Rattle.std.specs.Prelude.{◌≡◌, ◌≢◌, ℕ, ◌+◌, ◌-◌, ◌<◌, ◌≤◌, ◌==◌, Bool, cond, List, length, slice_index, Option, Some, None}
+use Rattle.gold_field.specs.declared.gold.TheConstants.{P}
+use Rattle.flow_core.specs.declared.Phase.TheVariants.{Held}
+use Rattle.flow_core.specs.declared.State.{State}
+use Rattle.flow_core.specs.Counts.{times, IsIn}
+use Rattle.flow_core.specs.Flow.{Flow, Gives, answer_of}
+use Rattle.flow_core.specs.Core.{phase_of, IsKept}
+use Rattle.flow_board.specs.declared.rule.TheConstants.{TAKEN}
+use Rattle.flow_board.specs.Shows.{cell_at, Shows}
+use Rattle.flow_board.specs.Rule.{done_mark, refused_mark}
+
+-- the words show a state that keeps the core's invariant, in which no strand is held, and the done and refused strands are the two lists
+pub record Closes (f : Flow) (done refused ws : List ℕ) : Type 0 where
+  pub core : State
+  pub kept : IsKept f core
+  pub shows : Shows f core ws
+  pub none_held : (k j a b : ℕ) → phase_of core k ≢ Held j a b
+  pub done_is : (k : ℕ) → times k done ≡ done_mark (phase_of core k)
+  pub refused_is : (k : ℕ) → times k refused ≡ refused_mark (phase_of core k)
+
+-- the closed words of a board
+pub record Closing : Type 0 where
+  pub cells : ℕ
+  pub strands : ℕ
+  pub words : List ℕ
+
+abbrev pub closing : ℕ → ℕ → List ℕ → Closing
+closing c k ws = record { cells = c; strands = k; words = ws }
+
+-- each cell's word has a number of the field, if any
+pub record IsClosing (w : Closing) : Type 0 where
+  pub wide : length w.words ≡ 1 + w.cells + w.strands
+  pub cells_below : (c : ℕ) → c < w.cells → slice_index w.words (cell_at c) ≤ P
+  pub least_below : slice_index w.words 0 ≤ w.strands
+  pub narrow : w.strands < 4294967296
+
+-- a cell's value, a strand that is taken, and the least refused strand
+abbrev pub cell_in : Closing → ℕ → Option ℕ
+cell_in w c = cond (slice_index w.words (cell_at c) == 0) None (Some (slice_index w.words (cell_at c) - 1))
+
+abbrev pub done_in : Closing → ℕ → Bool
+done_in w k = slice_index w.words (1 + w.cells + k) == TAKEN
+
+abbrev pub least_in : Closing → Option ℕ
+least_in w = cond (slice_index w.words 0 == w.strands) None (Some (slice_index w.words 0))
+
+-- a strand below the least refused one whose word is TAKEN is done, so its answer is a list
+pub record IsDoneBelow (f : Flow) (done : List ℕ) (k : ℕ) : Type 0 where
+  pub listed : IsIn k done
+  pub values : List ℕ
+  pub gives : answer_of f k ≡ Gives values

@@ -1,0 +1,90 @@
+-- What each step tells its caller: of the step, the seat before, the word found and the seat after
+use Rattle.std.specs.Prelude.{◌≡◌, ℕ, ◌+◌, ◌<◌, ◌≤◌, ◌==◌, min, cond, List, ◌∷◌, length, slice_index, Option, Some, None}
+use mathlib.Core.Option.{some}
+use Rattle.atomic_table.specs.Table.{Me, Step}
+use Rattle.flow_core.specs.declared.Hold.{Hold}
+use Rattle.flow_core.specs.Counts.{IsIn}
+use Rattle.flow_core.specs.Net.{reads_of, succs_of}
+use Rattle.flow_core.specs.Flow.{Flow, Refuses, Gives, answer_of, HasValue}
+use Rattle.flow_core.specs.Events.{hold}
+use Rattle.flow_board.specs.declared.view.View.{View}
+use Rattle.flow_board.specs.Shows.{cell_at}
+
+abbrev pub Sat : Type 0
+Sat = Me ℕ View
+
+abbrev pub Told : Type 1
+Told = Step ℕ → Sat → ℕ → Sat → Type 0
+
+-- the strand that is held reads the cell
+abbrev pub Reads : Flow → Option Hold → ℕ → Type 0
+Reads f o c = (h : Hold) × (o ≡ Some h) × IsIn c (reads_of f.net h.strand)
+
+-- the next cell of the strand that is held gets the value x
+pub record CanPublish (f : Flow) (o : Option Hold) (x : ℕ) : Type 0 where
+  pub held : Hold
+  pub holds : o ≡ Some held
+  pub values : List ℕ
+  pub gives : answer_of f held.strand ≡ Gives values
+  pub left : held.published < length values
+  pub next : slice_index values held.published ≡ x
+
+-- the strand that is held has published all, and a successor is left
+pub record CanRelease (f : Flow) (o : Option Hold) : Type 0 where
+  pub held : Hold
+  pub holds : o ≡ Some held
+  pub values : List ℕ
+  pub gives : answer_of f held.strand ≡ Gives values
+  pub all_published : held.published ≡ length values
+  pub left : held.released < length (succs_of f.net held.strand)
+
+-- the strand that is held has published and released all
+pub record CanFinish (f : Flow) (o : Option Hold) : Type 0 where
+  pub held : Hold
+  pub holds : o ≡ Some held
+  pub values : List ℕ
+  pub gives : answer_of f held.strand ≡ Gives values
+  pub all_published : held.published ≡ length values
+  pub all_released : held.released ≡ length (succs_of f.net held.strand)
+
+-- the strand that is held has published nothing, and its answer is a refusal
+pub record CanRefuse (f : Flow) (o : Option Hold) : Type 0 where
+  pub held : Hold
+  pub holds : o ≡ Some held
+  pub none_published : held.published ≡ 0
+  pub refuses : answer_of f held.strand ≡ Refuses
+
+abbrev pub one_published : Option Hold → Option Hold
+one_published None = None
+one_published (Some h) = Some (hold h.strand (h.published + 1) h.released)
+
+abbrev pub one_released : Option Hold → Option Hold
+one_released None = None
+one_released (Some h) = Some (hold h.strand h.published (h.released + 1))
+
+-- the strand that is held, if one is, in front of a list
+abbrev pub with_held : Option Hold → List ℕ → List ℕ
+with_held None ks = ks
+with_held (Some h) ks = h.strand ∷ ks
+
+abbrev pub read_play : Told
+read_play st m r n = (n ≡ m) × ((c : ℕ) → st.word ≡ cell_at c → Reads m.0.flow m.0.holding c → (x : ℕ) × (r ≡ x + 1) × HasValue m.0.flow c x)
+
+abbrev pub publish_play : Told
+publish_play st m r n = n ≡ (record m.0 { holding = one_published m.0.holding }, m.1)
+
+abbrev pub release_play : Told
+release_play st m r n = n ≡ (record m.0 { holding = one_released m.0.holding; told = r }, m.1)
+
+abbrev pub take_play : Told
+take_play st m r n = (k : ℕ) → st.said ≡ some k → n ≡ (record m.0 { holding = cond (r == 0) (Some (hold k 0 0)) m.0.holding; tried = k; took = r }, m.1)
+
+abbrev pub finish_play : Told
+finish_play st m r n = (n ≡ (record m.0 { holding = None; done = with_held m.0.holding m.0.done; seen = r }, m.1)) × (r ≤ m.0.seen)
+
+abbrev pub refuse_play : Told
+refuse_play st m r n = (n ≡ (record m.0 { holding = None; refused = with_held m.0.holding m.0.refused; seen = min r st.first }, m.1)) × (min r st.first ≤ m.0.seen)
+
+-- a number below that of the strands is one whose answer is a refusal
+abbrev pub look_play : Told
+look_play st m r n = (n ≡ (record m.0 { seen = r }, m.1)) × (r ≤ m.0.seen) × (r ≤ m.0.flow.net.strands) × (r < m.0.flow.net.strands → answer_of m.0.flow r ≡ Refuses)

@@ -1,0 +1,214 @@
+ghost use Rattle.std.specs.Prelude.{◌≡◌, ℕ, ◌+◌, ◌-◌, ◌<◌, ◌≤◌, ◌++◌, ◌↔◌, min, cond, List, [], ◌∷◌, Some, None, IsTrue, IfSome, MatchOption, slice_index};
+ghost use Rattle.flow_core.specs.Net.{succs_of};
+ghost use Rattle.flow_core.specs.Flow.{Refuses, answer_of, HasValue};
+ghost use Rattle.flow_core.specs.Events.{hold};
+ghost use Rattle.flow_board.specs.Plays.{Reads, CanPublish, CanRelease, CanFinish, CanRefuse, one_published, one_released, with_held};
+ghost use Rattle.flow_board.specs.Seats.{cut_from, joined_with};
+
+use crate::answers::Answers;
+use crate::rule::{Both, Finish, Halves, Look, Order, Publish, Read, Refuse, Release, TAKEN, Take};
+use crate::seat::WorkSeat;
+use crate::view::View;
+use atomic_table::Table;
+use flow_core::{Graph, Hold};
+use gold_field::Gold;
+use std::alloc::Global;
+use std::marker::Model;
+use std::snapshot::Snapshot;
+
+/// A graph's cells and counters as words that threads share. No call between `make` and `close` takes
+/// memory, a lock or a handle.
+#[derive(Drop)]
+pub struct Board<'g, A: Answers> {
+    pub(crate) table: Table<u32, View, Snapshot<A>, Order<A>, Global>,
+    pub(crate) graph: &'g Graph,
+    pub(crate) cells: u32,
+    pub(crate) strands: u32,
+}
+
+/// What a release found: the successor that it told, and whether that waits for nothing any more.
+#[derive(Clone, Copy, Debug)]
+pub struct Released {
+    pub strand: u32,
+    pub ready: bool,
+}
+
+impl<'g, A: Answers> Model for Board<'g, A> {
+    ghost use Rattle.flow_board.specs.Seats.{Place, place, Stands};
+
+    ghost Value = { Place };
+
+    ghost view = { λ b. place b.table.shared.table_id (A.flow b.table.shared.key.value) };
+
+    ghost invariant = { λ b. Stands (A.flow b.table.shared.key.value) b.graph.now b.cells b.strands b.table.shared.table_id };
+}
+
+impl<'g, A: Answers> Board<'g, A> {
+    /// Takes a strand, where its word is 0: one compare-exchange on that word, whose answer is false
+    /// exactly where it found another.
+    pub fn take(&self, seat: &mut WorkSeat, strand: u32) -> bool
+        requires own { seat.old.place ≡ self.now }
+        requires free { seat.old.holding ≡ None }
+        requires near { strand < self.now.flow.net.strands }
+        ensures found { IsTrue result ↔ (seat.new.took ≡ 0) }
+        ensures seat { seat.new ≡ record seat.old { holding = cond result (Some (hold strand 0 0)) None; tried = strand; took = seat.new.took } }
+    {
+        let word = 1 + self.cells as usize + strand as usize;
+        let found = self
+            .table
+            .shared
+            .compare_exchange_with::<Take>(&mut seat.seat, word, 0, TAKEN, &strand);
+        if found != 0 {
+            return false;
+        }
+        seat.held = Some(Hold {
+            strand,
+            published: 0,
+            released: 0,
+        });
+        true
+    }
+
+    /// The value of a cell that the seat's strand reads: one load.
+    pub fn read(&self, seat: &mut WorkSeat, cell: u32) -> Gold
+        requires own { seat.old.place ≡ self.now }
+        requires reads { Reads self.now.flow seat.old.holding cell }
+        ensures value { HasValue self.now.flow cell result }
+        ensures seat { seat.new ≡ seat.old }
+    {
+        let word = self
+            .table
+            .shared
+            .load::<Read>(&mut seat.seat, 1 + cell as usize);
+        let Some(value) = Gold::new(word - 1) else {
+            unreachable!()
+        };
+        value
+    }
+
+    /// Fills the next cell of the seat's strand: one store.
+    pub fn publish(&self, seat: &mut WorkSeat, value: Gold)
+        requires own { seat.old.place ≡ self.now }
+        requires next { CanPublish self.now.flow seat.old.holding value }
+        ensures { seat.new ≡ record seat.old { holding = one_published seat.old.holding } }
+    {
+        let Some(held) = seat.held else {
+            unreachable!()
+        };
+        let graph = self.graph;
+        let cell = graph.writes_of(held.strand)[held.published as usize];
+        self.table
+            .shared
+            .store::<Publish>(&mut seat.seat, 1 + cell as usize, value.get() + 1);
+        seat.held = Some(Hold {
+            strand: held.strand,
+            published: held.published + 1,
+            released: held.released,
+        });
+    }
+
+    /// Tells the next successor of the seat's strand: one subtraction from its word.
+    pub fn release(&self, seat: &mut WorkSeat) -> Released
+        requires own { seat.old.place ≡ self.now }
+        requires next { CanRelease self.now.flow seat.old.holding }
+        ensures strand { IfSome seat.old.holding (λ h. result.strand ≡ slice_index (succs_of self.now.flow.net h.strand) h.released) }
+        ensures ready { IsTrue result.ready ↔ (seat.new.told ≡ 1) }
+        ensures seat { seat.new ≡ record seat.old { holding = one_released seat.old.holding; told = seat.new.told } }
+    {
+        let Some(held) = seat.held else {
+            unreachable!()
+        };
+        let graph = self.graph;
+        let strand = graph.succs_of(held.strand)[held.released as usize];
+        let word = 1 + self.cells as usize + strand as usize;
+        let found = self
+            .table
+            .shared
+            .fetch_sub::<Release>(&mut seat.seat, word, 1);
+        seat.held = Some(Hold {
+            strand: held.strand,
+            published: held.published,
+            released: held.released + 1,
+        });
+        Released {
+            strand,
+            ready: found == 1,
+        }
+    }
+
+    /// Gives up the seat's strand as done, at one load of the word of the least refused strand.
+    pub fn finish(&self, seat: &mut WorkSeat)
+        requires own { seat.old.place ≡ self.now }
+        requires last { CanFinish self.now.flow seat.old.holding }
+        ensures seen { seat.new.seen ≤ seat.old.seen }
+        ensures seat { seat.new ≡ record seat.old { holding = None; done = with_held seat.old.holding seat.old.done; seen = seat.new.seen } }
+    {
+        let _least = self.table.shared.load::<Finish>(&mut seat.seat, 0);
+        seat.held = None;
+    }
+
+    /// Gives up the seat's strand as refused: one step by which the word of the least refused strand
+    /// becomes the lesser of itself and this one.
+    pub fn refuse(&self, seat: &mut WorkSeat)
+        requires own { seat.old.place ≡ self.now }
+        requires none { CanRefuse self.now.flow seat.old.holding }
+        ensures seen { seat.new.seen ≤ seat.old.seen }
+        ensures own_refusal { IfSome seat.old.holding (λ h. seat.new.seen ≤ h.strand) }
+        ensures seat { seat.new ≡ record seat.old { holding = None; refused = with_held seat.old.holding seat.old.refused; seen = seat.new.seen } }
+    {
+        let Some(held) = seat.held else {
+            unreachable!()
+        };
+        let _least = self
+            .table
+            .shared
+            .fetch_min::<Refuse>(&mut seat.seat, 0, u64::from(held.strand));
+        seat.held = None;
+    }
+
+    /// The least strand that has been refused so far: one load.
+    pub fn least(&self, seat: &mut WorkSeat) -> Option<u32>
+        requires own { seat.old.place ≡ self.now }
+        ensures value { MatchOption result (seat.new.seen ≡ self.now.flow.net.strands) (λ l. (l ≡ seat.new.seen) × (l < self.now.flow.net.strands)) }
+        ensures refuses { IfSome result (λ l. answer_of self.now.flow l ≡ Refuses) }
+        ensures seen { seat.new.seen ≤ seat.old.seen }
+        ensures seat { seat.new ≡ record seat.old { seen = seat.new.seen } }
+    {
+        let found = self.table.shared.load::<Look>(&mut seat.seat, 0);
+        if found == u64::from(self.strands) {
+            None
+        } else {
+            Some(found as u32)
+        }
+    }
+
+    /// Cuts one part off a seat, for a new one.
+    pub fn split(&self, seat: &mut WorkSeat) -> WorkSeat
+        requires own { seat.old.place ≡ self.now }
+        requires free { seat.old.holding ≡ None }
+        requires many { 2 ≤ seat.old.share }
+        ensures kept { seat.new ≡ record seat.old { share = seat.old.share - 1 } }
+        ensures cut { result ≡ cut_from seat.old }
+    {
+        let cut = self.table.shared.split_seat::<Halves>(&mut seat.seat);
+        WorkSeat {
+            seat: cut,
+            held: None,
+        }
+    }
+
+    /// Takes another seat in, with its lists and its share.
+    pub fn join(&self, seat: &mut WorkSeat, other: WorkSeat)
+        requires own { seat.old.place ≡ self.now }
+        requires other_own { other.place ≡ self.now }
+        requires free { seat.old.holding ≡ None }
+        requires other_free { other.holding ≡ None }
+        ensures { seat.new ≡ joined_with seat.old other }
+    {
+        let WorkSeat {
+            seat: gone,
+            held: _,
+        } = other;
+        self.table.shared.join_seat::<Both>(&mut seat.seat, gone);
+    }
+}
