@@ -9,6 +9,8 @@ mod making;
 mod opening;
 mod rule;
 mod seat;
+#[cfg(test)]
+mod tests;
 mod view;
 mod words;
 

@@ -1,0 +1,9 @@
+use Rattle.std.proofs.Common.{sym, ◌∙◌, ap, subst, length}
+use Rattle.flow_core.specs.Flow.{IsFlow}
+use Rattle.flow_board.specs.Examples.{chain}
+use Rattle.flow_board.proofs.Examples.{chain_is_flow}
+use Rattle.flow_board.proofs.tests.chain_board.Goals as goal
+
+pub make-requires-clause-flow : goal.make-requires-clause-flow
+make-requires-clause-flow c = λ _. subst (λ n. IsFlow (chain n)) (sym c.of.ensures)
+    (chain_is_flow c.args.graph.now (sym c.facts.ensures.net.reads_each ∙ ap length c.requires.reads) c.requires.cells c.requires.reads c.requires.writes)
