@@ -1,6 +1,10 @@
 //! The trees of a Circom source, the program that its files make, and the refusals of a source.
 #![tactic(auto)]
 
+mod making;
+mod placing;
+pub mod plain_program;
+pub mod plain_tree;
 pub mod program;
 mod refusal;
 pub mod tree;

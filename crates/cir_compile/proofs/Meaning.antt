@@ -7,7 +7,7 @@ use Rattle.gold_field.specs.declared.form.Term.{Term}
 use Rattle.gold_field.specs.declared.form.Constraint.{Constraint}
 use Rattle.gold_field.specs.declared.gold.TheConstants.{P}
 use Rattle.iden_files.specs.File.{File}
-use Rattle.cir_ast.specs.declared.program.Program.{Program}
+use Rattle.cir_ast.specs.declared.plain_program.Program.{Program}
 use Rattle.cir_lc.specs.Number.{Assignment}
 use Rattle.cir_names.specs.Loading.{Loads}
 use Rattle.cir_names.specs.declared.fault.LoadFault.{LoadFault}

@@ -1,7 +1,7 @@
 -- What the compilation of a source answers.
 use Rattle.std.specs.Prelude.{◌≡◌, ℕ, List, Result, Ok, Err, ⊤, ◌⊎◌}
 use Rattle.iden_files.specs.File.{File}
-use Rattle.cir_ast.specs.declared.program.Program.{Program}
+use Rattle.cir_ast.specs.declared.plain_program.Program.{Program}
 use Rattle.cir_ast.specs.declared.refusal.Refusal.{Refusal}
 use Rattle.cir_names.specs.Loading.{Loads}
 use Rattle.cir_names.specs.declared.fault.LoadFault.TheVariants.{Refused as NotLoaded}

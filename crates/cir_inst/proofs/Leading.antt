@@ -5,7 +5,7 @@ use Rattle.cir_inst.specs.declared.stop.Fault.{Fault}
 use Rattle.cir_inst.specs.declared.stop.Fault.TheVariants.{Refused, OutOfMemory}
 use Rattle.cir_inst.specs.Meaning.Tried.{Tried, next}
 use Rattle.cir_inst.specs.Meaning.Scope.{Scope}
-use Rattle.cir_inst.specs.Meaning.Equation.{Equation}
+use Rattle.cir_meaning.specs.Source.{Equation}
 use Rattle.cir_inst.specs.Meaning.Statement.{World}
 use Rattle.cir_inst.specs.Seen.{IsRefusal}
 use Rattle.cir_inst.specs.Source.{Records, Leads}

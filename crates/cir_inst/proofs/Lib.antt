@@ -1,8 +1,6 @@
 pub mod Within
-pub mod Difference
 pub mod Recording
 pub mod Leading
 pub mod Numbers
 pub mod Progress
 pub mod Compiling
-pub mod OneSource

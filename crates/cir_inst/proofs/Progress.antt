@@ -3,25 +3,26 @@ use Rattle.std.proofs.Common.{◌≡◌, ℕ, suc, ◌+◌, ◌<◌, ◌≤◌, 
 use Rattle.std.proofs.lemmas.List.{length_push, drop_more}
 use Rattle.std.proofs.lemmas.List.Elements.{All-push}
 use Rattle.std.proofs.lemmas.Bool.{leb-true, le-leb}
-use Rattle.cir_ast.specs.declared.tree.Direction.{Direction}
-use Rattle.cir_ast.specs.declared.tree.Direction.TheVariants.{Inner, Input, Output}
-use Rattle.cir_ast.specs.declared.tree.DeclaredSignal.{DeclaredSignal}
-use Rattle.cir_ast.specs.declared.tree.Signals.{Signals as Declaration}
-use Rattle.cir_ast.specs.declared.tree.Simple.TheVariants.{Signals, Assign, Constrain}
-use Rattle.cir_ast.specs.declared.tree.Assign.TheVariants.{ConstrainLeft}
-use Rattle.cir_ast.specs.declared.program.Statement.{Statement}
-use Rattle.cir_ast.specs.declared.program.Template.{Template}
-use Rattle.cir_ast.specs.declared.program.StatementForm.{StatementForm}
-use Rattle.cir_ast.specs.declared.program.StatementForm.TheVariants.{Simple as Simple'}
+use Rattle.cir_ast.specs.declared.plain_tree.Direction.{Direction}
+use Rattle.cir_ast.specs.declared.plain_tree.Direction.TheVariants.{Inner, Input, Output}
+use Rattle.cir_ast.specs.declared.plain_tree.DeclaredSignal.{DeclaredSignal}
+use Rattle.cir_ast.specs.declared.plain_tree.Signals.{Signals as Declaration}
+use Rattle.cir_ast.specs.declared.plain_tree.Simple.TheVariants.{Signals, Assign, Constrain}
+use Rattle.cir_ast.specs.declared.plain_tree.Assign.TheVariants.{ConstrainLeft}
+use Rattle.cir_ast.specs.declared.plain_program.Statement.{Statement}
+use Rattle.cir_ast.specs.declared.plain_program.Template.{Template}
+use Rattle.cir_ast.specs.declared.plain_program.StatementForm.{StatementForm}
+use Rattle.cir_ast.specs.declared.plain_program.StatementForm.TheVariants.{Simple as Simple'}
 use Rattle.cir_inst.specs.declared.counts.Counts.{Counts}
 use Rattle.cir_inst.specs.declared.record.Recorder.{Recorder}
 use Rattle.cir_inst.specs.declared.stop.Spot.{Spot}
 use Rattle.cir_inst.specs.declared.scope.Signal.{Signal}
 use Rattle.cir_inst.specs.Meaning.Tried.{Tried, next}
 use Rattle.cir_lc.specs.Number.{signal}
-use Rattle.cir_inst.specs.Meaning.Value.{Value, Linear}
+use Rattle.cir_meaning.specs.Values.{Value, Linear}
+use Rattle.cir_meaning.specs.Source.{Equation}
 use Rattle.cir_inst.specs.Meaning.Scope.{Scope, created, all_created, advanced, next_number, write_of_name}
-use Rattle.cir_inst.specs.Meaning.Equation.{Equation, constrained}
+use Rattle.cir_inst.specs.Meaning.Equation.{constrained}
 use Rattle.cir_inst.specs.Meaning.Statement.{World, value_in, constrained_in, form_run, run, run_all, ended}
 use Rattle.cir_inst.specs.Meaning.Program.{total, counted_more, counted_form, counted_all, declared_by, started, executed_by}
 use Rattle.cir_inst.specs.Seen.{AreBelow}

@@ -1,5 +1,5 @@
 -- The signals of a value's parts.
-use Rattle.std.proofs.Common.{◌≡◌, ℕ, ◌*◌, ◌%◌, ◌<◌, List, [], ◌∷◌, ap, subst, ◌∙◌, arith, mod-eq_of_lt}
+use Rattle.std.proofs.Common.{◌≡◌, ℕ, ◌*◌, ◌%◌, ◌<◌, List, [], ◌∷◌, ap, subst, ◌∙◌, arith, mod-eq_of_lt, mod-lt, lit<}
 use Rattle.gold_field.specs.declared.form.Term.{Term}
 use Rattle.gold_field.specs.declared.gold.TheConstants.{P}
 use Rattle.cir_lc.specs.declared.quad.Quad.{Quad}
@@ -10,14 +10,23 @@ use Rattle.cir_lc.specs.Merge.{total}
 use Rattle.cir_lc.proofs.Totals.{total-nil, total-cons}
 use Rattle.cir_lc.proofs.Values.{value-total}
 use Rattle.cir_inst.specs.declared.value.Value.{Value}
-use Rattle.cir_inst.specs.declared.value.Value.TheVariants.{Linear, Quadratic}
-use Rattle.cir_inst.specs.Seen.{IsValueWithin}
+use Rattle.cir_inst.specs.declared.value.Value.TheVariants.{Known, Linear, Quadratic, Opaque}
+use Rattle.cir_meaning.specs.Values.{IsValue}
+use Rattle.cir_inst.specs.Seen.{meant, IsValueWithin}
 
 pub at_linear : (n : ℕ) (v : Value) (f : List Term) → v ≡ Linear f → IsValueWithin n v → IsWithin n f
 at_linear n v f e h = subst (λ (v : Value). IsValueWithin n v) e h
 
 pub at_quadratic : (n : ℕ) (v : Value) (q : Quad) → v ≡ Quadratic q → IsValueWithin n v → IsQuadWithin n q
 at_quadratic n v q e h = subst (λ (v : Value). IsValueWithin n v) e h
+
+-- the numbers of a value are numbers of the field
+pub is_value : (n : ℕ) (v : Value) → IsValueWithin n v → IsValue (meant v)
+unfolding value_of
+is_value n (Known k) h = h
+is_value n (Linear f) h = λ s. mod-lt _ (lit< tt)
+is_value n (Quadratic q) h = (λ s. mod-lt _ (lit< tt), λ s. mod-lt _ (lit< tt), λ s. mod-lt _ (lit< tt))
+is_value n Opaque h = tt
 
 -- the number of no term, and of one term of signal 0
 none_at : (s : Assignment) → value_of [] s ≡ constant 0 s

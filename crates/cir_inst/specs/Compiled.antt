@@ -5,7 +5,7 @@ use Rattle.gold_field.specs.Rises.{RisesFrom}
 use Rattle.gold_field.specs.declared.form.Term.{Term}
 use Rattle.gold_field.specs.declared.gold.TheConstants.{P}
 use Rattle.gold_field.specs.Form.{ConstraintBelow}
-use Rattle.cir_ast.specs.declared.program.Program.{Program}
+use Rattle.cir_ast.specs.declared.plain_program.Program.{Program}
 use Rattle.cir_inst.specs.declared.circuit.Circuit.{Circuit}
 use Rattle.cir_inst.specs.declared.circuit.InstFault.{InstFault}
 use Rattle.cir_inst.specs.declared.circuit.InstFault.TheVariants.{Refused, OutOfMemory}
@@ -13,9 +13,9 @@ use Rattle.cir_inst.specs.declared.stop.Stop.{Stop}
 use Rattle.cir_inst.specs.declared.stop.Fault.{Fault}
 use Rattle.cir_inst.specs.declared.stop.Fault.TheVariants.{Refused as Stopped}
 use Rattle.cir_inst.specs.Meaning.Tried.{Tried}
-use Rattle.cir_inst.specs.Meaning.Source.{IsSource, IsDifference}
+use Rattle.cir_meaning.specs.Source.{IsDifference, IsSource, all_terms}
 use Rattle.std.specs.List.{AllByRecursion}
-use Rattle.cir_inst.specs.Meaning.Equation.{all_terms, most_signals, most_constraints, most_terms}
+use Rattle.cir_inst.specs.Meaning.Equation.{most_signals, most_constraints, most_terms}
 use Rattle.cir_inst.specs.Meaning.Program.{Circuit as Meant, meaning, refusal_at}
 use Rattle.cir_inst.specs.Seen.{IsRefusal}
 

@@ -1,9 +1,8 @@
 -- The meaning of a program at compile time: what it refuses, and what satisfies its constraints.
 pub mod Tried
-pub mod Value
+pub mod Operator
 pub mod Scope
 pub mod Equation
-pub mod Source
 pub mod Statement
 pub mod Loading
 pub mod Program

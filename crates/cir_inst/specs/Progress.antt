@@ -1,10 +1,10 @@
 -- What a template's execution keeps, statement by statement.
 use Rattle.std.specs.Prelude.{◌≡◌, ℕ, ◌+◌, List, length}
-use Rattle.cir_ast.specs.declared.program.Statement.{Statement}
+use Rattle.cir_ast.specs.declared.plain_program.Statement.{Statement}
 use Rattle.cir_inst.specs.declared.counts.Counts.{Counts}
 use Rattle.cir_inst.specs.declared.record.Recorder.{Recorder}
 use Rattle.cir_inst.specs.Meaning.Scope.{Scope}
-use Rattle.cir_inst.specs.Meaning.Equation.{Equation}
+use Rattle.cir_meaning.specs.Source.{Equation}
 use Rattle.cir_inst.specs.Meaning.Statement.{run_all}
 use Rattle.cir_inst.specs.Meaning.Program.{total, counted_all, started}
 use Rattle.cir_inst.specs.Seen.{AreBelow}

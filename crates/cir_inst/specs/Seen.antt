@@ -12,9 +12,9 @@ use Rattle.cir_inst.specs.Meaning.Tried.{Tried}
 use Rattle.cir_inst.specs.declared.value.Value.{Value}
 use Rattle.cir_inst.specs.declared.value.Value.TheVariants.{Known, Linear, Quadratic, Opaque}
 use Rattle.cir_inst.specs.Meaning.Scope.{Scope as Meant}
-use Rattle.cir_inst.specs.Meaning.Source.{parts_from}
+use Rattle.cir_meaning.specs.Source.{parts_from}
 use Rattle.cir_lc.specs.declared.quad.Quad.{Quad}
-use Rattle.cir_inst.specs.Meaning.Value as M
+use Rattle.cir_meaning.specs.Values as M
 use Rattle.cir_inst.specs.Meaning.Loading.{Names}
 use Rattle.cir_inst.specs.Names.{value_in}
 

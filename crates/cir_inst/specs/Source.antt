@@ -3,16 +3,16 @@ use Rattle.std.specs.Prelude.{◌≡◌, ℕ, ◌+◌, ◌≤◌, ◌<◌, List,
 use Rattle.std.specs.List.{AllByRecursion}
 use Rattle.cir_inst.specs.declared.record.Recorder.{Recorder}
 use Rattle.cir_inst.specs.declared.stop.Fault.{Fault}
-use Rattle.cir_ast.specs.declared.tree.Simple.TheVariants.{Signals, Assign, Constrain}
-use Rattle.cir_ast.specs.declared.program.StatementForm.{StatementForm}
-use Rattle.cir_ast.specs.declared.program.StatementForm.TheVariants.{Simple}
+use Rattle.cir_ast.specs.declared.plain_tree.Simple.TheVariants.{Signals, Assign, Constrain}
+use Rattle.cir_ast.specs.declared.plain_program.StatementForm.{StatementForm}
+use Rattle.cir_ast.specs.declared.plain_program.StatementForm.TheVariants.{Simple}
 use Rattle.cir_inst.specs.Meaning.Tried.{Tried}
 use Rattle.cir_inst.specs.Meaning.Scope.{Scope, next_number}
 use Rattle.cir_inst.specs.Meaning.Statement.{World}
 use Rattle.cir_inst.specs.Meaning.Program.{total}
 use Rattle.cir_inst.specs.declared.counts.Counts.{Counts}
-use Rattle.cir_inst.specs.Meaning.Equation.{Equation, all_terms, most_signals, most_constraints, most_terms}
-use Rattle.cir_inst.specs.Meaning.Source.{IsSource, IsDifference}
+use Rattle.cir_meaning.specs.Source.{Equation, IsDifference, IsSource, all_terms}
+use Rattle.cir_inst.specs.Meaning.Equation.{most_signals, most_constraints, most_terms}
 use Rattle.cir_inst.specs.Seen.{IsRefusal}
 
 -- the recorder holds the source list, and counts its terms

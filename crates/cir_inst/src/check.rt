@@ -1,5 +1,5 @@
 ghost use Rattle.std.specs.Prelude.{◌≡◌, Ok, None, OnOk, drop};
-ghost use Rattle.cir_ast.specs.declared.tree.Assign.TheVariants.{ConstrainLeft};
+ghost use Rattle.cir_ast.specs.declared.plain_tree.Assign.TheVariants.{ConstrainLeft};
 ghost use Rattle.cir_inst.specs.Names.{value_in};
 ghost use Rattle.cir_inst.specs.Meaning.Loading as load;
 ghost use Rattle.cir_inst.specs.Seen.{Gives};
@@ -9,10 +9,10 @@ ghost use Rattle.std.specs.Option.{option_copied};
 use crate::names::Names;
 use crate::stop::{Fault, Spot, refused};
 use cir_ast::Kind;
-use cir_ast::program::{
+use cir_ast::plain_program::{
     Assign, Expr, Function, Main, Place, Program, Simple, Statement, StatementForm, Template,
 };
-use cir_ast::tree::{DeclaredSignal, Direction};
+use cir_ast::plain_tree::{DeclaredSignal, Direction};
 use std::alloc::{AllocError, Global};
 
 /// The template of the main component, once all names of the program are found right.

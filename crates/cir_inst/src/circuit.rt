@@ -8,7 +8,7 @@ use crate::check::load;
 use crate::counts::count;
 use crate::run::run_template;
 use crate::stop::{Fault, Spot, Stop};
-use cir_ast::program::{Program, Template};
+use cir_ast::plain_program::{Program, Template};
 use cir_ast::{Place, Refusal, Text};
 use gold_field::Constraint;
 use items::Items;

@@ -1,8 +1,8 @@
 ghost use Rattle.std.specs.Prelude.{◌≡◌, ◌+◌, ◌≤◌};
 ghost use Rattle.cir_inst.specs.Meaning.Program.{total, counted_more, counted_form, declared_by};
 
-use cir_ast::program::{Simple, Statement, StatementForm};
-use cir_ast::tree::Direction;
+use cir_ast::plain_program::{Simple, Statement, StatementForm};
+use cir_ast::plain_tree::Direction;
 
 const MOST_SIGNALS: usize = 1048575;
 

@@ -5,7 +5,7 @@ ghost use Rattle.cir_inst.specs.Seen.{seen, meant, Gives, IsValueWithin, AreBelo
 use crate::scope::{Scope, read};
 use crate::stop::{Fault, Spot};
 use crate::value::{Value, apply};
-use cir_ast::tree::Expr;
+use cir_ast::plain_tree::Expr;
 use gold_field::Gold;
 use std::alloc::Global;
 

@@ -1,8 +1,9 @@
 ghost use Rattle.std.specs.Prelude.{◌≡◌, ◌+◌, ◌<◌, ◌≤◌, ◌^◌, ℕ, List, Ok, length};
-ghost use Rattle.cir_ast.specs.declared.tree.Simple.TheVariants.{Constrain as Equal};
-ghost use Rattle.cir_ast.specs.declared.tree.Assign.TheVariants.{ConstrainLeft};
+ghost use Rattle.cir_ast.specs.declared.plain_tree.Simple.TheVariants.{Constrain as Equal};
+ghost use Rattle.cir_ast.specs.declared.plain_tree.Assign.TheVariants.{ConstrainLeft};
 ghost use Rattle.cir_inst.specs.Meaning.Scope.{all_created, next_number};
-ghost use Rattle.cir_inst.specs.Meaning.Equation.{Equation, limited};
+ghost use Rattle.cir_meaning.specs.Source.{Equation};
+ghost use Rattle.cir_inst.specs.Meaning.Equation.{limited};
 ghost use Rattle.cir_inst.specs.Meaning.Statement.{World, simple, assigned, run};
 ghost use Rattle.cir_inst.specs.Seen.{seen, AreBelow};
 ghost use Rattle.cir_inst.specs.Source.{IsRecord, Leads, Becomes, IsReady};
@@ -14,7 +15,7 @@ use crate::scope::{Scope, declare, write};
 use crate::stop::{Fault, Spot};
 use crate::value::{Value, signal_form};
 use cir_ast::Which;
-use cir_ast::program::{Assign, Expr, Place, Signals, Simple, Statement, StatementForm};
+use cir_ast::plain_program::{Assign, Expr, Place, Signals, Simple, Statement, StatementForm};
 use std::alloc::Global;
 
 const MOST_SIGNALS: u64 = 1048575;

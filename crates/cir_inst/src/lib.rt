@@ -6,7 +6,6 @@ mod circuit;
 mod counts;
 mod evaluate;
 mod execute;
-mod laws;
 mod names;
 mod record;
 mod run;
@@ -15,7 +14,6 @@ mod stop;
 mod value;
 
 pub use circuit::{Circuit, InstFault, instantiate};
-pub use laws::one_source_list;
 
 #[cfg(test)]
 mod tests;

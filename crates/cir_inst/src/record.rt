@@ -1,9 +1,9 @@
 ghost use Rattle.std.specs.Prelude.{◌≡◌, ◌+◌, ◌-◌, ◌<◌, ◌≤◌, ◌^◌, ◌++◌, ◌∷◌, [], ℕ, List, min, IfOk, IfSome, OnErr, length};
 ghost use Rattle.gold_field.specs.Rises.{RisesFrom};
 ghost use Rattle.cir_lc.specs.Normal.{IsQuadWithin};
-ghost use Rattle.cir_inst.specs.Meaning.Value.{parts_of};
-ghost use Rattle.cir_inst.specs.Meaning.Equation.{Equation, counted, constrained};
-ghost use Rattle.cir_inst.specs.Meaning.Source.{parts_from, IsDifference};
+ghost use Rattle.cir_meaning.specs.Values.{parts_of};
+ghost use Rattle.cir_meaning.specs.Source.{Equation, IsDifference, parts_from};
+ghost use Rattle.cir_inst.specs.Meaning.Equation.{counted, constrained};
 ghost use Rattle.cir_inst.specs.Seen.{meant, meant_parts, IsValueWithin};
 ghost use Rattle.cir_inst.specs.declared.stop.Fault.TheVariants.{Refused};
 ghost use Rattle.cir_ast.specs.declared.refusal.Kind.TheVariants.{Limit};

@@ -12,7 +12,7 @@ use crate::record::Recorder;
 use crate::scope::{Scope, Signal};
 use crate::stop::{Fault, Spot, refused};
 use cir_ast::Kind;
-use cir_ast::program::{Statement, Template};
+use cir_ast::plain_program::{Statement, Template};
 use items::Items;
 use std::alloc::Global;
 

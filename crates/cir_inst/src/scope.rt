@@ -6,7 +6,7 @@ use crate::names::Names;
 use crate::stop::{Fault, Spot, refused};
 use crate::value::{Value, signal_form};
 use cir_ast::Kind;
-use cir_ast::tree::{DeclaredSignal, Direction};
+use cir_ast::plain_tree::{DeclaredSignal, Direction};
 use std::alloc::{AllocError, Global};
 
 /// A declared signal.

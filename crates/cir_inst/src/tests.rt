@@ -1,7 +1,9 @@
 use crate::{Circuit, InstFault, instantiate};
-use cir_ast::program::{Block, Main, Program, Statement, StatementForm, Template};
-use cir_ast::tree::{Assign, Binary, DeclaredSignal, Direction, Expr, Place, Signals, Simple};
-use cir_ast::{Kind, Refusal, Text};
+use cir_ast::plain_program::{Block, Main, Program, Statement, StatementForm, Template};
+use cir_ast::plain_tree::{
+    Assign, Binary, DeclaredSignal, Direction, Expr, Place, Signals, Simple,
+};
+use cir_ast::{Kind, Refusal, Text, Which};
 use gold_field::{Lc, P};
 use items::Items;
 use std::alloc::{AllocError, Global};
@@ -32,22 +34,19 @@ fn product(alloc: Global, a: Expr, b: Expr) -> Result<Expr, AllocError> {
     Ok(Expr::Binary(Binary::Mul, a, b))
 }
 
-// `template Mul() { signal input a; signal input b; signal output c; c <== VALUE; }`, a statement a line
-fn program(alloc: Global, value: Expr) -> Result<Program, AllocError> {
-    let assign = Simple::Assign(Assign::ConstrainLeft(
-        Place {
-            name: text(alloc, "c")?,
-        },
-        value,
-    ));
+fn assigned(alloc: Global, name: &str, value: Expr) -> Result<Simple, AllocError> {
+    let place = Place {
+        name: text(alloc, name)?,
+    };
+    Ok(Simple::Assign(Assign::ConstrainLeft(place, value)))
+}
+
+// `template Mul() { .. }` of these statements, one a line from line 2, and a main component of it
+fn program_of(alloc: Global, forms: Vec<Simple>) -> Result<Program, AllocError> {
     let mut statements = Items::new(alloc);
-    let forms = [
-        (2, declared(alloc, Direction::Input, "a")?),
-        (3, declared(alloc, Direction::Input, "b")?),
-        (4, declared(alloc, Direction::Output, "c")?),
-        (5, assign),
-    ];
-    for (line, form) in forms {
+    let mut line = 1u32;
+    for form in forms {
+        line = line.saturating_add(1);
         statements.push(Statement {
             line,
             column: 3,
@@ -77,6 +76,22 @@ fn program(alloc: Global, value: Expr) -> Result<Program, AllocError> {
         functions: Items::new(alloc),
         mains,
     })
+}
+
+// `signal input a; signal input b; signal output c;`, on lines 2 to 4
+fn signals(alloc: Global) -> Result<Vec<Simple>, AllocError> {
+    let mut forms = Vec::new(alloc);
+    forms.push(declared(alloc, Direction::Input, "a")?)?;
+    forms.push(declared(alloc, Direction::Input, "b")?)?;
+    forms.push(declared(alloc, Direction::Output, "c")?)?;
+    Ok(forms)
+}
+
+// These signals, and `c <== VALUE;`
+fn program(alloc: Global, value: Expr) -> Result<Program, AllocError> {
+    let mut forms = signals(alloc)?;
+    forms.push(assigned(alloc, "c", value)?)?;
+    program_of(alloc, forms)
 }
 
 fn expect_term(rt: &impl Abort, f: &Lc, signal: u32, coef: u64) {
@@ -125,5 +140,76 @@ fn a_product_of_three_is_refused(rt: HostRuntime) -> Result<(), Fail> {
     let path = place.path.into_vec();
     assert!(rt; file.as_slice() == b"mul.circom".as_slice());
     assert!(rt; path.as_slice() == b"main".as_slice());
+    Ok(())
+}
+
+#[test]
+fn a_second_write_is_refused_at_its_statement(rt: HostRuntime) -> Result<(), Fail> {
+    let alloc = rt.alloc();
+    let mut forms = signals(alloc)?;
+    forms.push(assigned(alloc, "c", place(alloc, "a")?)?)?;
+    forms.push(assigned(alloc, "c", place(alloc, "b")?)?)?;
+    let program = program_of(alloc, forms)?;
+    let refusal = refusal_of(instantiate(alloc, &program)).ok_or("not refused")?;
+    let place = refusal.place;
+    assert_eq!(rt; refusal.kind, Kind::SecondWrite);
+    assert_eq!(rt; place.line, 6);
+    let path = place.path.into_vec();
+    assert!(rt; path.as_slice() == b"main".as_slice());
+    Ok(())
+}
+
+#[test]
+fn a_template_in_the_place_of_a_signal_is_refused(rt: HostRuntime) -> Result<(), Fail> {
+    let alloc = rt.alloc();
+    let program = program(alloc, place(alloc, "Mul")?)?;
+    let refusal = refusal_of(instantiate(alloc, &program)).ok_or("not refused")?;
+    let place = refusal.place;
+    assert_eq!(rt; refusal.kind, Kind::WrongKind);
+    assert_eq!(rt; place.line, 5);
+    let path = place.path.into_vec();
+    assert!(rt; path.as_slice() == b"-".as_slice());
+    Ok(())
+}
+
+#[test]
+fn an_input_is_not_written_by_its_template(rt: HostRuntime) -> Result<(), Fail> {
+    let alloc = rt.alloc();
+    let mut forms = signals(alloc)?;
+    forms.push(assigned(alloc, "a", place(alloc, "b")?)?)?;
+    let program = program_of(alloc, forms)?;
+    let refusal = refusal_of(instantiate(alloc, &program)).ok_or("not refused")?;
+    assert_eq!(rt; refusal.kind, Kind::WrongKind);
+    assert_eq!(rt; refusal.place.line, 5);
+    Ok(())
+}
+
+// A declaration of as many signals of one name.
+fn many(alloc: Global, count: u32) -> Result<Program, AllocError> {
+    let mut signals = Items::new(alloc);
+    for _ in 0..count {
+        signals.push(DeclaredSignal {
+            name: Text::new(alloc),
+        })?;
+    }
+    let direction = Direction::Input;
+    let mut forms = Vec::new(alloc);
+    forms.push(Simple::Signals(Signals { direction, signals }))?;
+    program_of(alloc, forms)
+}
+
+#[test]
+fn signals_are_limited(rt: HostRuntime) -> Result<(), Fail> {
+    let alloc = rt.alloc();
+    let most = instantiate(alloc, &many(alloc, 1048575)?)?;
+    assert_eq!(rt; most.inputs, 1048575);
+    let program = many(alloc, 1048576)?;
+    let refusal = refusal_of(instantiate(alloc, &program)).ok_or("not refused")?;
+    let limit = Kind::Limit {
+        which: Which::Signals,
+        count: 1048576,
+    };
+    assert_eq!(rt; refusal.kind, limit);
+    assert_eq!(rt; refusal.place.line, 2);
     Ok(())
 }

@@ -3,10 +3,11 @@ ghost use Rattle.gold_field.specs.declared.gold.TheConstants.{P};
 ghost use Rattle.cir_lc.specs.Number.{value_of, constant, signal, scaled, negated};
 ghost use Rattle.cir_lc.specs.Terms.{IsWithin};
 ghost use Rattle.cir_lc.specs.Normal.{IsQuadWithin};
-ghost use Rattle.cir_inst.specs.Meaning.Value.{sum_of, negative_of, product_of, result_of, Known as KnownValue, Linear as LinearValue, Quadratic as QuadraticValue};
+ghost use Rattle.cir_inst.specs.Meaning.Operator.{plain_result};
+ghost use Rattle.cir_meaning.specs.Values.{sum_of, negative_of, product_of, Known as KnownValue, Linear as LinearValue, Quadratic as QuadraticValue};
 ghost use Rattle.cir_inst.specs.Seen.{meant, IsValueWithin};
 
-use cir_ast::tree::Binary;
+use cir_ast::plain_tree::Binary;
 use cir_lc::{Quad, add, scale};
 use gold_field::{Gold, Lc, Term};
 use std::alloc::{AllocError, Global};
@@ -23,7 +24,7 @@ pub enum Value {
 
 /// The value of an operator.
 pub fn apply(alloc: Global, op: Binary, x: Value, y: Value) -> Result<Value, AllocError>
-    ensures value { IfOk result (λ v. meant v ≡ result_of op (meant x) (meant y)) }
+    ensures value { IfOk result (λ v. meant v ≡ plain_result op (meant x) (meant y)) }
     ensures within { IfOk result (λ v. (n : ℕ) → 0 < n → IsValueWithin n x → IsValueWithin n y → IsValueWithin n v) }
 {
     match op {

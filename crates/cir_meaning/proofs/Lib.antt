@@ -1,2 +1,6 @@
 pub mod ClassLaws
 pub mod NumberLaws
+pub mod Difference
+pub mod Holding
+pub mod OneSource
+pub mod TermCount

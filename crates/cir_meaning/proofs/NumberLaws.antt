@@ -82,7 +82,7 @@ module _ (s : Assignment) where
   sum_number Opaque y h = absurd (h refl)
 
   -- the number is one of the field
-  below : (x : Value) → IsValue x → number_of x s < P
+  pub below : (x : Value) → IsValue x → number_of x s < P
   unfolding constant added multiplied
   below (Known k) v = v
   below (Linear f) v = v s
@@ -182,7 +182,7 @@ module _ (s : Assignment) where
   at_value : (u v : Value) (o : Option ℕ) → u ≡ v → class_of v ≢ Class'.Opaque → (class_of u ≢ Class'.Opaque → o ≡ Some (number_of u s)) → o ≡ Some (number_of v s)
   at_value u v o e h law = subst (λ w. class_of w ≢ Class'.Opaque → o ≡ Some (number_of w s)) e law h
 
-  difference_number : (x y : Value) → IsValue y → class_of (difference_of x y) ≢ Class'.Opaque → (number_of x s + (P - number_of y s)) % P ≡ number_of (difference_of x y) s
+  pub difference_number : (x y : Value) → IsValue y → class_of (difference_of x y) ≢ Class'.Opaque → (number_of x s + (P - number_of y s)) % P ≡ number_of (difference_of x y) s
   difference_number x y v h =
       sym (add-mod-mod (number_of x s) (P - number_of y s) P)
       ∙ ap (λ (n : ℕ). (number_of x s + n) % P) (sym (negative_number y v (λ e. h (opaque_right x y e))))

@@ -1,13 +1,17 @@
-//! Laws over the values of expressions, each the contract of a function that does nothing.
+//! Laws over the values of expressions and the constraints of a source, each the contract of a function that
+//! does nothing.
 
-ghost use Rattle.std.specs.Prelude.{◌≡◌, ◌≢◌, ℕ, Some};
+ghost use Rattle.std.specs.Prelude.{◌≡◌, ◌≢◌, ◌↔◌, ◌+◌, ◌<◌, ℕ, Some, List, All, length, sum_by};
+ghost use Rattle.gold_field.specs.declared.form.Constraint.{Constraint};
 ghost use Rattle.gold_field.specs.declared.operators.Op1.{Op1};
 ghost use Rattle.gold_field.specs.declared.operators.Op2.{Op2};
+ghost use Rattle.gold_field.specs.Form.{Holds};
 ghost use Rattle.gold_field.specs.Operators.{binary_of, unary_of};
 ghost use Rattle.cir_lc.specs.Number.{Assignment};
 ghost use Rattle.cir_meaning.specs.declared.class.Class.{Class};
 ghost use Rattle.cir_meaning.specs.Classes.{class_by, unary_class};
-ghost use Rattle.cir_meaning.specs.Values.{IsValue, Value, class_of, known_number, number_of, result_of, unary_result};
+ghost use Rattle.cir_meaning.specs.Values.{IsValue, Parts, Value, class_of, difference_of, known_number, number_of, parts_of, result_of, unary_result};
+ghost use Rattle.cir_meaning.specs.Source.{Equation, IsDifference, IsEqualAt, IsSource, all_terms};
 
 /// The class of an operator's result is the table's, whatever the numbers are.
 pub fn classes_are_the_table()
@@ -27,4 +31,27 @@ pub fn unary_operators()
     ensures class { (op : Op1) (x : Value) → class_of (unary_result op x) ≡ unary_class op (class_of x) }
     ensures number { (op : Op1) (x : Value) (s : Assignment) → IsValue x →
         class_of (unary_result op x) ≢ Class.Opaque → unary_of op (number_of x s) ≡ number_of (unary_result op x) s }
+{}
+
+/// Where the difference of two values is `a * b + c`, this is left minus right at each assignment.
+pub fn parts_are_the_difference()
+    ensures { (x y : Value) (p : Parts) → IsValue x → IsValue y → parts_of (difference_of x y) ≡ Some p →
+        IsDifference record { left = number_of x; right = number_of y; parts = p } }
+{}
+
+/// Equations have one source list.
+pub fn one_source_list()
+    ensures { (n : ℕ) (es : List Equation) (ks js : List Constraint) → IsSource n es ks → IsSource n es js → ks ≡ js }
+{}
+
+/// The source list holds at just the assignments at which the two sides of each equation are equal.
+pub fn source_list_holds()
+    ensures { (n : ℕ) (es : List Equation) (ks : List Constraint) (s : Assignment) → All IsDifference es →
+        IsSource n es ks → All (IsEqualAt s) es ↔ All (Holds s.at) ks }
+{}
+
+/// The terms that are told of equations are those of their source list.
+pub fn terms_are_counted()
+    ensures { (n : ℕ) (es : List Equation) (ks : List Constraint) → 0 < n → IsSource n es ks →
+        all_terms n es ≡ sum_by (λ k. length k.a + (length k.b + length k.c)) ks }
 {}

@@ -5,10 +5,10 @@ use Rattle.std.specs.List.{flat_map}
 use Rattle.std.proofs.lemmas.List.{append_assoc, append-nil, map-append, length-append}
 use Rattle.cir_lexer.specs.declared.token.Token.{Token}
 use Rattle.cir_lexer.specs.declared.token.TokenKind.{TokenKind}
-use Rattle.cir_ast.specs.Tree.{Statement, bare_statement}
-use Rattle.cir_ast.specs.Print.{statement_tokens}
-use Rattle.cir_ast.specs.declared.tree.Statement.{Statement as CodeStatement}
-use Rattle.cir_ast.specs.declared.program.Statement.{Statement as ProgramStatement}
+use Rattle.cir_ast.specs.PlainTree.{Statement, bare_statement}
+use Rattle.cir_ast.specs.PlainPrint.{statement_tokens}
+use Rattle.cir_ast.specs.declared.plain_tree.Statement.{Statement as CodeStatement}
+use Rattle.cir_ast.specs.declared.plain_program.Statement.{Statement as ProgramStatement}
 use Rattle.cir_names.specs.Places.{SameText}
 use Rattle.cir_names.specs.Programs.{Placed, placed, placed_at, seen_statement}
 use Rattle.cir_names.specs.declared.place.Places.{Places}

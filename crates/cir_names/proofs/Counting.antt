@@ -5,12 +5,12 @@ use Rattle.std.specs.List.{flat_map}
 use Rattle.std.proofs.lemmas.Bool.{false≢true}
 use Rattle.std.proofs.lemmas.List.{drop_more, length-append, length-map}
 use Rattle.cir_lexer.specs.declared.token.TokenKind.{TokenKind}
-use Rattle.cir_ast.specs.Tree.{Statement, Template, Main, names_of, bare_statement}
-use Rattle.cir_ast.specs.Print.{names_tokens, statement_tokens, item_tokens, file_tokens}
+use Rattle.cir_ast.specs.PlainTree.{Statement, Template, Main, names_of, bare_statement}
+use Rattle.cir_ast.specs.PlainPrint.{names_tokens, statement_tokens, item_tokens, file_tokens}
 use Rattle.cir_lexer.specs.declared.token.TokenKind.TheVariants as token
 use Rattle.cir_lexer.specs.declared.token.Symbol.TheVariants.{CloseBrace}
-use Rattle.cir_ast.specs.declared.tree.DeclaredSignal.{DeclaredSignal}
-use Rattle.cir_ast.specs.declared.tree.Statement.{Statement as CodeStatement}
+use Rattle.cir_ast.specs.declared.plain_tree.DeclaredSignal.{DeclaredSignal}
+use Rattle.cir_ast.specs.declared.plain_tree.Statement.{Statement as CodeStatement}
 use Rattle.cir_names.specs.Names.{Names, declared_after, first_repeat, repeated, names_in}
 
 pub names_length : (name : List ℕ) (names : List (List ℕ)) → length (names_tokens (name ∷ names)) ≡ 2 * (1 + length names)

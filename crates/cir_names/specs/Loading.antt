@@ -4,13 +4,13 @@ use Rattle.cir_lexer.specs.declared.token.Token.{Token}
 use Rattle.cir_lexer.specs.declared.token.LexCause.{LexCause}
 use Rattle.cir_lexer.specs.declared.token.LexFault.TheVariants.{At}
 use Rattle.cir_lexer.specs.Reading.{IsReading}
-use Rattle.cir_ast.specs.Tree.{File}
+use Rattle.cir_ast.specs.PlainTree.{File}
 use Rattle.cir_ast.specs.declared.refusal.Kind.TheVariants.{Lexical, Duplicate, Limit, NotInProfile}
 use Rattle.cir_ast.specs.declared.refusal.Which.TheVariants.{Source}
 use Rattle.cir_ast.specs.declared.refusal.Form.TheVariants.{Unbuilt}
 use Rattle.cir_ast.specs.declared.refusal.Refusal.{Refusal}
-use Rattle.cir_ast.specs.declared.program.Program.{Program}
-use Rattle.cir_parse.specs.Contract.{IsTree, kinds}
+use Rattle.cir_ast.specs.declared.plain_program.Program.{Program}
+use Rattle.cir_plain.specs.Contract.{IsTree, kinds}
 use Rattle.cir_names.specs.declared.fault.LoadFault.{LoadFault}
 use Rattle.cir_names.specs.declared.fault.LoadFault.TheVariants.{Refused, OutOfMemory}
 use Rattle.cir_names.specs.Places.{start, spot_at, token_spot}

@@ -5,8 +5,8 @@ use Rattle.std.specs.Cmp.Lexicographic.{slice_cmp}
 use Rattle.std.specs.BTreeMap.{get_by}
 use Rattle.std.specs.Map.{update}
 use Rattle.std.specs.Str.{bytes_eq}
-use Rattle.cir_ast.specs.Tree.{Statement, Signals, ConstrainLeft, Constrain}
-use Rattle.cir_ast.specs.Print.{statement_tokens}
+use Rattle.cir_ast.specs.PlainTree.{Statement, Signals, ConstrainLeft, Constrain}
+use Rattle.cir_ast.specs.PlainPrint.{statement_tokens}
 use Rattle.cir_names.specs.declared.declared.Declared.{Declared}
 
 -- what is declared: something at each declared name

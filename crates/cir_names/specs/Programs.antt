@@ -1,20 +1,20 @@
 -- The program of a file, as plain data.
 use Rattle.std.specs.Prelude.{ℕ, ◌+◌, List, [], ◌∷◌, length, map, ⊤, Option, None}
-use Rattle.cir_ast.specs.Print.{item_tokens}
-use Rattle.cir_ast.specs.declared.program.Program.{Program}
-use Rattle.cir_ast.specs.declared.program.Function.{Function}
-use Rattle.cir_ast.specs.declared.program.Template.{Template as CodeTemplate}
-use Rattle.cir_ast.specs.declared.program.Main.{Main as CodeMain}
+use Rattle.cir_ast.specs.PlainPrint.{item_tokens}
+use Rattle.cir_ast.specs.declared.plain_program.Program.{Program}
+use Rattle.cir_ast.specs.declared.plain_program.Function.{Function}
+use Rattle.cir_ast.specs.declared.plain_program.Template.{Template as CodeTemplate}
+use Rattle.cir_ast.specs.declared.plain_program.Main.{Main as CodeMain}
 use Rattle.cir_names.specs.Names.{first_repeat, nothing}
 use Rattle.cir_lexer.specs.declared.token.Token.{Token}
-use Rattle.cir_ast.specs.Tree.{Statement, Item, Template, Main, File, bare_statement}
-use Rattle.cir_ast.specs.Print.{statement_tokens}
-use Rattle.cir_ast.specs.declared.tree.Template.{Template as TreeTemplate}
-use Rattle.cir_ast.specs.declared.tree.Main.{Main as TreeMain}
-use Rattle.cir_ast.specs.declared.tree.Statement.TheVariants as tree
-use Rattle.cir_ast.specs.declared.program.Statement.{Statement as CodeStatement}
-use Rattle.cir_ast.specs.declared.program.StatementForm.{StatementForm}
-use Rattle.cir_ast.specs.declared.program.StatementForm.TheVariants as form
+use Rattle.cir_ast.specs.PlainTree.{Statement, Item, Template, Main, File, bare_statement}
+use Rattle.cir_ast.specs.PlainPrint.{statement_tokens}
+use Rattle.cir_ast.specs.declared.plain_tree.Template.{Template as TreeTemplate}
+use Rattle.cir_ast.specs.declared.plain_tree.Main.{Main as TreeMain}
+use Rattle.cir_ast.specs.declared.plain_tree.Statement.TheVariants as tree
+use Rattle.cir_ast.specs.declared.plain_program.Statement.{Statement as CodeStatement}
+use Rattle.cir_ast.specs.declared.plain_program.StatementForm.{StatementForm}
+use Rattle.cir_ast.specs.declared.plain_program.StatementForm.TheVariants as form
 use Rattle.cir_names.specs.declared.place.Spot.{Spot}
 use Rattle.cir_names.specs.Places.{token_spot}
 

@@ -1,11 +1,11 @@
 -- Refusals before any instance is made.
 use Rattle.std.specs.Prelude.{◌≡◌, ℕ, List, ⊤, Option, None, Some, Result, Ok, Err, codes}
 use Rattle.cir_lexer.specs.declared.token.Token.{Token}
-use Rattle.cir_ast.specs.Tree.{File}
+use Rattle.cir_ast.specs.PlainTree.{File}
 use Rattle.cir_ast.specs.declared.refusal.Kind.{Kind}
 use Rattle.cir_ast.specs.declared.refusal.Kind.TheVariants.{Duplicate}
 use Rattle.cir_ast.specs.declared.refusal.Refusal.{Refusal}
-use Rattle.cir_ast.specs.declared.program.Program.{Program}
+use Rattle.cir_ast.specs.declared.plain_program.Program.{Program}
 use Rattle.cir_names.specs.declared.fault.LoadFault.{LoadFault}
 use Rattle.cir_names.specs.declared.fault.LoadFault.TheVariants.{Refused, OutOfMemory}
 use Rattle.cir_names.specs.declared.place.Spot.{Spot}

@@ -1,19 +1,19 @@
 //! The program of a file's tree.
 ghost use Rattle.std.specs.Prelude.{◌≡◌, ◌+◌, ◌<◌, ◌≤◌, ◌^◌, ◌∷◌, [], length, map, IfOk};
 ghost use Rattle.std.specs.List.{flat_map};
-ghost use Rattle.cir_ast.specs.Print.{statement_tokens, item_tokens, file_tokens};
-ghost use Rattle.cir_ast.specs.Tree.{bare_statement, bare_file};
+ghost use Rattle.cir_ast.specs.PlainPrint.{statement_tokens, item_tokens, file_tokens};
+ghost use Rattle.cir_ast.specs.PlainTree.{bare_statement, bare_file};
 ghost use Rattle.cir_names.specs.Places.{IsRight, SameText};
 ghost use Rattle.cir_names.specs.Programs.{seen_statement, placed, placed_at, template_at, template_item, seen_template, seen_program, program_of, two_items};
-ghost use Rattle.cir_parse.specs.Contract.{IsPlain};
+ghost use Rattle.cir_plain.specs.Contract.{IsPlain};
 ghost use Rattle.cir_names.specs.Refusing.{Makes};
 
 use crate::declared::first_repeat;
 use crate::fault::{LoadFault, refused};
 use crate::lengths::{statement_len, statements_len};
 use crate::place::Places;
-use cir_ast::program::{self, Program, StatementForm};
-use cir_ast::tree::{Block, Definition, File, Item, Main, Statement, Template};
+use cir_ast::plain_program::{self, Program, StatementForm};
+use cir_ast::plain_tree::{Block, Definition, File, Item, Main, Statement, Template};
 use cir_ast::{Kind, Text};
 use cir_lexer::Token;
 use items::Items;
@@ -23,7 +23,7 @@ fn placed_statement(
     places: &mut Places<'_>,
     number: usize,
     statement: Statement,
-) -> program::Statement
+) -> plain_program::Statement
     requires { IsRight places.old }
     ensures statement { seen_statement result ≡ placed_at places.old.bytes.now places.old.tokens.now number (bare_statement statement) }
     ensures right { IsRight places.new }
@@ -31,7 +31,7 @@ fn placed_statement(
 {
     let spot = places.of_token(number);
     let Statement::Simple(simple) = statement;
-    program::Statement {
+    plain_program::Statement {
         line: spot.line,
         column: spot.column,
         form: StatementForm::Simple(simple),
@@ -47,7 +47,7 @@ pub(crate) fn placed_statements(
     places: &mut Places<'_>,
     first: usize,
     statements: Vec<Statement>,
-) -> Result<Vec<program::Statement>, AllocError>
+) -> Result<Vec<plain_program::Statement>, AllocError>
     requires right { IsRight places.old }
     requires fits { first + length (flat_map statement_tokens (map bare_statement statements.items)) < 2 ^ 32 }
     ensures statements { IfOk result (λ v. map seen_statement v.items ≡ placed places.old.bytes.now places.old.tokens.now first (map bare_statement statements.items)) }
@@ -94,7 +94,7 @@ fn placed_template(
     alloc: Global,
     places: &mut Places<'_>,
     template: Template,
-) -> Result<program::Template, AllocError>
+) -> Result<plain_program::Template, AllocError>
     requires right { IsRight places.old }
     requires fits { length (item_tokens (template_item template)) < 2 ^ 32 }
     ensures template { IfOk result (λ t. seen_template t ≡ template_at places.old.bytes.now places.old.tokens.now template.name (map bare_statement template.body.statements)) }
@@ -105,12 +105,12 @@ fn placed_template(
     let Template { name, body } = template;
     let Block { statements } = body;
     let statements = placed_statements(alloc, places, HEAD, statements.into_vec())?;
-    Ok(program::Template {
+    Ok(plain_program::Template {
         file: 0,
         line: spot.line,
         column: spot.column,
         name,
-        body: program::Block {
+        body: plain_program::Block {
             statements: Items::of(statements),
         },
     })
@@ -131,7 +131,7 @@ fn placed_program(
     let count = statements_len(template.body.statements.as_slice());
     let template = placed_template(alloc, places, template)?;
     let spot = places.of_token(HEAD + count + 1);
-    let main = program::Main {
+    let main = plain_program::Main {
         file: 0,
         line: spot.line,
         column: spot.column,

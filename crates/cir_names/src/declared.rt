@@ -3,12 +3,12 @@ ghost use Rattle.std.specs.Prelude.{◌≡◌, ◌+◌, ◌<◌, ◌^◌, ℕ, L
 ghost use Rattle.std.specs.Map.{update};
 ghost use Rattle.std.specs.Str.{bytes_eq};
 ghost use Rattle.std.specs.List.{flat_map};
-ghost use Rattle.cir_ast.specs.Print.{statement_tokens};
-ghost use Rattle.cir_ast.specs.Tree.{names_of, bare_statement};
+ghost use Rattle.cir_ast.specs.PlainPrint.{statement_tokens};
+ghost use Rattle.cir_ast.specs.PlainTree.{names_of, bare_statement};
 ghost use Rattle.cir_names.specs.Names.{declared_in, nothing, declared_after, first_repeat, names_in, Declares};
 
 use crate::lengths::statement_len;
-use cir_ast::tree::{Assign, DeclaredSignal, Simple, Statement};
+use cir_ast::plain_tree::{Assign, DeclaredSignal, Simple, Statement};
 use std::alloc::{AllocError, Global};
 use std::collections::BTreeMap;
 

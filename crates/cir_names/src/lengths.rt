@@ -1,10 +1,10 @@
 //! How many tokens a tree prints.
 ghost use Rattle.std.specs.Prelude.{◌≡◌, ◌<◌, ◌^◌, length, map};
 ghost use Rattle.std.specs.List.{flat_map};
-ghost use Rattle.cir_ast.specs.Print.{tokens_of, names_tokens, direction_tokens, statement_tokens};
-ghost use Rattle.cir_ast.specs.Tree.{bare, names_of, bare_statement};
+ghost use Rattle.cir_ast.specs.PlainPrint.{tokens_of, names_tokens, direction_tokens, statement_tokens};
+ghost use Rattle.cir_ast.specs.PlainTree.{bare, names_of, bare_statement};
 
-use cir_ast::tree::{Assign, DeclaredSignal, Direction, Expr, Simple, Statement};
+use cir_ast::plain_tree::{Assign, DeclaredSignal, Direction, Expr, Simple, Statement};
 
 fn expression_len(expression: &Expr) -> usize
     requires { length (tokens_of (bare expression.now)) < 2 ^ 32 }

@@ -5,10 +5,10 @@ ghost use Rattle.cir_names.specs.Loading.{Loads, LoadsTokens};
 use crate::build::program;
 use crate::fault::{LoadFault, refused};
 use crate::place::{Places, Spot};
-use cir_ast::program::Program;
+use cir_ast::plain_program::Program;
 use cir_ast::{Kind, Which};
 use cir_lexer::{LexFault, Token, lex};
-use cir_parse::{ParseFault, parse};
+use cir_plain::{ParseFault, parse};
 use std::alloc::Global;
 
 /// The number of bytes that a source file may have.

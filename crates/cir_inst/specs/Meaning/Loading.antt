@@ -2,22 +2,22 @@
 use Rattle.std.specs.Prelude.{ℕ, List, [], ◌∷◌, Bool, true, false, ◌||◌, Option, Some, None, Ok, if◌then◌else◌}
 use Rattle.std.specs.Map.{update}
 use Rattle.std.specs.Str.{bytes_eq}
-use Rattle.cir_ast.specs.declared.program.Program.{Program}
-use Rattle.cir_ast.specs.declared.program.Template.{Template}
-use Rattle.cir_ast.specs.declared.program.Function.{Function}
-use Rattle.cir_ast.specs.declared.program.Main.{Main}
-use Rattle.cir_ast.specs.declared.program.Statement.{Statement}
-use Rattle.cir_ast.specs.declared.program.StatementForm.{StatementForm}
-use Rattle.cir_ast.specs.declared.program.StatementForm.TheVariants.{Simple as Simple'}
-use Rattle.cir_ast.specs.declared.tree.Direction.{Direction}
-use Rattle.cir_ast.specs.declared.tree.Direction.TheVariants.{Inner, Input, Output}
-use Rattle.cir_ast.specs.declared.tree.DeclaredSignal.{DeclaredSignal}
-use Rattle.cir_ast.specs.declared.tree.Expr.{Expr}
-use Rattle.cir_ast.specs.declared.tree.Expr.TheVariants.{Number, Place, Parentheses', Binary'}
-use Rattle.cir_ast.specs.declared.tree.Simple.{Simple}
-use Rattle.cir_ast.specs.declared.tree.Simple.TheVariants.{Signals, Assign, Constrain}
-use Rattle.cir_ast.specs.declared.tree.Assign.{Assign as Assignment}
-use Rattle.cir_ast.specs.declared.tree.Assign.TheVariants.{ConstrainLeft}
+use Rattle.cir_ast.specs.declared.plain_program.Program.{Program}
+use Rattle.cir_ast.specs.declared.plain_program.Template.{Template}
+use Rattle.cir_ast.specs.declared.plain_program.Function.{Function}
+use Rattle.cir_ast.specs.declared.plain_program.Main.{Main}
+use Rattle.cir_ast.specs.declared.plain_program.Statement.{Statement}
+use Rattle.cir_ast.specs.declared.plain_program.StatementForm.{StatementForm}
+use Rattle.cir_ast.specs.declared.plain_program.StatementForm.TheVariants.{Simple as Simple'}
+use Rattle.cir_ast.specs.declared.plain_tree.Direction.{Direction}
+use Rattle.cir_ast.specs.declared.plain_tree.Direction.TheVariants.{Inner, Input, Output}
+use Rattle.cir_ast.specs.declared.plain_tree.DeclaredSignal.{DeclaredSignal}
+use Rattle.cir_ast.specs.declared.plain_tree.Expr.{Expr}
+use Rattle.cir_ast.specs.declared.plain_tree.Expr.TheVariants.{Number, Place, Parentheses', Binary'}
+use Rattle.cir_ast.specs.declared.plain_tree.Simple.{Simple}
+use Rattle.cir_ast.specs.declared.plain_tree.Simple.TheVariants.{Signals, Assign, Constrain}
+use Rattle.cir_ast.specs.declared.plain_tree.Assign.{Assign as Assignment}
+use Rattle.cir_ast.specs.declared.plain_tree.Assign.TheVariants.{ConstrainLeft}
 use Rattle.cir_ast.specs.declared.refusal.Kind.TheVariants.{Main as MainKind, UnknownName, WrongKind}
 use Rattle.cir_inst.specs.declared.stop.Spot.{Spot}
 use Rattle.cir_inst.specs.Meaning.Tried.{Tried, next, refused}

@@ -1,19 +1,20 @@
 -- What a program compiles to, and which assignments satisfy it.
-use Rattle.std.specs.Prelude.{◌≡◌, ℕ, ◌+◌, List, [], ◌∷◌, length, All, None, Result, Ok, Err, MatchResult, if◌then◌else◌, nat_le, slice_get, unwrap_or, codes}
-use Rattle.cir_ast.specs.declared.program.Program.{Program}
-use Rattle.cir_ast.specs.declared.program.Template.{Template}
-use Rattle.cir_ast.specs.declared.program.Statement.{Statement}
-use Rattle.cir_ast.specs.declared.program.StatementForm.{StatementForm}
-use Rattle.cir_ast.specs.declared.program.StatementForm.TheVariants.{Simple as Simple'}
-use Rattle.cir_ast.specs.declared.tree.Simple.TheVariants.{Signals, Assign, Constrain}
-use Rattle.cir_ast.specs.declared.tree.Direction.{Direction}
-use Rattle.cir_ast.specs.declared.tree.Direction.TheVariants.{Inner, Input, Output}
+use Rattle.std.specs.Prelude.{ℕ, ◌+◌, List, [], ◌∷◌, length, All, None, Result, Ok, Err, MatchResult, if◌then◌else◌, nat_le, slice_get, unwrap_or, codes}
+use Rattle.cir_ast.specs.declared.plain_program.Program.{Program}
+use Rattle.cir_ast.specs.declared.plain_program.Template.{Template}
+use Rattle.cir_ast.specs.declared.plain_program.Statement.{Statement}
+use Rattle.cir_ast.specs.declared.plain_program.StatementForm.{StatementForm}
+use Rattle.cir_ast.specs.declared.plain_program.StatementForm.TheVariants.{Simple as Simple'}
+use Rattle.cir_ast.specs.declared.plain_tree.Simple.TheVariants.{Signals, Assign, Constrain}
+use Rattle.cir_ast.specs.declared.plain_tree.Direction.{Direction}
+use Rattle.cir_ast.specs.declared.plain_tree.Direction.TheVariants.{Inner, Input, Output}
 use Rattle.cir_ast.specs.declared.refusal.Refusal.{Refusal}
 use Rattle.cir_lc.specs.Number.{Assignment}
 use Rattle.cir_inst.specs.declared.stop.Stop.{Stop}
 use Rattle.cir_inst.specs.declared.counts.Counts.{Counts}
 use Rattle.cir_inst.specs.Meaning.Tried.{Tried, next}
-use Rattle.cir_inst.specs.Meaning.Equation.{Equation, most_signals}
+use Rattle.cir_meaning.specs.Source.{Equation, IsEqualAt}
+use Rattle.cir_inst.specs.Meaning.Equation.{most_signals}
 use Rattle.cir_inst.specs.Meaning.Statement.{World, run_all, ended}
 use Rattle.cir_inst.specs.Meaning.Loading.{loaded}
 
@@ -79,4 +80,4 @@ meaning p = then_at p (codes "main") (at_path p (codes "-") (loaded p)) (λ t. e
 
 -- an assignment satisfies a program that isn't refused, where the two sides of each equation are equal
 abbrev pub Satisfies : Program → Assignment → Type 0
-Satisfies p s = MatchResult (meaning p) (λ m. All (λ e. e.left s ≡ e.right s) m.equations) (λ _. ⊥)
+Satisfies p s = MatchResult (meaning p) (λ m. All (IsEqualAt s) m.equations) (λ _. ⊥)

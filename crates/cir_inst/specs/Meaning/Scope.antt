@@ -2,15 +2,15 @@
 use Rattle.std.specs.Prelude.{ℕ, ◌+◌, List, [], ◌∷◌, ◌++◌, length, Bool, true, false, Option, Some, None, Ok, if◌then◌else◌, slice_get, slice_set}
 use Rattle.std.specs.Map.{update}
 use Rattle.std.specs.Str.{bytes_eq}
-use Rattle.cir_ast.specs.declared.tree.Direction.{Direction}
-use Rattle.cir_ast.specs.declared.tree.Direction.TheVariants.{Inner, Input, Output}
-use Rattle.cir_ast.specs.declared.tree.DeclaredSignal.{DeclaredSignal}
+use Rattle.cir_ast.specs.declared.plain_tree.Direction.{Direction}
+use Rattle.cir_ast.specs.declared.plain_tree.Direction.TheVariants.{Inner, Input, Output}
+use Rattle.cir_ast.specs.declared.plain_tree.DeclaredSignal.{DeclaredSignal}
 use Rattle.cir_ast.specs.declared.refusal.Kind.TheVariants.{UnknownName, ReadBeforeWrite, SecondWrite}
 use Rattle.cir_lc.specs.Number.{signal}
 use Rattle.cir_inst.specs.declared.stop.Spot.{Spot}
 use Rattle.cir_inst.specs.declared.scope.Signal.{Signal}
 use Rattle.cir_inst.specs.Meaning.Tried.{Tried, next, refused}
-use Rattle.cir_inst.specs.Meaning.Value.{Value, Linear}
+use Rattle.cir_meaning.specs.Values.{Value, Linear}
 
 pub record Scope : Type 0 where
   -- the place of each declared name among the signals

@@ -1,31 +1,33 @@
 -- The execution of a template's statements.
 use Rattle.std.specs.Prelude.{ℕ, ◌+◌, ◌%◌, List, [], ◌∷◌, length, Ok, if◌then◌else◌}
 use Rattle.gold_field.specs.declared.gold.TheConstants.{P}
-use Rattle.cir_ast.specs.declared.tree.Expr.{Expr}
-use Rattle.cir_ast.specs.declared.tree.Expr.TheVariants.{Number, Place, Parentheses', Binary'}
-use Rattle.cir_ast.specs.declared.tree.Simple.{Simple}
-use Rattle.cir_ast.specs.declared.tree.Simple.TheVariants.{Signals, Assign, Constrain}
-use Rattle.cir_ast.specs.declared.tree.Assign.{Assign as Assignment}
-use Rattle.cir_ast.specs.declared.tree.Assign.TheVariants.{ConstrainLeft}
-use Rattle.cir_ast.specs.declared.program.Statement.{Statement}
-use Rattle.cir_ast.specs.declared.program.StatementForm.{StatementForm}
-use Rattle.cir_ast.specs.declared.program.StatementForm.TheVariants.{Simple as Simple'}
+use Rattle.cir_ast.specs.declared.plain_tree.Expr.{Expr}
+use Rattle.cir_ast.specs.declared.plain_tree.Expr.TheVariants.{Number, Place, Parentheses', Binary'}
+use Rattle.cir_ast.specs.declared.plain_tree.Simple.{Simple}
+use Rattle.cir_ast.specs.declared.plain_tree.Simple.TheVariants.{Signals, Assign, Constrain}
+use Rattle.cir_ast.specs.declared.plain_tree.Assign.{Assign as Assignment}
+use Rattle.cir_ast.specs.declared.plain_tree.Assign.TheVariants.{ConstrainLeft}
+use Rattle.cir_ast.specs.declared.plain_program.Statement.{Statement}
+use Rattle.cir_ast.specs.declared.plain_program.StatementForm.{StatementForm}
+use Rattle.cir_ast.specs.declared.plain_program.StatementForm.TheVariants.{Simple as Simple'}
 use Rattle.cir_ast.specs.declared.refusal.Kind.TheVariants.{NeverWritten}
 use Rattle.cir_ast.specs.declared.refusal.Which.TheVariants.{Signals as SignalCount}
 use Rattle.cir_lc.specs.Number.{signal}
 use Rattle.cir_inst.specs.declared.stop.Spot.{Spot}
 use Rattle.cir_inst.specs.declared.scope.Signal.{Signal}
 use Rattle.cir_inst.specs.Meaning.Tried.{Tried, next, refused}
-use Rattle.cir_inst.specs.Meaning.Value.{Value, Known, Linear, result_of}
+use Rattle.cir_meaning.specs.Values.{Value, Known, Linear}
+use Rattle.cir_meaning.specs.Source.{Equation}
+use Rattle.cir_inst.specs.Meaning.Operator.{plain_result}
 use Rattle.cir_inst.specs.Meaning.Scope.{Scope, all_created, value_of_name, write_of_name}
-use Rattle.cir_inst.specs.Meaning.Equation.{Equation, most_signals, limited, constrained}
+use Rattle.cir_inst.specs.Meaning.Equation.{most_signals, limited, constrained}
 
 -- operands are evaluated from left to right
 abbrev pub value_in : Spot → Expr → Scope → Tried Value
 value_in spot (Number n) s = Ok (Known (n % P))
 value_in spot (Place p) s = value_of_name spot p.name s
 value_in spot (Parentheses' _ e) s = value_in spot e s
-value_in spot (Binary' op _ a _ b) s = next (value_in spot a s) (λ x. next (value_in spot b s) (λ y. Ok (result_of op x y)))
+value_in spot (Binary' op _ a _ b) s = next (value_in spot a s) (λ x. next (value_in spot b s) (λ y. Ok (plain_result op x y)))
 
 pub record World : Type 0 where
   pub scope : Scope

@@ -1,6 +1,6 @@
 use Rattle.std.proofs.Common.{subst}
 use Rattle.cir_lc.specs.Number.{Number}
-use Rattle.cir_inst.specs.Meaning.Value.{Linear}
+use Rattle.cir_meaning.specs.Values.{Linear}
 use Rattle.cir_inst.specs.Meaning.Equation.{constrained}
 use Rattle.cir_inst.specs.Seen.{seen, meant}
 use Rattle.cir_inst.specs.Source.{Records}

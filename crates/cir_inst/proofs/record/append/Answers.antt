@@ -1,7 +1,8 @@
 use Rattle.std.proofs.Common.{◌++◌, ◌∷◌, [], ◌≤◌, length, arith}
 use Rattle.std.proofs.lemmas.List.{length_push}
-use Rattle.cir_inst.specs.Meaning.Equation.{all_terms}
-use Rattle.cir_inst.proofs.Recording.{source_push, source_length, too_many, too_long, all_fit, made, terms_more, differences_push}
+use Rattle.cir_meaning.specs.Source.{all_terms}
+use Rattle.cir_meaning.proofs.TermCount.{source_length}
+use Rattle.cir_inst.proofs.Recording.{source_push, too_many, too_long, all_fit, made, terms_more, differences_push}
 use Rattle.cir_inst.proofs.record.append.Goals as goal
 
 pub returns-then-len-ge-MOST_CONSTRAINTS-clause-value : goal.returns-then-len-ge-MOST_CONSTRAINTS-clause-value

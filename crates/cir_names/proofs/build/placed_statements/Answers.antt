@@ -1,7 +1,7 @@
 use Rattle.std.proofs.Common.{arith, rules, refl, ◌≡◌, ◌+◌, ◌<◌, ◌^◌, length, subst, sym, ap, ◌∙◌}
 use Rattle.std.proofs.lemmas.List.{nil_from_length}
-use Rattle.cir_ast.specs.Tree.{bare_statement}
-use Rattle.cir_ast.specs.Print.{statement_tokens}
+use Rattle.cir_ast.specs.PlainTree.{bare_statement}
+use Rattle.cir_ast.specs.PlainPrint.{statement_tokens}
 use Rattle.cir_names.specs.Programs.{seen_statement, placed_at}
 use Rattle.cir_names.proofs.Building.{built_none, built_fits, built_more, built_all, same_text}
 use Rattle.cir_names.proofs.build.placed_statements.Goals as goal

@@ -1,8 +1,8 @@
 use Rattle.std.proofs.Common.{◌≡◌, ◌+◌, length, drop}
 use Rattle.std.specs.Prelude.{map}
 use Rattle.std.specs.List.{flat_map}
-use Rattle.cir_ast.specs.Tree.{bare_statement}
-use Rattle.cir_ast.specs.Print.{statement_tokens}
+use Rattle.cir_ast.specs.PlainTree.{bare_statement}
+use Rattle.cir_ast.specs.PlainPrint.{statement_tokens}
 use Rattle.cir_names.proofs.lengths.statements_len.Given as goal
 
 -- counted so far, and what is left, are the whole

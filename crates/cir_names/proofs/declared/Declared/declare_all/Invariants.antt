@@ -1,5 +1,5 @@
 use Rattle.std.proofs.Common.{◌≡◌, drop}
-use Rattle.cir_ast.specs.Tree.{names_of}
+use Rattle.cir_ast.specs.PlainTree.{names_of}
 use Rattle.cir_names.specs.Names.{declared_in, declared_after}
 use Rattle.cir_names.proofs.declared.Declared.declare_all.Given as goal
 
