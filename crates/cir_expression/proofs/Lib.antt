@@ -1,0 +1,5 @@
+pub mod Front
+pub mod Lists
+pub mod Sound
+pub mod Steps
+pub mod Undo

@@ -1,0 +1,43 @@
+-- What stands at the front of tokens.
+use Rattle.std.specs.Prelude.{ℕ, Bool, false, if◌then◌else◌, List, [], ◌∷◌, Option, Some, None}
+use denote.Enum.Bare.{sameb}
+use Rattle.cir_lexer.specs.declared.token.TokenKind.{TokenKind}
+use Rattle.cir_lexer.specs.declared.token.TokenKind.TheVariants as token
+use Rattle.cir_lexer.specs.declared.token.Reserved.{Reserved}
+use Rattle.cir_lexer.specs.contracts.token.Reserved.{the_type as reserved_type}
+use Rattle.cir_lexer.specs.declared.token.Symbol.{Symbol}
+use Rattle.cir_lexer.specs.contracts.token.Symbol.{the_type as symbol_type}
+
+abbrev pub Tokens : Type 0
+Tokens = List TokenKind
+
+abbrev pub next : {A B : Type 0} → Option A → (A → Option B) → Option B
+next None go = None
+next (Some x) go = go x
+
+abbrev pub otherwise : {A B : Type 0} → Option A → B → (A → B) → B
+otherwise None end go = end
+otherwise (Some x) end go = go x
+
+abbrev pub tail : Tokens → Tokens
+tail [] = []
+tail (t ∷ ts) = ts
+
+abbrev pub begins : Symbol → Tokens → Bool
+begins s (token.Symbol t ∷ ts) = sameb symbol_type t s
+begins s _ = false
+
+abbrev pub begins_word : Reserved → Tokens → Bool
+begins_word w (token.Reserved t ∷ ts) = sameb reserved_type t w
+begins_word w _ = false
+
+-- what stands behind this symbol or word
+abbrev pub behind : Symbol → Tokens → Option Tokens
+behind s ts = if begins s ts then Some (tail ts) else None
+
+abbrev pub behind_word : Reserved → Tokens → Option Tokens
+behind_word w ts = if begins_word w ts then Some (tail ts) else None
+
+abbrev pub name_at : Tokens → Option (List ℕ × Tokens)
+name_at (token.Name name ∷ ts) = Some (name, ts)
+name_at _ = None

@@ -1,0 +1,4 @@
+pub mod Front
+pub mod Reading
+pub mod Answers
+pub mod Measured

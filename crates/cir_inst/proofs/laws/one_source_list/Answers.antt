@@ -1,5 +1,0 @@
-use Rattle.cir_inst.proofs.OneSource.{one_source}
-use Rattle.cir_inst.proofs.laws.one_source_list.Goals as goal
-
-pub returns : goal.returns
-returns c = one_source

@@ -1,0 +1,4 @@
+pub mod Bounded
+pub mod Walk
+pub mod Counting
+pub mod Lists
