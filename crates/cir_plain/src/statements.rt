@@ -5,7 +5,9 @@ ghost use Rattle.cir_plain.specs.Reading.{names, declared, declaration, equation
 ghost use Rattle.cir_plain.specs.Answers.{Reads, Passes, IsPlaceOf};
 
 use crate::reading::{Reader, Stop};
-use cir_ast::plain_tree::{Assign, DeclaredSignal, Direction, Expr, Place, Signals, Simple, Statement};
+use cir_ast::plain_tree::{
+    Assign, DeclaredSignal, Direction, Expr, Place, Signals, Simple, Statement,
+};
 use cir_lexer::{Reserved, Symbol};
 use items::Items;
 use std::alloc::Global;
