@@ -34,7 +34,7 @@ pub(crate) fn separated_len<T: Printed>(list: &[T]) -> usize
 }
 
 /// The number of tokens that the names print, with commas between them.
-pub(crate) fn names_len(names: &[Text]) -> usize
+pub fn names_len(names: &[Text]) -> usize
     requires { length (list_tokens name_tokens names.now) < 2 ^ 32 }
     ensures { result ≡ length (list_tokens name_tokens names.now) }
 {
@@ -113,4 +113,12 @@ pub fn vars_len(vars: &Vars) -> usize
     ensures { result ≡ length (vars_tokens (map bare_variable vars.now.variables)) }
 {
     1 + separated_len(vars.variables.as_slice())
+}
+
+/// The number of tokens that the arguments of a `log` print, with commas between them.
+pub fn arguments_len(arguments: &[LogArgument]) -> usize
+    requires { length (list_tokens argument_tokens (map bare_argument arguments.now)) < 2 ^ 32 }
+    ensures { result ≡ length (list_tokens argument_tokens (map bare_argument arguments.now)) }
+{
+    separated_len(arguments)
 }

@@ -6,7 +6,7 @@ ghost use Rattle.cir_ast.specs.Print.{tokens_of, listed, parallel_tokens, dimens
 use cir_ast::tree::{Accessor, Expr, Place};
 
 /// The number of tokens of the word `parallel`, where it is written.
-pub(crate) fn parallel_len(parallel: bool) -> usize
+pub fn parallel_len(parallel: bool) -> usize
     ensures { result ≡ length (parallel_tokens parallel) }
 {
     if parallel { 1 } else { 0 }

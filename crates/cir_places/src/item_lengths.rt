@@ -36,7 +36,8 @@ fn public_len(names: &[Text]) -> usize
     }
 }
 
-fn main_len(main: &Main) -> usize
+/// The number of tokens that the main component prints.
+pub fn main_len(main: &Main) -> usize
     requires { length (item_tokens (MainItem main.now.public main.now.template (bare_exprs main.now.arguments))) < 2 ^ 32 }
     ensures { result ≡ length (item_tokens (MainItem main.now.public main.now.template (bare_exprs main.now.arguments))) }
 {
