@@ -1,0 +1,9 @@
+pub mod Declared
+pub mod Files
+pub mod Forms
+pub mod Nested
+pub mod Parts
+pub mod Steps
+pub mod Undone
+pub mod Unnested
+pub mod Whole
