@@ -1,0 +1,6 @@
+pub mod Paths
+pub mod Decoding
+pub mod Searching
+pub mod Reaching
+pub mod Following
+pub mod Program

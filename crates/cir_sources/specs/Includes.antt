@@ -1,0 +1,113 @@
+-- The files of a program: which file an include names, and which files are reached.
+use Rattle.std.specs.Prelude.{◌≡◌, ◌≤◌, ℕ, ◌+◌, ◌==◌, Bool, not, false, List, [], ◌∷◌, ◌++◌, length, if◌then◌else◌, Option, None, Some, Ok, is_some}
+use Rattle.std.specs.List.{list_any}
+use Rattle.std.specs.Str.{bytes_eq, is_utf8}
+use Rattle.out_io.specs.Contents.{Contents}
+use Rattle.cir_lexer.specs.declared.token.Token.{Token}
+use Rattle.cir_lexer.specs.Reading.{IsReading}
+use Rattle.cir_ast.specs.Tree.{Item, Pragma, Include, Template, Function, Main, File, bare_file}
+use Rattle.cir_ast.specs.Print.{item_tokens}
+use Rattle.cir_expression.specs.Answers.{kinds}
+use Rattle.cir_parse.specs.Contract.{IsTree}
+use Rattle.cir_parse.specs.LeftOut.{first_left_out}
+use Rattle.cir_places.specs.Places.{token_spot}
+use Rattle.cir_sources.specs.declared.source.Source.{Source as CodeSource}
+use Rattle.cir_sources.specs.declared.source.Site.{Site}
+use Rattle.cir_sources.specs.declared.source.TheConstants.{MAX_SOURCE}
+use Rattle.cir_sources.specs.Names.{folder_of, resolved, in_folder}
+
+-- a source file, with its tree as plain data
+pub record Source : Type 0 where
+  pub name : List ℕ
+  pub bytes : List ℕ
+  pub tokens : List Token
+  pub tree : File
+
+abbrev pub seen : CodeSource → Source
+seen s = record { name = s.name; bytes = s.bytes; tokens = s.tokens; tree = bare_file s.file }
+
+-- a pragma whose first number isn't 2
+abbrev pub is_other_version : Item → Bool
+is_other_version (Pragma major minor patch) = not (major == 2)
+is_other_version (Include name) = false
+is_other_version (Template parallel name parameters body) = false
+is_other_version (Function name parameters body) = false
+is_other_version (Main names template arguments) = false
+
+-- the first token of the first such pragma; the first item begins at token n
+abbrev pub other_version : ℕ → File → Option ℕ
+other_version n [] = None
+other_version n (item ∷ items) = if is_other_version item then Some n else other_version (n + length (item_tokens item)) items
+
+-- the bytes are short enough, they are these tokens, and the tokens are of this tree and of version 2
+pub record IsRead (s : Source) : Type 0 where
+  pub short : length s.bytes ≤ MAX_SOURCE
+  pub reading : IsReading s.bytes (Ok s.tokens)
+  pub whole : first_left_out 0 (kinds s.tokens) ≡ None
+  pub tree : IsTree (kinds s.tokens) s.tree
+  pub version : other_version 0 s.tree ≡ None
+
+-- The bytes under a name, where it can be asked for. A name that isn't UTF-8 has none; the lexer refuses a
+-- source with such a name in it anyway.
+abbrev pub held : Contents → List ℕ → Option (List ℕ)
+held files name = if is_utf8 name then files name else None
+
+-- the source is read from the file of its name
+pub record IsSource (files : Contents) (s : Source) : Type 0 where
+  pub there : held files s.name ≡ Some s.bytes
+  pub read : IsRead s
+
+-- the includes among these items of the source, each at its first token; the first item begins at token n
+abbrev pub includes_from : Source → ℕ → File → List Site
+includes_from s n [] = []
+includes_from s n (Include name ∷ items) =
+    record { file = s.name; name = name; spot = token_spot s.bytes s.tokens n } ∷ includes_from s (n + length (item_tokens (Include name))) items
+includes_from s n (item ∷ items) = includes_from s (n + length (item_tokens item)) items
+
+-- the includes of the source, in order
+abbrev pub includes_of : Source → List Site
+includes_of s = includes_from s 0 s.tree
+
+-- the name that an include has beside its file
+abbrev pub beside : Site → List ℕ
+beside site = resolved (folder_of site.file ++ site.name)
+
+-- the name that it has in the folder of libraries
+abbrev pub in_library : Option (List ℕ) → Site → Option (List ℕ)
+in_library None site = None
+in_library (Some folder) site = Some (resolved (in_folder folder site.name))
+
+-- this name, where there is a file of it
+abbrev pub if_held : Contents → Option (List ℕ) → Option (List ℕ)
+if_held files None = None
+if_held files (Some name) = if is_some (held files name) then Some name else None
+
+-- the name of the included file: beside the including one, else in the folder of libraries
+abbrev pub chosen : Contents → Option (List ℕ) → Site → Option (List ℕ)
+chosen files library site = if is_some (held files (beside site)) then Some (beside site) else if_held files (in_library library site)
+
+-- the name is among these
+abbrev pub is_among : List (List ℕ) → List ℕ → Bool
+is_among names name = list_any (λ n. bytes_eq n name) names
+
+-- the name is there, and among these
+abbrev pub is_loaded : List (List ℕ) → Option (List ℕ) → Bool
+is_loaded loaded None = false
+is_loaded loaded (Some name) = is_among loaded name
+
+-- without the includes at the front whose file is loaded already
+abbrev pub skipped : Contents → Option (List ℕ) → List (List ℕ) → List Site → List Site
+skipped files library loaded [] = []
+skipped files library loaded (site ∷ sites) = if is_loaded loaded (chosen files library site) then skipped files library loaded sites else site ∷ sites
+
+-- what follows for the includes behind the first, where the first one names this file
+abbrev pub follow : Contents → Option (List ℕ) → List ℕ → List Site → (List Site → Option (List Site)) → Option (List Site)
+follow files library name [] go = None
+follow files library name (site ∷ sites) go = if is_loaded (name ∷ []) (chosen files library site) then go sites else None
+
+-- The includes that are left to follow, once these new sources are loaded one after the other: each is the one
+-- that the first include names whose file isn't loaded yet, and its own includes come before those that follow.
+abbrev pub left_after : Contents → Option (List ℕ) → List (List ℕ) → List Site → List Source → Option (List Site)
+left_after files library loaded sites [] = Some (skipped files library loaded sites)
+left_after files library loaded sites (s ∷ ss) =
+    follow files library s.name (skipped files library loaded sites) (λ rest. left_after files library (loaded ++ s.name ∷ []) (includes_of s ++ rest) ss)

@@ -1,0 +1,5 @@
+pub mod Names
+pub mod Includes
+pub mod Faults
+pub mod Loading
+pub mod Steps

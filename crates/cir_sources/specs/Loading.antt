@@ -1,0 +1,74 @@
+-- What the loading of a program's sources answers.
+use Rattle.std.specs.Prelude.{◌≡◌, ℕ, ◌+◌, ◌≤◌, List, [], ◌∷◌, length, map, ⊤, ◌⊎◌, All, Option, None, Some, Result, Ok, Err, Vec}
+use Rattle.std.specs.declared.alloc.Global.{Global}
+use Rattle.out_io.specs.Contents.{Contents}
+use Rattle.out_io.specs.declared.fault.IoFault.{IoFault}
+use Rattle.out_io.specs.declared.fault.IoFault.TheVariants as io
+use Rattle.cir_ast.specs.declared.refusal.Refusal.{Refusal}
+use Rattle.cir_sources.specs.declared.source.Source.{Source as CodeSource}
+use Rattle.cir_sources.specs.declared.source.Site.{Site}
+use Rattle.cir_sources.specs.declared.source.TheConstants.{MAX_FILES}
+use Rattle.cir_sources.specs.declared.fault.LoadFault.{LoadFault}
+use Rattle.cir_sources.specs.declared.fault.LoadFault.TheVariants as fault
+use Rattle.cir_sources.specs.Includes.{Source, seen, IsRead, IsSource, includes_of, left_after}
+use Rattle.cir_sources.specs.Faults.{IsFault, IsStop}
+
+-- these sources are reached from the first file of this name, in this order, and these includes are left to follow
+pub record AreReached (files : Contents) (name : List ℕ) (library : Option (List ℕ)) (first : Source) (more : List Source) (left : List Site) : Type 0 where
+  pub named : first.name ≡ name
+  pub source : IsSource files first
+  pub sources : All (IsSource files) more
+  pub sites : left_after files library (name ∷ []) (includes_of first) more ≡ Some left
+
+-- all sources of the program
+pub record AreAll (files : Contents) (name : List ℕ) (library : Option (List ℕ)) (all : List Source) : Type 0 where
+  pub first : Source
+  pub more : List Source
+  pub parts : all ≡ first ∷ more
+  pub reached : AreReached files name library first more []
+
+-- the first file has a fault
+pub record IsFirstFault (files : Contents) (name : List ℕ) (r : Refusal) : Type 0 where
+  pub bytes : List ℕ
+  pub there : files name ≡ Some bytes
+  pub fault : IsFault name bytes r
+
+-- the first include whose file isn't loaded can't be followed
+pub record IsIncludeFault (files : Contents) (name : List ℕ) (library : Option (List ℕ)) (r : Refusal) : Type 0 where
+  pub first : Source
+  pub more : List Source
+  pub site : Site
+  pub rest : List Site
+  pub reached : AreReached files name library first more (site ∷ rest)
+  pub stop : IsStop files library (1 + length more) site r
+
+-- the fault of a store's call
+abbrev pub fault_of : IoFault → LoadFault
+fault_of io.Failed = fault.Fault
+fault_of io.OutOfMemory = fault.OutOfMemory
+
+-- this holds of the contents, where the store tells them
+abbrev pub Told : Option Contents → (Contents → Type 0) → Type 0
+Told None P = ⊤
+Told (Some files) P = P files
+
+-- What the loading of the file of this name answers, over the contents where the store tells them. It fails only
+-- where the store did; want of memory is free.
+abbrev pub Loads : Option Contents → List ℕ → Option (List ℕ) → Type 0 → Result (Vec CodeSource Global) LoadFault → Type 0
+Loads contents name library failed (Ok v) = Told contents (λ files. AreAll files name library (map seen v.items))
+Loads contents name library failed (Err fault.Missing) = Told contents (λ files. files name ≡ None)
+Loads contents name library failed (Err (fault.Refused r)) = Told contents (λ files. IsFirstFault files name r ⊎ IsIncludeFault files name library r)
+Loads contents name library failed (Err fault.Fault) = failed
+Loads contents name library failed (Err fault.OutOfMemory) = ⊤
+
+-- what is known of the sources also where the store doesn't tell its contents
+pub record AreSources (all : List Source) : Type 0 where
+  pub some : 1 ≤ length all
+  pub few : length all ≤ MAX_FILES
+  pub read : All IsRead all
+
+-- the store was only read: its contents, its count of faults, and whether no call fails
+pub record OnlyReads (old new : Option Contents) (before after : ℕ) (quiet still_quiet : Type 0) : Type 0 where
+  pub same : new ≡ old
+  pub later : before ≤ after
+  pub steady : quiet → still_quiet × (after ≡ before)

@@ -1,0 +1,16 @@
+//! The source files of a program: those that the first one reaches by includes, depth first, each once.
+#![tactic(auto)]
+
+mod decode;
+mod fault;
+mod loading;
+mod path;
+mod search;
+mod source;
+
+pub use fault::LoadFault;
+pub use loading::sources;
+pub use source::{MAX_FILES, MAX_SOURCE, Site, Source};
+
+#[cfg(test)]
+mod tests;

@@ -1,0 +1,123 @@
+//! The files that a program reaches.
+ghost use Rattle.std.specs.Prelude.{◌≡◌, ◌≤◌, ◌++◌, reverse, string_bytes, length, IfOk, OnOk, map};
+ghost use Rattle.std.specs.Option.{option_copied};
+ghost use Rattle.out_io.specs.Faults.{Rose};
+ghost use Rattle.cir_sources.specs.Includes.{seen, IsRead};
+ghost use Rattle.cir_sources.specs.Loading.{Loads, AreSources, OnlyReads};
+ghost use Rattle.cir_sources.specs.Steps.{Adds, Begins, Follows, all_of};
+
+use crate::decode;
+use crate::fault::{LoadFault, refusal};
+use crate::search::{Target, search};
+use crate::source::{MAX_FILES, Site, Source};
+use cir_ast::{Kind, Which};
+use out_io::Store;
+use std::alloc::{AllocError, Global};
+use std::collections::BTreeSet;
+
+/// The sources that are loaded, and the includes that are left.
+#[derive(Drop)]
+struct Loading {
+    sources: Vec<Source>,
+    // The names of the sources.
+    names: BTreeSet<String>,
+    // The last one is followed first.
+    pending: Vec<Site>,
+}
+
+// Puts the includes on the pile so that the first one lies on top.
+fn pile(pending: &mut Vec<Site>, mut sites: Vec<Site>) -> Result<(), AllocError>
+    ensures { OnOk result (reverse pending.new.items ≡ sites.items ++ reverse pending.old.items) }
+{
+    while let Some(site) = sites.pop() {
+        pending.push(site)?;
+    }
+    Ok(())
+}
+
+impl Loading {
+    fn new(alloc: Global) -> Loading
+        ensures { Begins result }
+    {
+        Loading {
+            sources: Vec::new(alloc),
+            names: BTreeSet::new(alloc),
+            pending: Vec::new(alloc),
+        }
+    }
+
+    // Its includes are followed before the ones that were left.
+    fn add(&mut self, alloc: Global, name: String, source: Source) -> Result<(), AllocError>
+        requires read { IsRead (seen source) }
+        requires name { string_bytes name ≡ source.name }
+        ensures { OnOk result (Adds self.old (seen source) self.new) }
+    {
+        let sites = decode::sites(alloc, &source)?;
+        pile(&mut self.pending, sites)?;
+        self.names.insert(name)?;
+        self.sources.push(source)?;
+        Ok(())
+    }
+
+    // Loads the file that the include names, unless it is loaded already.
+    fn follow<S: Store>(
+        &mut self,
+        alloc: Global,
+        store: &mut S,
+        library: Option<&str>,
+        site: &Site,
+    ) -> Result<(), LoadFault>
+        requires few { length (all_of self.old) ≤ MAX_FILES }
+        ensures follows { Follows (S.contents store.old) (option_copied library.entry) self.old site.now self.new (Rose (S.faults store.old) (S.faults store.new)) result }
+        ensures store { OnlyReads (S.contents store.old) (S.contents store.new)
+            (S.faults store.old) (S.faults store.new) (S.never_fails store.old) (S.never_fails store.new) }
+    {
+        match search(alloc, store, &self.names, library, site)? {
+            Target::Loaded => Ok(()),
+            Target::Absent => {
+                let file = site.file.as_slice();
+                Err(refusal(alloc, file, Kind::Include, site.spot))
+            }
+            Target::Found { name, bytes } => {
+                if self.sources.len() >= MAX_FILES {
+                    let kind = Kind::Limit {
+                        which: Which::Files,
+                        count: MAX_FILES as u64 + 1,
+                    };
+                    let file = site.file.as_slice();
+                    return Err(refusal(alloc, file, kind, site.spot));
+                }
+                let source = decode::source(alloc, name.as_bytes(), bytes)?;
+                self.add(alloc, name, source)?;
+                Ok(())
+            }
+        }
+    }
+}
+
+/// The source files of the program whose first file has this name: the ones that it reaches by includes, depth
+/// first, each once. An include's file is looked for beside its own file, and then in the folder of libraries.
+pub fn sources<S: Store>(
+    alloc: Global,
+    store: &mut S,
+    name: &str,
+    library: Option<&str>,
+) -> Result<Vec<Source>, LoadFault>
+    ensures loads { Loads (S.contents store.old) name.now (option_copied library.entry) (Rose (S.faults store.old) (S.faults store.new)) result }
+    ensures read { IfOk result (λ v. AreSources (map seen v.items)) }
+    ensures store { OnlyReads (S.contents store.old) (S.contents store.new)
+        (S.faults store.old) (S.faults store.new) (S.never_fails store.old) (S.never_fails store.new) }
+{
+    let Some(bytes) = store.read(alloc, name)? else {
+        return Err(LoadFault::Missing);
+    };
+    let source = decode::source(alloc, name.as_bytes(), bytes)?;
+    let name = String::from_str(alloc, name)?;
+    let mut loading = Loading::new(alloc);
+    loading.add(alloc, name, source)?;
+    while let Some(site) = loading.pending.pop() {
+        loading.follow(alloc, store, library, &site)?;
+    }
+    let Loading { sources, .. } = loading;
+    Ok(sources)
+}

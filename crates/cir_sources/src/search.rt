@@ -1,0 +1,75 @@
+//! The file that an include names.
+ghost use Rattle.std.specs.Prelude.{◌≡◌, IfOk};
+ghost use Rattle.std.specs.Option.{option_copied};
+ghost use Rattle.out_io.specs.Faults.{CountsFaults};
+ghost use Rattle.cir_sources.specs.Loading.{Told};
+ghost use Rattle.cir_sources.specs.Steps.{Looks, FindsTarget};
+
+use crate::path::{beside, in_library};
+use crate::source::Site;
+use out_io::{IoFault, Store};
+use std::alloc::Global;
+use std::collections::BTreeSet;
+use std::str;
+
+/// What is known of a file.
+#[derive(Drop)]
+pub(crate) enum Target {
+    /// It is loaded already.
+    Loaded,
+    /// There is none.
+    Absent,
+    Found { name: String, bytes: Vec<u8> },
+}
+
+// What lies under the name, which is read only where it isn't loaded. A name that isn't UTF-8 has no file.
+fn look<S: Store>(
+    alloc: Global,
+    store: &mut S,
+    names: &BTreeSet<String>,
+    name: &[u8],
+) -> Result<Target, IoFault>
+    ensures looks { IfOk result (λ target. Told (S.contents store.old) (λ files. Looks files names.now name.now target)) }
+    ensures same { S.contents store.new ≡ S.contents store.old }
+    ensures cause { CountsFaults (S.faults store.old) (S.faults store.new) result }
+    ensures steady { S.never_fails store.old → S.never_fails store.new × (S.faults store.new ≡ S.faults store.old) }
+{
+    let Ok(text) = str::from_utf8(name) else {
+        return Ok(Target::Absent);
+    };
+    if names.contains(text) {
+        return Ok(Target::Loaded);
+    }
+    match store.read(alloc, text)? {
+        None => Ok(Target::Absent),
+        Some(bytes) => {
+            let name = String::from_str(alloc, text)?;
+            Ok(Target::Found { name, bytes })
+        }
+    }
+}
+
+/// The file that the include names: beside its own file, else in the folder of libraries.
+pub(crate) fn search<S: Store>(
+    alloc: Global,
+    store: &mut S,
+    names: &BTreeSet<String>,
+    library: Option<&str>,
+    site: &Site,
+) -> Result<Target, IoFault>
+    ensures targets { IfOk result (λ target. Told (S.contents store.old) (λ files. FindsTarget files names.now (option_copied library.entry) site.now target)) }
+    ensures same { S.contents store.new ≡ S.contents store.old }
+    ensures cause { CountsFaults (S.faults store.old) (S.faults store.new) result }
+    ensures steady { S.never_fails store.old → S.never_fails store.new × (S.faults store.new ≡ S.faults store.old) }
+{
+    let name = beside(alloc, site)?;
+    let target = look(alloc, store, names, name.as_slice())?;
+    match (target, library) {
+        (Target::Absent, Some(folder)) => {
+            let name = in_library(alloc, folder.as_bytes(), site)?;
+            let target = look(alloc, store, names, name.as_slice())?;
+            Ok(target)
+        }
+        (target, _) => Ok(target),
+    }
+}
