@@ -1,0 +1,4 @@
+pub mod Scope
+pub mod Placing
+pub mod InScope
+pub mod Walking
