@@ -1,0 +1,4 @@
+pub mod Scoped
+pub mod Seen
+pub mod Turns
+pub mod Mains

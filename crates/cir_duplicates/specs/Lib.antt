@@ -1,0 +1,4 @@
+pub mod Faults
+pub mod Duplicates
+pub mod Names
+pub mod Tables
