@@ -1,0 +1,45 @@
+# Sourced by the scripts here that time a small program beside one in C. The program is made in a folder of its own,
+# outside the repository, and built once; that proves the crates below it, if they aren't proved on this machine yet.
+
+# make_program FOLDER_bench LINE ..: builds the program of bench/FOLDER over the crates of these lines of crates.txt,
+# and bench/FOLDER.c. Sets work, and the two programs, ours and plain.
+make_program() {
+    name=$1
+    shift
+    top=$(cd "$(dirname "$0")/.." && pwd)
+    work=${TMPDIR:-/tmp}/$name.$(id -u)
+    mkdir -p "$work/crates/$name/src"
+    for line in "$@"; do
+        crate=${line%%:*}
+        mkdir -p "$work/crates/$crate"
+        for part in src specs proofs; do
+            rm -rf "$work/crates/$crate/$part"
+            if [ -d "$top/crates/$crate/$part" ]; then cp -r "$top/crates/$crate/$part" "$work/crates/$crate/"; fi
+        done
+    done
+    folder=${name%_bench}
+    cp "$top/HANDLES" "$work/"
+    cp "$top/bench/$folder/main.txt" "$work/crates/$name/src/main.rt"
+    printf '%s\n' "$@" > "$work/crates.txt"
+    printf '%s:' "$name" >> "$work/crates.txt"
+    for line in "$@"; do printf ' %s' "${line%%:*}"; done >> "$work/crates.txt"
+    echo >> "$work/crates.txt"
+    echo "building $name" >&2
+    (cd "$work/crates/$name" && rt run -- 1 > "$work/build.log" 2>&1) || { tail -5 "$work/build.log" >&2; exit 1; }
+    ${CC:-cc} -O2 -o "$work/${folder}_c" "$top/bench/$folder.c"
+    ours=$work/crates/$name/out/$name
+    plain=$work/${folder}_c
+}
+
+# best FILE PROGRAM WORD ..: the least processor time of the runs, whose first line goes to the file.
+best() {
+    first=$1
+    shift
+    least=
+    for _ in $(seq "$runs"); do
+        seconds=$( { /usr/bin/time -f %U "$@" > "$work/out"; } 2>&1 )
+        least=$(printf '%s\n%s\n' "$seconds" "$least" | grep . | sort -n | head -1)
+    done
+    head -1 "$work/out" > "$first"
+    echo "$least"
+}
