@@ -6,7 +6,11 @@ use std::alloc::AllocError;
 /// Why a source doesn't compile.
 #[derive(Debug, Drop)]
 pub enum CompileFault {
+    /// There is no file of the source's name.
+    Missing,
     Refused(Refusal),
+    /// The store failed. Its count of faults rose.
+    Fault,
     OutOfMemory,
 }
 
@@ -29,7 +33,9 @@ impl From<LoadFault> for CompileFault {
 
     fn from(fault: LoadFault) -> CompileFault {
         match fault {
+            LoadFault::Missing => CompileFault::Missing,
             LoadFault::Refused(refusal) => CompileFault::Refused(refusal),
+            LoadFault::Fault => CompileFault::Fault,
             LoadFault::OutOfMemory => CompileFault::OutOfMemory,
         }
     }

@@ -1,4 +1,2 @@
-pub mod Walk
-pub mod Counting
-pub mod Building
-pub mod Bounded
+mod Split
+mod Sources

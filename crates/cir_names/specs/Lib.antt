@@ -1,5 +1,3 @@
-pub mod Places
-pub mod Names
 pub mod Programs
-pub mod Refusing
+pub mod Splitting
 pub mod Loading

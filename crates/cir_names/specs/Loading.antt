@@ -1,58 +1,61 @@
--- What the loading of one source file answers.
-use Rattle.std.specs.Prelude.{◌≡◌, ℕ, ◌<◌, ◌≤◌, ◌^◌, List, ⊤, ◌⊎◌, Option, None, Some, Result, Ok, Err, length}
-use Rattle.cir_lexer.specs.declared.token.Token.{Token}
-use Rattle.cir_lexer.specs.declared.token.LexCause.{LexCause}
-use Rattle.cir_lexer.specs.declared.token.LexFault.TheVariants.{At}
-use Rattle.cir_lexer.specs.Reading.{IsReading}
-use Rattle.cir_ast.specs.PlainTree.{File}
-use Rattle.cir_ast.specs.declared.refusal.Kind.TheVariants.{Lexical, Duplicate, Limit, NotInProfile}
-use Rattle.cir_ast.specs.declared.refusal.Which.TheVariants.{Source}
-use Rattle.cir_ast.specs.declared.refusal.Form.TheVariants.{Unbuilt}
+-- What loading a program answers.
+use Rattle.std.specs.Prelude.{◌≡◌, ℕ, List, [], ⊤, ◌⊎◌, Option, None, Some, Result, Ok, Err, unwrap_or, slice_get}
+use Rattle.out_io.specs.Contents.{Contents}
+use Rattle.cir_ast.specs.declared.program.Program.{Program}
 use Rattle.cir_ast.specs.declared.refusal.Refusal.{Refusal}
-use Rattle.cir_ast.specs.declared.plain_program.Program.{Program}
-use Rattle.cir_plain.specs.Contract.{IsTree, kinds}
-use Rattle.cir_names.specs.declared.fault.LoadFault.{LoadFault}
-use Rattle.cir_names.specs.declared.fault.LoadFault.TheVariants.{Refused, OutOfMemory}
-use Rattle.cir_names.specs.Places.{start, spot_at, token_spot}
-use Rattle.cir_names.specs.Programs.{program_of, seen_program, repeat_in}
-use Rattle.cir_names.specs.Refusing.{refusal_at}
+use Rattle.cir_ast.specs.Placed.{seen_program}
+use Rattle.cir_duplicates.specs.declared.faults.Found.{Found as CodeFound}
+use Rattle.cir_checks.specs.Checks.{first_fault, Found}
+use Rattle.cir_sources.specs.Includes.{Source}
+use Rattle.cir_sources.specs.Faults.{refusal_at}
+use Rattle.cir_sources.specs.Loading.{AreAll, IsFirstFault, IsIncludeFault, Told}
+use Rattle.cir_sources.specs.declared.fault.LoadFault.{LoadFault}
+use Rattle.cir_sources.specs.declared.fault.LoadFault.TheVariants as fault
+use Rattle.cir_names.specs.Programs.{definitions_in, names_of, program_of}
 
--- no tree of the form prints the tokens: the form isn't built, at the first token, or at the start where there is none
-pub record IsUnbuilt (name bytes : List ℕ) (tokens : List Token) (r : Refusal) : Type 0 where
-  pub no_tree : (file : File) → ¬ IsTree (kinds tokens) file
-  pub refusal : r ≡ refusal_at name (NotInProfile Unbuilt) (token_spot bytes tokens 0)
+-- a fault as it was found
+abbrev pub seen_found : CodeFound → Found
+seen_found f = record { file = f.file; fault = record { kind = f.kind; spot = record { line = f.line; column = f.column } } }
 
--- a name is declared twice: at the first statement that declares a name again
-pub record IsRepeated (name bytes : List ℕ) (tokens : List Token) (r : Refusal) : Type 0 where
-  pub file : File
-  pub tree : IsTree (kinds tokens) file
-  pub token : ℕ
-  pub first : repeat_in file ≡ Some token
-  pub refusal : r ≡ refusal_at name Duplicate (token_spot bytes tokens token)
+-- a fault that was found among the definitions, in the file of its place among these names
+abbrev pub refusal_of : List (List ℕ) → Found → Refusal
+refusal_of names found =
+    refusal_at (unwrap_or (slice_get names found.file) []) found.fault.kind record { line = found.fault.spot.line; column = found.fault.spot.column }
 
--- the tokens are of a tree that declares no name twice, and the program is its
-pub record IsLoaded (name bytes : List ℕ) (tokens : List Token) (program : Program) : Type 0 where
-  pub file : File
-  pub tree : IsTree (kinds tokens) file
-  pub fresh : repeat_in file ≡ None
-  pub shows : seen_program program ≡ program_of name bytes tokens file
+-- the sources are all that the first one reaches, nothing is wrong with the names of their definitions, and the
+-- program is theirs
+pub record IsLoaded (files : Contents) (name : List ℕ) (library : Option (List ℕ)) (program : Program) : Type 0 where
+  pub sources : List Source
+  pub all : AreAll files name library sources
+  pub faultless : first_fault (definitions_in 0 sources) ≡ None
+  pub shows : seen_program program ≡ program_of sources
 
-abbrev pub LoadsTokens : List ℕ → List ℕ → List Token → Result Program LoadFault → Type 0
-LoadsTokens name bytes tokens (Ok program) = IsLoaded name bytes tokens program
-LoadsTokens name bytes tokens (Err (Refused r)) = IsUnbuilt name bytes tokens r ⊎ IsRepeated name bytes tokens r
-LoadsTokens name bytes tokens (Err OutOfMemory) = ⊤
+-- something is wrong with the names of the definitions of all sources
+pub record IsNameFault (files : Contents) (name : List ℕ) (library : Option (List ℕ)) (r : Refusal) : Type 0 where
+  pub sources : List Source
+  pub all : AreAll files name library sources
+  pub found : Found
+  pub first : first_fault (definitions_in 0 sources) ≡ Some found
+  pub refusal : r ≡ refusal_of (names_of sources) found
 
--- the source is longer than a source may be
-abbrev pub IsLong : List ℕ → List ℕ → Refusal → Type 0
-IsLong name bytes r = (2 ^ 24 < length bytes) × (r ≡ refusal_at name (Limit Source (length bytes)) start)
+-- the first refusal: a source's, in the order of loading, or else that of a name
+abbrev pub IsLoadFault : Contents → List ℕ → Option (List ℕ) → Refusal → Type 0
+IsLoadFault files name library r = (IsFirstFault files name r ⊎ IsIncludeFault files name library r) ⊎ IsNameFault files name library r
 
--- the bytes are no tokens, at the first fault
-abbrev pub IsLexical : List ℕ → List ℕ → Refusal → Type 0
-IsLexical name bytes r = (cause : LexCause) × (offset : ℕ) × IsReading bytes (Err (At cause offset)) × (r ≡ refusal_at name (Lexical cause) (spot_at bytes offset))
+-- The program of the file of this name with all that it includes, or its first refusal, over the contents of a
+-- store where it tells them. There is no program exactly where there is no file of the name. It fails only where
+-- the store did; want of memory is free.
+abbrev pub Loads : Option Contents → List ℕ → Option (List ℕ) → Type 0 → Result Program LoadFault → Type 0
+Loads contents name library failed (Ok program) = Told contents (λ files. IsLoaded files name library program)
+Loads contents name library failed (Err fault.Missing) = Told contents (λ files. files name ≡ None)
+Loads contents name library failed (Err (fault.Refused r)) = Told contents (λ files. IsLoadFault files name library r)
+Loads contents name library failed (Err fault.Fault) = failed
+Loads contents name library failed (Err fault.OutOfMemory) = ⊤
 
--- The program of the source file of this name, or its first refusal: its length, its tokens, its form, its
--- names. Want of memory is free.
-abbrev pub Loads : List ℕ → List ℕ → Result Program LoadFault → Type 0
-Loads name bytes (Ok program) = (length bytes ≤ 2 ^ 24) × (tokens : List Token) × IsReading bytes (Ok tokens) × IsLoaded name bytes tokens program
-Loads name bytes (Err (Refused r)) = IsLong name bytes r ⊎ ((length bytes ≤ 2 ^ 24) × (IsLexical name bytes r ⊎ ((tokens : List Token) × IsReading bytes (Ok tokens) × (IsUnbuilt name bytes tokens r ⊎ IsRepeated name bytes tokens r))))
-Loads name bytes (Err OutOfMemory) = ⊤
+-- the program of these sources, or the first fault of a name
+abbrev pub Checks : List Source → Result Program LoadFault → Type 0
+Checks sources (Ok program) = (first_fault (definitions_in 0 sources) ≡ None) × (seen_program program ≡ program_of sources)
+Checks sources (Err (fault.Refused r)) = (found : Found) × (first_fault (definitions_in 0 sources) ≡ Some found) × (r ≡ refusal_of (names_of sources) found)
+Checks sources (Err fault.Missing) = ⊥
+Checks sources (Err fault.Fault) = ⊥
+Checks sources (Err fault.OutOfMemory) = ⊤

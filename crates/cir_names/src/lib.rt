@@ -1,15 +1,8 @@
-//! From the bytes of a source file to the program that it defines.
+//! From a source file with all that it includes to the program that they define.
 #![tactic(auto)]
 
-mod build;
-mod declared;
-mod fault;
-mod lengths;
 mod loading;
-mod place;
+mod splitting;
 
-pub use fault::LoadFault;
-pub use loading::{MAX_SOURCE, load};
-
-#[cfg(test)]
-mod tests;
+pub use cir_sources::{LoadFault, MAX_FILES, MAX_SOURCE};
+pub use loading::load;

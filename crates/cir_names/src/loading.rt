@@ -1,60 +1,116 @@
-//! From a source file's bytes to its program.
-ghost use Rattle.std.specs.Prelude.{◌≡◌, ◌<◌, ◌≤◌, ◌^◌, length};
-ghost use Rattle.cir_names.specs.Loading.{Loads, LoadsTokens};
+//! From the files of a store to the program.
+ghost use Rattle.std.specs.Prelude.{◌≡◌, ◌<◌, ◌^◌, ◌++◌, ◌∷◌, [], length, map, IfOk, OnOk};
+ghost use Rattle.std.specs.Option.{option_copied};
+ghost use Rattle.out_io.specs.Faults.{Rose};
+ghost use Rattle.cir_ast.specs.Placed.{seen_definition};
+ghost use Rattle.cir_sources.specs.Includes.{seen, IsRead};
+ghost use Rattle.cir_sources.specs.Loading.{AreSources, OnlyReads};
+ghost use Rattle.cir_names.specs.Programs.{source_definitions, definitions_in, names_of};
+ghost use Rattle.cir_names.specs.Loading.{Loads, seen_found, refusal_of, Checks};
 
-use crate::build::program;
-use crate::fault::{LoadFault, refused};
-use crate::place::{Places, Spot};
-use cir_ast::plain_program::Program;
-use cir_ast::{Kind, Which};
-use cir_lexer::{LexFault, Token, lex};
-use cir_plain::{ParseFault, parse};
-use std::alloc::Global;
+use crate::splitting::program_with;
+use cir_ast::program::{Definition, Program};
+use cir_ast::{Place, Refusal, Text};
+use cir_checks::{Found, first_fault};
+use cir_placing::definitions;
+use cir_sources::{LoadFault, Source, sources};
+use items::Items;
+use out_io::Store;
+use std::alloc::{AllocError, Global};
 
-/// The number of bytes that a source file may have.
-pub const MAX_SOURCE: usize = 16_777_216;
-
-/// The program that the source file with this name defines, or its first refusal.
-pub fn load(alloc: Global, name: &[u8], bytes: &[u8]) -> Result<Program, LoadFault>
-    ensures { Loads name.now bytes.now result }
+/// The program of the file with this name and of all files that it includes, beside it or in the folder of
+/// libraries; or its first refusal.
+pub fn load<S: Store>(
+    alloc: Global,
+    store: &mut S,
+    name: &str,
+    library: Option<&str>,
+) -> Result<Program, LoadFault>
+    ensures loads { Loads (S.contents store.old) name.now (option_copied library.entry) (Rose (S.faults store.old) (S.faults store.new)) result }
+    ensures store { OnlyReads (S.contents store.old) (S.contents store.new)
+        (S.faults store.old) (S.faults store.new) (S.never_fails store.old) (S.never_fails store.new) }
 {
-    if bytes.len() > MAX_SOURCE {
-        let kind = Kind::Limit {
-            which: Which::Source,
-            count: bytes.len() as u64,
-        };
-        let start = Spot { line: 1, column: 1 };
-        return Err(LoadFault::Refused(refused(alloc, name, kind, start)?));
-    }
-    match lex(alloc, bytes) {
-        Ok(tokens) => load_tokens(alloc, name, bytes, tokens.as_slice()),
-        Err(LexFault::At { cause, offset }) => {
-            let spot = Places::new(bytes, &[]).of_offset(offset);
-            let kind = Kind::Lexical { cause };
-            Err(LoadFault::Refused(refused(alloc, name, kind, spot)?))
-        }
-        Err(LexFault::OutOfMemory) => Err(LoadFault::OutOfMemory),
+    let sources = sources(alloc, store, name, library)?;
+    let program = program(alloc, sources)?;
+    Ok(program)
+}
+
+/// The names of source files, and their definitions in the order of loading.
+#[derive(Drop)]
+struct Loaded {
+    files: Items<Text>,
+    definitions: Vec<Definition>,
+}
+
+impl Loaded {
+    /// Adds the definitions of one more source.
+    fn add(&mut self, alloc: Global, source: Source) -> Result<(), AllocError>
+        requires read { IsRead (seen source) }
+        requires few { length self.old.files < 2 ^ 16 }
+        ensures files { OnOk result (self.new.files ≡ self.old.files ++ source.name ∷ []) }
+        ensures definitions { OnOk result (map seen_definition self.new.definitions.items
+            ≡ map seen_definition self.old.definitions.items ++ source_definitions (length self.old.files) (seen source)) }
+    {
+        let Source {
+            name,
+            bytes,
+            tokens,
+            file,
+        } = source;
+        let number = self.files.len() as u32;
+        let mut found = definitions(alloc, number, bytes.as_slice(), tokens.as_slice(), file)?;
+        self.definitions.append(&mut found)?;
+        self.files.push(name)
     }
 }
 
-fn load_tokens(
-    alloc: Global,
-    name: &[u8],
-    bytes: &[u8],
-    tokens: &[Token],
-) -> Result<Program, LoadFault>
-    requires small { length bytes.now ≤ 2 ^ 24 }
-    requires count { length tokens.now < 2 ^ 32 }
-    ensures { LoadsTokens name.now bytes.now tokens.now result }
+fn placed(alloc: Global, sources: Vec<Source>) -> Result<Loaded, AllocError>
+    requires { AreSources (map seen sources.items) }
+    ensures files { IfOk result (λ l. l.files ≡ names_of (map seen sources.items)) }
+    ensures definitions { IfOk result (λ l. map seen_definition l.definitions.items ≡ definitions_in 0 (map seen sources.items)) }
 {
-    match parse(alloc, tokens) {
-        Ok(file) => program(alloc, name, bytes, tokens, file),
-        Err(ParseFault::Form { token: _, form }) => {
-            let spot = Places::new(bytes, tokens).of_token(0);
-            let kind = Kind::NotInProfile { form };
-            Err(LoadFault::Refused(refused(alloc, name, kind, spot)?))
-        }
-        Err(ParseFault::Syntax { token: _ }) => unreachable!(),
-        Err(ParseFault::OutOfMemory) => Err(LoadFault::OutOfMemory),
+    let mut placed = Loaded {
+        files: Items::new(alloc),
+        definitions: Vec::new(alloc),
+    };
+    for source in sources {
+        placed.add(alloc, source)?;
     }
+    Ok(placed)
+}
+
+fn program(alloc: Global, sources: Vec<Source>) -> Result<Program, LoadFault>
+    requires { AreSources (map seen sources.items) }
+    ensures { Checks (map seen sources.items) result }
+{
+    let placed = placed(alloc, sources)?;
+    match first_fault(alloc, placed.definitions.as_slice())? {
+        Some(found) => {
+            let refusal = refused(alloc, placed.files.as_slice(), found)?;
+            Err(LoadFault::Refused(refusal))
+        }
+        None => {
+            let program = program_with(alloc, placed.files, placed.definitions)?;
+            Ok(program)
+        }
+    }
+}
+
+/// The refusal in the file of its place among these names.
+fn refused(alloc: Global, names: &[Text], found: Found) -> Result<Refusal, AllocError>
+    ensures { IfOk result (λ r. r ≡ refusal_of names.now (seen_found found)) }
+{
+    let file = match names.get(found.file as usize) {
+        Some(name) => Text::from_slice(alloc, name.as_slice())?,
+        None => Text::new(alloc),
+    };
+    Ok(Refusal {
+        kind: found.kind,
+        place: Place {
+            file,
+            line: found.line,
+            column: found.column,
+            path: Text::from_slice(alloc, b"-")?,
+        },
+    })
 }

@@ -23,13 +23,13 @@ IsCheckAnswer files r1cs wtns new answer = (answer ≡ either Checked (check_of 
 abbrev pub IsAnswer : Contents → Option Command → Contents → Answer → Type 0
 IsAnswer files None new answer = (answer ≡ Usage) × (new ≡ files)
 IsAnswer files (Some (check r1cs wtns)) new answer = IsCheckAnswer files r1cs wtns new answer
-IsAnswer files (Some (compile source out)) new answer = IsCompileAnswer files source out new answer
+IsAnswer files (Some (compile source out folder)) new answer = IsCompileAnswer files source folder out new answer
 
 -- what a command may have done to the files, whatever ended it
 abbrev pub MayWrite : Contents → Option Command → Contents → Type 0
 MayWrite files None new = new ≡ files
 MayWrite files (Some (check r1cs wtns)) new = new ≡ files
-MayWrite files (Some (compile source out)) new = MayWriteFile files source out new
+MayWrite files (Some (compile source out folder)) new = MayWriteFile files source folder out new
 
 -- the answer is of this kind, or says that the store failed, where it did
 abbrev pub SaysOr : Type 0 → (Answer → Type 0) → Answer → Type 0

@@ -1,15 +1,16 @@
 ghost use Rattle.std.specs.Prelude.{◌≡◌, IfOk};
+ghost use Rattle.std.specs.Option.{option_copied};
 ghost use Rattle.out_io.specs.Contents.{Changes};
 ghost use Rattle.out_io.specs.Faults.{Rose};
 ghost use Rattle.iden_files.specs.File.{InLimits};
-ghost use Rattle.circom_gold.specs.Compile.{SourceSteps, SourceGives, CompileSteps, WriteSteps, MayWriteFile, Writes, Counting};
+ghost use Rattle.circom_gold.specs.Compile.{SourceSteps, CompileSteps, WriteSteps, MayWriteFile, Writes, Counting};
 ghost use Rattle.circom_gold.specs.Steps.{OnlyReads};
 
 use crate::answer::Refusal;
-use crate::inputs::bytes_in;
 use crate::stop::Stop;
 use cir_compile::CompileFault;
 use iden_files::{R1cs, write_r1cs};
+use items::Items;
 use out_io::Store;
 use std::alloc::Global;
 
@@ -20,43 +21,44 @@ pub struct Written {
     pub constraints: u32,
 }
 
-/// Writes the file of the source's constraints. A source that is refused writes nothing.
+/// Writes the file of the source's constraints. A source that is refused writes nothing. Included files are also
+/// looked for in the folder, if one is given.
 pub fn compile<S: Store>(
     alloc: Global,
     source: &str,
+    folder: Option<&str>,
     out: &str,
     store: &mut S,
 ) -> Result<Written, Stop>
-    ensures step { CompileSteps (S.contents store.old) (S.contents store.new) source.now out.now
+    ensures step { CompileSteps (S.contents store.old) (S.contents store.new) source.now (option_copied folder.entry) out.now
         (Rose (S.faults store.old) (S.faults store.new)) result }
-    ensures kept { Changes (λ files new. MayWriteFile files source.now out.now new) (S.contents store.old) (S.contents store.new) }
+    ensures kept { Changes (λ files new. MayWriteFile files source.now (option_copied folder.entry) out.now new) (S.contents store.old) (S.contents store.new) }
     ensures counting { Counting (S.faults store.old) (S.faults store.new) (S.never_fails store.old) (S.never_fails store.new) }
 {
-    let file = source_in(alloc, store, source)?;
+    let file = source_in(alloc, store, source, folder)?;
     let written = write_file(alloc, store, out, &file)?;
     Ok(written)
 }
 
 // The file that the source under the name means.
-fn source_in<S: Store>(alloc: Global, store: &mut S, name: &str) -> Result<R1cs, Stop>
-    ensures step { SourceSteps (S.contents store.old) name.now (Rose (S.faults store.old) (S.faults store.new)) result }
+fn source_in<S: Store>(
+    alloc: Global,
+    store: &mut S,
+    name: &str,
+    folder: Option<&str>,
+) -> Result<R1cs, Stop>
+    ensures step { SourceSteps (S.contents store.old) name.now (option_copied folder.entry) (Rose (S.faults store.old) (S.faults store.new)) result }
     ensures limits { IfOk result InLimits }
     ensures store { OnlyReads (S.contents store.old) (S.contents store.new)
         (S.faults store.old) (S.faults store.new) (S.never_fails store.old) (S.never_fails store.new) }
 {
-    let source = bytes_in(alloc, store, name)?;
-    let file = compiled(alloc, name, source.as_slice())?;
-    Ok(file)
-}
-
-// The file that these bytes mean as a source of this name.
-fn compiled(alloc: Global, name: &str, source: &[u8]) -> Result<R1cs, Stop>
-    ensures gives { SourceGives name.now source.now result }
-    ensures limits { IfOk result InLimits }
-{
-    match cir_compile::compile(alloc, name.as_bytes(), source) {
+    match cir_compile::compile(alloc, store, name, folder) {
         Ok(file) => Ok(file),
+        Err(CompileFault::Missing) => Err(Stop::Refused(Refusal::NoSuchFile {
+            name: Items::from_slice(alloc, name.as_bytes())?,
+        })),
         Err(CompileFault::Refused(refusal)) => Err(Stop::Refused(Refusal::BadSource(refusal))),
+        Err(CompileFault::Fault) => Err(Stop::StoreFailed),
         Err(CompileFault::OutOfMemory) => Err(Stop::OutOfMemory),
     }
 }

@@ -1,4 +1,5 @@
 ghost use Rattle.std.specs.Prelude.{◌≡◌, ◌≤◌, ◌⊎◌, ◌≢◌, [], None, Some, IfOk};
+ghost use Rattle.std.specs.Option.{option_copied};
 ghost use Rattle.out_io.specs.Contents.{Changes};
 ghost use Rattle.out_io.specs.Faults.{Rose};
 ghost use Rattle.out_io.specs.Memory.{files_of};
@@ -100,7 +101,13 @@ fn answer_to<S: Store>(alloc: Global, words: &[String], store: &mut S) -> Result
     match Command::of(words) {
         None => Ok(Answer::Usage),
         Some(Command::Check { r1cs, wtns }) => check_answer(alloc, r1cs, wtns, store),
-        Some(Command::Compile { source, out }) => compile_answer(alloc, source, out, store),
+        Some(
+            Command::Compile {
+                source,
+                out,
+                folder,
+            },
+        ) => compile_answer(alloc, source, folder, out, store),
     }
 }
 
@@ -128,17 +135,18 @@ fn check_answer<S: Store>(
 fn compile_answer<S: Store>(
     alloc: Global,
     source: &str,
+    folder: Option<&str>,
     out: &str,
     store: &mut S,
 ) -> Result<Answer, AllocError>
     ensures says { IfOk result (SaysOr (Rose (S.faults store.old) (S.faults store.new)) (λ answer.
-        Changes (λ files after. IsCompileAnswer files source.now out.now after answer) (S.contents store.old) (S.contents store.new))) }
+        Changes (λ files after. IsCompileAnswer files source.now (option_copied folder.entry) out.now after answer) (S.contents store.old) (S.contents store.new))) }
     ensures no_usage { IfOk result (λ answer. answer ≢ Usage) }
     ensures fault { IfOk result (λ answer. answer ≡ StoreFailed → Rose (S.faults store.old) (S.faults store.new)) }
-    ensures kept { Changes (λ files after. MayWriteFile files source.now out.now after) (S.contents store.old) (S.contents store.new) }
+    ensures kept { Changes (λ files after. MayWriteFile files source.now (option_copied folder.entry) out.now after) (S.contents store.old) (S.contents store.new) }
     ensures counting { Counting (S.faults store.old) (S.faults store.new) (S.never_fails store.old) (S.never_fails store.new) }
 {
-    match compile(alloc, source, out, store) {
+    match compile(alloc, source, folder, out, store) {
         Ok(written) => Ok(Answer::Compiled {
             wires: written.wires,
             constraints: written.constraints,

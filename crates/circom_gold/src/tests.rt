@@ -140,6 +140,9 @@ fn words_without_a_reading_get_the_usage_line(rt: HostRuntime) -> Result<(), Fai
         "check a b c",
         "check -m.r1cs m.wtns",
         "Check m.r1cs m.wtns",
+        "compile t.circom",
+        "compile t.circom m.r1cs -l",
+        "compile t.circom m.r1cs -l inc -l inc",
     ] {
         let words = split(alloc, words)?;
         let mut store = store(alloc, &R1CS, &[1, 33, 3, 11])?;
@@ -205,28 +208,128 @@ fn compile_writes_a_file_that_check_accepts(rt: HostRuntime) -> Result<(), Fail>
     Ok(())
 }
 
+// The line of `compile t.circom m.r1cs` on the source.
+fn line_of(alloc: Global, source: &str) -> Result<Vec<u8>, Fail> {
+    let words = split(alloc, "compile t.circom m.r1cs")?;
+    let mut store = source_store(alloc, source)?;
+    let mut out = MemSink::new(alloc);
+    let status = run(alloc, words.as_slice(), &mut store, &mut out)?;
+    let refused = out.bytes.as_slice().starts_with(b"refused: ");
+    if (status == 1) != refused || out.calls != 1 {
+        return Err(Fail::new("the status and the line disagree"));
+    }
+    Ok(out.bytes)
+}
+
 #[test]
 fn compile_says_why_a_source_is_refused(rt: HostRuntime) -> Result<(), Fail> {
-    let alloc = rt.alloc();
-    let words = split(alloc, "compile t.circom m.r1cs")?;
-    for (source, status, line) in [
+    for (source, line) in [
+        (CUBIC, "refused: E11 NonQuadratic at t.circom:3:3 in main\n"),
+        (DIFFERENT, "compiled: wires 3, constraints 2\n"),
+        ("@", "refused: E1 Lexical BadChar at t.circom:1:1 in -\n"),
         (
-            CUBIC,
-            1,
-            "refused: E11 NonQuadratic at t.circom:3:3 in main\n",
+            "template A() { }\ntemplate B() { x <== ; }",
+            "refused: E2 Syntax at t.circom:2:1 in -\n",
         ),
-        (DIFFERENT, 0, "compiled: wires 3, constraints 2\n"),
         (
-            "component main = T();",
-            1,
-            "refused: E21 NotInProfile Unbuilt at t.circom:1:1 in -\n",
+            "\ninclude \"no.circom\";",
+            "refused: E3 Include at t.circom:2:1 in -\n",
+        ),
+        (
+            "template A() { signal a;\nvar a; } component main = A();",
+            "refused: E4 Duplicate at t.circom:2:1 in -\n",
+        ),
+        ("", "refused: E5 Main at t.circom:1:1 in -\n"),
+        (
+            "template A() { if (1) {\nx === 1; } } component main = A();",
+            "refused: E6 UnknownName at t.circom:2:1 in -\n",
+        ),
+        (
+            "template A(n) { }\ncomponent main = A();",
+            "refused: E7 Arity at t.circom:2:1 in -\n",
+        ),
+        (
+            "template A() { signal input a;\na <== 1; } component main = A();",
+            "refused: E8 WrongKind at t.circom:2:1 in -\n",
         ),
     ] {
-        let mut store = source_store(alloc, source)?;
-        let mut out = MemSink::new(alloc);
-        assert_eq!(rt; run(alloc, words.as_slice(), &mut store, &mut out)?, status);
-        assert_eq!(rt; out.bytes.as_slice(), line.as_bytes());
-        assert_eq!(rt; out.calls, 1);
+        let said = line_of(rt.alloc(), source)?;
+        assert_eq!(rt; said.as_slice(), line.as_bytes(), "{source}");
     }
+    Ok(())
+}
+
+#[test]
+fn forms_outside_the_profile_are_named(rt: HostRuntime) -> Result<(), Fail> {
+    for (source, line) in [
+        ("pragma circom 1.0.0;", "Version at t.circom:1:1"),
+        ("pragma custom_templates;", "CustomTemplate at t.circom:1:1"),
+        ("template custom A() { }", "CustomTemplate at t.circom:1:1"),
+        ("bus B() { }", "Bus at t.circom:1:1"),
+        (
+            "template A() { signal input {t} a; }",
+            "Tag at t.circom:1:16",
+        ),
+        (
+            "function f() { } component main = A(); template A() { }",
+            "NoReturn at t.circom:1:1",
+        ),
+        (
+            "template A() { while (0)\nsignal a; } component main = A();",
+            "DeclarationPlace at t.circom:2:1",
+        ),
+        (
+            "function f() {\nlog(1); return 1; } template A() { } component main = A();",
+            "LogPlace at t.circom:2:1",
+        ),
+        (
+            "template A() {\nsignal output o[2]; } component main = A();",
+            "Unbuilt at t.circom:2:1",
+        ),
+    ] {
+        let said = line_of(rt.alloc(), source)?;
+        let expected = format!(in rt.alloc(); "refused: E21 NotInProfile {line} in -\n")?;
+        assert_eq!(rt; said.as_slice(), expected.as_bytes(), "{source}");
+    }
+    Ok(())
+}
+
+// The line of the words over these files.
+fn line_over(alloc: Global, words: &str, files: &[(&str, &str)]) -> Result<Vec<u8>, Fail> {
+    let mut store = MemStore::new(alloc);
+    for (name, text) in files {
+        store.files.insert(
+            String::from_str(alloc, name)?,
+            Vec::from_slice(alloc, text.as_bytes())?,
+        )?;
+    }
+    let mut out = MemSink::new(alloc);
+    let words = split(alloc, words)?;
+    run(alloc, words.as_slice(), &mut store, &mut out)?;
+    Ok(out.bytes)
+}
+
+const INCLUDING: &str = "include \"lib/b.circom\";\ncomponent main = Mul();\n";
+
+#[test]
+fn includes_are_followed_and_found_in_the_folder(rt: HostRuntime) -> Result<(), Fail> {
+    let alloc = rt.alloc();
+    let template = "template Mul() { signal input a; signal input b; signal output c; c <== a*b; }";
+    let back = format!(in alloc; "include \"../a.circom\";\n{template}")?;
+    let compiled = b"compiled: wires 4, constraints 1\n";
+    let circular = [("a.circom", INCLUDING), ("lib/b.circom", back.as_str())];
+    let said = line_over(alloc, "compile a.circom m.r1cs", circular.as_slice())?;
+    assert_eq!(rt; said.as_slice(), compiled.as_slice());
+
+    let alone = [("a.circom", INCLUDING)];
+    let said = line_over(alloc, "compile a.circom m.r1cs", alone.as_slice())?;
+    assert_eq!(rt;
+        said.as_slice(),
+        b"refused: E3 Include at a.circom:1:1 in -\n".as_slice()
+    );
+
+    let library = [("a.circom", INCLUDING), ("inc/lib/b.circom", template)];
+    let said = line_over(alloc, "compile a.circom m.r1cs -l inc", library.as_slice())?;
+    assert_eq!(rt; said.as_slice(), compiled.as_slice());
     Ok(())
 }

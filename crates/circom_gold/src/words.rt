@@ -5,12 +5,20 @@ ghost use Rattle.circom_gold.specs.Words.{is_name};
 /// What the words on the command line ask for.
 #[derive(Clone, Copy, Debug, PartialEq, Eq)]
 pub enum Command<'w> {
-    Check { r1cs: &'w str, wtns: &'w str },
-    Compile { source: &'w str, out: &'w str },
+    Check {
+        r1cs: &'w str,
+        wtns: &'w str,
+    },
+    /// With the folder of `-l`, if it is given.
+    Compile {
+        source: &'w str,
+        out: &'w str,
+        folder: Option<&'w str>,
+    },
 }
 
 impl<'w> Command<'w> {
-    ghost use Rattle.circom_gold.specs.Words.{texts, command_of, check_words, compile_words, meant};
+    ghost use Rattle.circom_gold.specs.Words.{texts, command_of, check_words, compile_words, compile_options, meant};
 
     /// `None` exactly where the words have no reading.
     pub fn of(words: &'w [String]) -> Option<Command<'w>>
@@ -41,9 +49,27 @@ impl<'w> Command<'w> {
         ensures { option_map meant result ≡ compile_words (texts words.now) }
     {
         match words {
-            [source, out] if is_name(source) && is_name(out) => Some(Command::Compile {
-                source: source.as_str(),
-                out: out.as_str(),
+            [source, out, options @ ..] if is_name(source) && is_name(out) => {
+                Command::with_options(source.as_str(), out.as_str(), options)
+            }
+            _ => None,
+        }
+    }
+
+    // `compile` with the words behind its names.
+    fn with_options(source: &'w str, out: &'w str, options: &'w [String]) -> Option<Command<'w>>
+        ensures { option_map meant result ≡ compile_options source.now out.now (texts options.now) }
+    {
+        match options {
+            [] => Some(Command::Compile {
+                source,
+                out,
+                folder: None,
+            }),
+            [option, folder] if option.as_str() == "-l" => Some(Command::Compile {
+                source,
+                out,
+                folder: Some(folder.as_str()),
             }),
             _ => None,
         }

@@ -1,0 +1,68 @@
+#!/bin/sh
+# Times the reading of sources of each given number of megabytes: templates and functions with every form of
+# statement and expression. Each is read twice: with an item behind them that has no reading, so that the program
+# ends with the parse, and without a main component, so that it ends when all names are known to be right. Prints
+# the least of the runs and the megabytes a second, which should stay the same as the sources grow.
+#
+# usage: bench/parse.sh [MEGABYTES ..]      (1, 2, 4 and 8 where none is given; RUNS=3 sets the runs)
+
+set -e
+bench=$(dirname "$(readlink -f "$0")")
+top=$(dirname "$bench")
+folder=$(mktemp -d)
+trap 'rm -rf "$folder"' EXIT
+
+# Builds the program where that is needed; these words have no reading.
+"$top/circom_gold" > /dev/null || [ $? -eq 64 ]
+program=$top/crates/circom_cli/out/circom_cli
+cd "$folder"
+
+# So many bytes of definitions, at least.
+definitions() {
+    awk -v bytes="$1" 'BEGIN {
+        for (n = 0; written < bytes; n++) {
+            text = "function f" n "(x, y) {\n" \
+                "  var sum = 0, table[2][3] = [[1, 2, 3], [4, 5, 6]];\n" \
+                "  for (var i = 0; i < x; i++) { if (i % 2 == 0 && y != 0) { sum += table[i % 2][i % 3] ** 2; } else { sum -= i >> 1; } }\n" \
+                "  while (sum > 1000) sum = sum \\ 2;\n" \
+                "  return x < y ? sum : -sum * (x + y);\n" \
+                "}\n" \
+                "template T" n "(n, k) {\n" \
+                "  signal input a[n]; signal output b; signal c <== a[0] * a[1] + k;\n" \
+                "  var z = f" n "(n, k);\n" \
+                "  assert(n > 1);\n" \
+                "  log(\"begins\", n);\n" \
+                "  c * (c - 1) === 0;\n" \
+                "  b <-- (c >> 2) & 1 | z;\n" \
+                "}\n"
+            written += length(text)
+            printf "%s", text
+        }
+    }'
+}
+
+# The least nanoseconds of some runs, which must say this.
+nanoseconds() {
+    for _ in $(seq "${RUNS:-3}"); do
+        start=$(date +%s%N)
+        said=$("$program" compile source.circom made.r1cs || true)
+        end=$(date +%s%N)
+        case $said in
+            "refused: $1"*) echo $((end - start)) ;;
+            *) echo "$said" >&2; exit 1 ;;
+        esac
+    done | sort -n | head -n 1
+}
+
+row='%12s %10s %12s %10s %12s\n'
+printf "$row" bytes parse_s parse_MB/s all_s all_MB/s
+for megabytes in ${*:-1 2 4 8}; do
+    definitions $((megabytes * 1000000)) > source.circom
+    bytes=$(wc -c < source.circom)
+    all=$(nanoseconds 'E5 Main')
+    echo 'template' >> source.circom
+    parsed=$(nanoseconds 'E2 Syntax')
+    printf "$row" "$bytes" \
+        "$(awk "BEGIN { printf \"%.3f\", $parsed / 1e9 }")" "$(awk "BEGIN { printf \"%.1f\", $bytes * 1e3 / $parsed }")" \
+        "$(awk "BEGIN { printf \"%.3f\", $all / 1e9 }")" "$(awk "BEGIN { printf \"%.1f\", $bytes * 1e3 / $all }")"
+done
