@@ -1,21 +1,12 @@
 #!/bin/sh
 # Times the reading of sources of each given number of megabytes: templates and functions with every form of
 # statement and expression. Each is read twice: with an item behind them that has no reading, so that the program
-# ends with the parse, and without a main component, so that it ends when all names are known to be right. Prints
+# ends with the parse, and without it, so that the program checks all names and then refuses what isn't built. Prints
 # the least of the runs and the megabytes a second, which should stay the same as the sources grow.
 #
-# usage: bench/parse.sh [MEGABYTES ..]      (1, 2, 4 and 8 where none is given; RUNS=3 sets the runs)
+# usage: bench/parse.sh [MEGABYTES ..]      (1, 2, 4 and 8 where none is given; RUNS=5 sets the runs)
 
-set -e
-bench=$(dirname "$(readlink -f "$0")")
-top=$(dirname "$bench")
-folder=$(mktemp -d)
-trap 'rm -rf "$folder"' EXIT
-
-# Builds the program where that is needed; these words have no reading.
-"$top/circom_gold" > /dev/null || [ $? -eq 64 ]
-program=$top/crates/circom_cli/out/circom_cli
-cd "$folder"
+. "$(dirname "$0")/timed.sh"
 
 # So many bytes of definitions, at least.
 definitions() {
@@ -41,27 +32,15 @@ definitions() {
     }'
 }
 
-# The least nanoseconds of some runs, which must say this.
-nanoseconds() {
-    for _ in $(seq "${RUNS:-3}"); do
-        start=$(date +%s%N)
-        said=$("$program" compile source.circom made.r1cs || true)
-        end=$(date +%s%N)
-        case $said in
-            "refused: $1"*) echo $((end - start)) ;;
-            *) echo "$said" >&2; exit 1 ;;
-        esac
-    done | sort -n | head -n 1
-}
-
 row='%12s %10s %12s %10s %12s\n'
 printf "$row" bytes parse_s parse_MB/s all_s all_MB/s
 for megabytes in ${*:-1 2 4 8}; do
     definitions $((megabytes * 1000000)) > source.circom
     bytes=$(wc -c < source.circom)
-    all=$(nanoseconds 'E5 Main')
+    echo 'component main = T0(1, 2);' >> source.circom
+    all=$(nanoseconds 'refused: E21 NotInProfile Unbuilt')
     echo 'template' >> source.circom
-    parsed=$(nanoseconds 'E2 Syntax')
+    parsed=$(nanoseconds 'refused: E2 Syntax')
     printf "$row" "$bytes" \
         "$(awk "BEGIN { printf \"%.3f\", $parsed / 1e9 }")" "$(awk "BEGIN { printf \"%.1f\", $bytes * 1e3 / $parsed }")" \
         "$(awk "BEGIN { printf \"%.3f\", $all / 1e9 }")" "$(awk "BEGIN { printf \"%.1f\", $bytes * 1e3 / $all }")"
