@@ -1,4 +1,4 @@
-//! From the bytes of a Circom source to the `.r1cs` file of its constraints.
+//! From a Circom source with all that it includes to the `.r1cs` file of its constraints.
 #![tactic(auto)]
 
 mod compiling;
