@@ -2,11 +2,14 @@
 -- Every answer is one again. Truth is "not 0", and a test answers 1 or 0.
 use Rattle.std.specs.Prelude.{ℕ, ◌+◌, ◌-◌, ◌*◌, ◌/◌, ◌%◌, ◌^◌, Bool, not, if◌then◌else◌, ◌==◌, nat_le, Option, Some, None, ℤ, pos, ◌-ℤ◌, int_lt, bit_and, bit_or, bit_xor}
 use Rattle.gold_field.specs.declared.gold.TheConstants.{P}
-use Rattle.gold_field.specs.declared.operators.TheConstants.{HALF}
 use Rattle.gold_field.specs.declared.operators.Op1.{Op1}
 use Rattle.gold_field.specs.declared.operators.Op1.TheVariants.{Neg, Not, Compl}
 use Rattle.gold_field.specs.declared.operators.Op2.{Op2}
 use Rattle.gold_field.specs.declared.operators.Op2.TheVariants.{Add, Sub, Mul, Div, Quot, Rem, Pow, Shl, Shr, And, Xor, Or, Lt, Le, Gt, Ge, Eq, Ne}
+
+-- (p - 1) / 2
+abbrev pub HALF : ℕ
+HALF = 9223372034707292160
 
 -- the number as comparisons see it: above (p - 1) / 2 it is negative
 abbrev pub val : ℕ → ℤ

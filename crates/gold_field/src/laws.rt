@@ -4,6 +4,11 @@ ghost use Rattle.std.specs.Prelude.{◌≡◌, ◌≢◌, ℕ, ◌+◌, ◌-◌,
 
 use crate::gold::P;
 
+/// The order of the field, as a number.
+pub fn the_order()
+    ensures { P ≡ 18446744069414584321 }
+{}
+
 /// The order of the field is prime.
 pub fn p_is_prime()
     ensures { (d : ℕ) → 2 ≤ d → d < P → P % d ≢ 0 }
