@@ -1,0 +1,11 @@
+//! Tests of the crates that read and write files, on runs that end well and on those that fail.
+#![tactic(auto)]
+
+#[cfg(test)]
+mod constraint_files;
+#[cfg(test)]
+mod fields;
+#[cfg(test)]
+mod lists;
+#[cfg(test)]
+mod stores;
