@@ -1,0 +1,174 @@
+use gold_field::{Gold, P};
+use lig_layout::Params;
+use lig_proof::{ProofFault, challenges, queries, read_proof, write_proof};
+use std::alloc::{AllocError, Global};
+use std::test::Fail;
+
+// The sizes for a file of four wires and one constraint.
+const SMALL: Params = Params {
+    l: 128,
+    depth: 10,
+    wire_rows: 1,
+    constraint_rows: 1,
+    rows: 4,
+};
+
+// `c <== a * b`, with the wires 1, c, a and b.
+const FILE: &str = "\
+    72316373010000000300000001000000280000000000000008000000\
+    01000000ffffffff0400000001000000000000000200000004000000\
+    00000000010000000200000030000000000000000100000002000000\
+    00000000ffffffff0100000003000000010000000000000001000000\
+    0100000000000000ffffffff03000000200000000000000000000000\
+    00000000010000000000000002000000000000000300000000000000";
+
+const ROOT: &str = "8a4c74101543d4fcecc077b30e6d7658152f2ba7f8aa68acb2d87dc1159ae9a1";
+
+const FIRST: &str = "f8f72fc23bdeb83a54302bca8bc6e4b21942792c1f90200180f22b323f91eb44";
+
+fn hash_of(text: &str) -> Result<[u8; 32], Fail> {
+    let mut hash = [0u8; 32];
+    hex::decode_to_slice(text, &mut hash)
+        .ok()
+        .ok_or("32 bytes in hexadecimal")?;
+    Ok(hash)
+}
+
+fn gold(n: u64) -> Result<Gold, Fail> {
+    Ok(Gold::new(n).ok_or("not below p")?)
+}
+
+fn text_of(alloc: Global, values: &[Gold]) -> Result<String, AllocError> {
+    let mut text = String::new(alloc);
+    for value in values {
+        let number = value.get();
+        text.push_str(format!(in alloc; "{number} ")?.as_str())?;
+    }
+    Ok(text)
+}
+
+#[test]
+fn numbers_from_the_first_key(rt: HostRuntime) -> Result<(), Fail> {
+    let alloc = rt.alloc();
+    let file = hex::decode(alloc, FILE).ok().ok_or("hexadecimal")?;
+    let drawn = challenges(alloc, &SMALL, &file, &[gold(33)?], 5, &hash_of(ROOT)?)?;
+    assert_eq!(rt; hex::encode(alloc, drawn.first)?.as_str(), FIRST);
+    assert_eq!(rt;
+        text_of(alloc, drawn.alpha.as_slice())?.as_str(),
+        "1425510092024237162 5607104503221049881 11052051793607602968 5361158079796333595 \
+         2253861206807968990 12355069382853632511 7177887416754908636 15676468362065654624 "
+    );
+    let r = text_of(alloc, drawn.r.as_slice())?;
+    assert!(rt;
+        r.as_str().starts_with(
+            "11420618950501235445 7265414238954819002 699751162042768146 3471826760560595480 "
+        )
+    );
+    assert_eq!(rt; drawn.r.len(), 10);
+    assert_eq!(rt;
+        text_of(alloc, drawn.rho.as_slice())?.as_str(),
+        "1726566576185662779 14326607648165731867 "
+    );
+    Ok(())
+}
+
+#[test]
+fn columns_from_the_second_key(rt: HostRuntime) -> Result<(), Fail> {
+    let alloc = rt.alloc();
+    let polys = [gold(1)?, gold(2)?, gold(P - 1)?];
+    let opened = queries(alloc, &SMALL, &hash_of(FIRST)?, &polys)?;
+    assert_eq!(rt; opened.len(), 96);
+    assert_eq!(rt;
+        &opened[..8],
+        [278u32, 655, 454, 826, 673, 628, 1010, 474].as_slice()
+    );
+    assert_eq!(rt; opened[95], 218);
+    Ok(())
+}
+
+// A proof's bytes: the values count up, and so do the bytes of each hash.
+fn sample(alloc: Global) -> Result<Vec<u8>, AllocError> {
+    let mut bytes = Vec::from_slice(alloc, b"ligg\x01\0\0\0")?;
+    put_hash(&mut bytes, 7)?;
+    put_values(&mut bytes, 18 * 128)?;
+    for _ in 0..96 {
+        put_values(&mut bytes, 10)?;
+        for level in 0..10u8 {
+            put_hash(&mut bytes, level)?;
+        }
+    }
+    Ok(bytes)
+}
+
+fn put_hash(bytes: &mut Vec<u8>, from: u8) -> Result<(), AllocError> {
+    for i in 0..32u8 {
+        bytes.push(from.wrapping_add(i))?;
+    }
+    Ok(())
+}
+
+fn put_values(bytes: &mut Vec<u8>, count: u64) -> Result<(), AllocError> {
+    for value in 0..count {
+        bytes.extend_from_slice(&value.to_le_bytes())?;
+    }
+    Ok(())
+}
+
+// Where bytes are no proof.
+fn malformed_at(alloc: Global, bytes: &[u8]) -> Option<u64> {
+    match read_proof(alloc, &SMALL, bytes) {
+        Err(ProofFault::Malformed { offset }) => Some(offset),
+        _ => None,
+    }
+}
+
+// With other bytes from a place on.
+fn changed_at(alloc: Global, place: usize, new: &[u8]) -> Result<Option<u64>, AllocError> {
+    let mut bytes = sample(alloc)?;
+    for (i, byte) in new.iter().enumerate() {
+        if i < bytes.len() && place < bytes.len() - i {
+            bytes[place + i] = *byte;
+        }
+    }
+    Ok(malformed_at(alloc, &bytes))
+}
+
+#[test]
+fn written_as_it_was_read(rt: HostRuntime) -> Result<(), Fail> {
+    let alloc = rt.alloc();
+    let bytes = sample(alloc)?;
+    assert_eq!(rt; bytes.len(), 56872);
+    let proof = read_proof(alloc, &SMALL, &bytes).ok().ok_or("a proof")?;
+    assert_eq!(rt; proof.root[0], 7);
+    assert_eq!(rt; proof.polys.len(), 2304);
+    assert_eq!(rt; proof.columns.len(), 96);
+    let column = proof.columns.get(95).ok_or("the last column")?;
+    assert_eq!(rt; column.len(), 10);
+    let path = proof.paths.get(0).ok_or("the first path")?;
+    assert_eq!(rt; path.get(9).ok_or("its last hash")?[31], 40);
+    let written = write_proof(alloc, &proof)?;
+    assert_eq!(rt; written.as_slice(), bytes.as_slice());
+    Ok(())
+}
+
+#[test]
+fn malformed_at_the_first_wrong_byte(rt: HostRuntime) -> Result<(), Fail> {
+    let alloc = rt.alloc();
+    let order = P.to_le_bytes();
+    let bytes = sample(alloc)?;
+    assert_eq!(rt; malformed_at(alloc, &bytes), None);
+    assert_eq!(rt; malformed_at(alloc, b"LIGG\x01\0\0"), Some(7));
+    assert_eq!(rt; malformed_at(alloc, b"LIGG\x02\0\0\0"), Some(0));
+    assert_eq!(rt; malformed_at(alloc, b"ligg\x02\0\0\0"), Some(4));
+    assert_eq!(rt; malformed_at(alloc, b"ligg\x01\0\0\0"), Some(8));
+    assert_eq!(rt; changed_at(alloc, 40, &order)?, Some(40));
+    assert_eq!(rt; changed_at(alloc, 18464, &order)?, Some(18464));
+    assert_eq!(rt; changed_at(alloc, 18472, &[255; 32])?, Some(18472));
+    assert_eq!(rt; changed_at(alloc, 8, &[255; 32])?, None);
+    let mut longer = sample(alloc)?;
+    longer.push(0)?;
+    assert_eq!(rt; malformed_at(alloc, &longer), Some(56872));
+    longer.truncate(56871);
+    assert_eq!(rt; malformed_at(alloc, &longer), Some(56871));
+    Ok(())
+}

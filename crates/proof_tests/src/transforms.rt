@@ -1,0 +1,191 @@
+ghost use Rattle.std.specs.Prelude.{length};
+ghost use Rattle.gold_ntt.specs.Transform.{IsLength};
+
+use gold_field::Gold;
+use gold_ntt::{coset_ntt, eval, intt, mul, ntt, root};
+use std::process::Abort;
+use std::test::Fail;
+
+static COEFFICIENTS_8: [u64; 8] = [
+    3486784401,
+    10460353203,
+    31381059609,
+    94143178827,
+    282429536481,
+    847288609443,
+    2541865828329,
+    7625597484987,
+];
+
+static VALUES_8: [u64; 8] = [
+    11436652835280,
+    16237100675465584048,
+    1086017697222167300,
+    4431010877438044997,
+    18446738351088166681,
+    754688669953962188,
+    17360721797531282909,
+    15470686800200569089,
+];
+
+static COSET_VALUES_8: [u64; 8] = [
+    6594007800883242168,
+    400645640158373022,
+    3526161522651708824,
+    16661587736254026530,
+    12452191523157091441,
+    12519961558043682059,
+    14323839759352627337,
+    7308580765051861111,
+];
+
+static COEFFICIENTS_16: [u64; 16] = [
+    18446744069414584320,
+    18446744069414584319,
+    18446744069414584316,
+    18446744069414584311,
+    18446744069414584304,
+    18446744069414584295,
+    18446744069414584284,
+    18446744069414584271,
+    18446744069414584256,
+    18446744069414584239,
+    18446744069414584220,
+    18446744069414584199,
+    18446744069414584176,
+    18446744069414584151,
+    18446744069414584124,
+    18446744069414584095,
+];
+
+static VALUES_16: [u64; 16] = [
+    18446744069414583065,
+    540243915593850949,
+    35870465465552992,
+    324163542956335161,
+    36028797018964080,
+    828845989959065655,
+    18410592124677419105,
+    612589560169668683,
+    120,
+    17978205900916629564,
+    36187128572375136,
+    18050311820819128392,
+    18410715272395620465,
+    17690307520435478602,
+    18410838420113821793,
+    17762308026808180790,
+];
+
+static COSET_VALUES_16: [u64; 16] = [
+    18445518758955990329,
+    5101133030337628412,
+    9433820925051144535,
+    9422191536624782151,
+    9084963022085587752,
+    3843911864841310150,
+    4060182350378646073,
+    16861044003911299649,
+    954018776390616,
+    99619581322017420,
+    5516922339771280069,
+    17265865975758840937,
+    9362044309565611833,
+    8559104804030931406,
+    17882570550075989549,
+    12634105483829223671,
+];
+
+// Each is an exponent `e` and the root of order `2 ^ e`.
+static ROOTS: [(u32, u64); 9] = [
+    (0, 1),
+    (1, 18446744069414584320),
+    (2, 281474976710656),
+    (3, 18446744069397807105),
+    (10, 11353340290879379826),
+    (16, 6115771955107415310),
+    (20, 3511170319078647661),
+    (31, 4614640910117430873),
+    (32, 1753635133440165772),
+];
+
+fn gold(n: u64) -> Result<Gold, Fail> {
+    Ok(Gold::new(n).ok_or("not below p")?)
+}
+
+fn fill(room: &mut [Gold], list: &[u64]) -> Result<(), Fail> {
+    for (place, n) in room.iter_mut().zip(list) {
+        *place = gold(*n)?;
+    }
+    Ok(())
+}
+
+fn same(rt: &impl Abort, room: &[Gold], list: &[u64]) -> Result<(), Fail> {
+    assert_eq!(rt; room.len(), list.len());
+    for (place, n) in room.iter().zip(list) {
+        assert_eq!(rt; place.get(), *n);
+    }
+    Ok(())
+}
+
+// The three transforms and a value against numbers that plain sums gave.
+fn agree(
+    rt: &impl Abort,
+    room: &mut [Gold],
+    coefs: &[u64],
+    values: &[u64],
+    coset: &[u64],
+) -> Result<(), Fail>
+    requires { IsLength (length room.old) }
+{
+    fill(room, coefs)?;
+    ntt(room);
+    same(rt, room, values)?;
+    intt(room);
+    same(rt, room, coefs)?;
+    assert_eq!(rt; eval(room, gold(7)?).get(), *coset.first().ok_or("empty")?);
+    coset_ntt(room);
+    same(rt, room, coset)
+}
+
+#[test]
+fn transforms_agree_with_plain_sums(rt: HostRuntime) -> Result<(), Fail> {
+    let mut room = [Gold::ZERO; 8];
+    agree(&rt, &mut room, &COEFFICIENTS_8, &VALUES_8, &COSET_VALUES_8)?;
+    let mut room = [Gold::ZERO; 16];
+    agree(
+        &rt,
+        &mut room,
+        &COEFFICIENTS_16,
+        &VALUES_16,
+        &COSET_VALUES_16,
+    )
+}
+
+#[test]
+fn one_has_the_value_1_everywhere(rt: HostRuntime) -> Result<(), Fail> {
+    let mut room = [Gold::ONE, Gold::ZERO, Gold::ZERO, Gold::ZERO];
+    ntt(&mut room);
+    same(&rt, &room, &[1, 1, 1, 1])
+}
+
+#[test]
+fn the_square_of_1_and_x(rt: HostRuntime) -> Result<(), Fail> {
+    let one_and_x = [Gold::ONE, Gold::ONE];
+    let square = mul(rt.alloc(), &one_and_x, &one_and_x)?;
+    same(&rt, &square, &[1, 2, 1])?;
+    let none = mul(rt.alloc(), &one_and_x, &[])?;
+    same(&rt, &none, &[])
+}
+
+#[test]
+fn roots_have_their_orders(rt: HostRuntime) -> Result<(), Fail> {
+    for row in &ROOTS {
+        let (e, number) = *row;
+        if e <= 32 {
+            assert_eq!(rt; root(e).get(), number);
+        }
+    }
+    assert_eq!(rt; root(32).pow(2147483648).get(), 18446744069414584320);
+    Ok(())
+}
