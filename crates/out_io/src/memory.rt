@@ -149,39 +149,3 @@ impl Sink for MemSink {
         Ok(())
     }
 }
-
-#[cfg(test)]
-mod tests {
-    use super::*;
-    use std::test::Fail;
-
-    #[test]
-    fn keeps_what_is_written(rt: HostRuntime) -> Result<(), Fail> {
-        let alloc = rt.alloc();
-        let mut store = MemStore::new(alloc);
-        store.write(alloc, "a", b"one")?;
-        store.write(alloc, "b", b"two")?;
-        store.write(alloc, "a", b"three")?;
-        assert!(rt; store.read(alloc, "c")?.is_none());
-        let found = store.read(alloc, "a")?.ok_or("a")?;
-        assert_eq!(rt; found.as_slice(), b"three".as_slice());
-        let mut sink = MemSink::new(alloc);
-        sink.put(b"12")?;
-        sink.put(b"3")?;
-        assert_eq!(rt; sink.bytes.as_slice(), b"123".as_slice());
-        Ok(())
-    }
-
-    #[test]
-    fn fails_at_the_listed_calls(rt: HostRuntime) -> Result<(), Fail> {
-        let alloc = rt.alloc();
-        let mut store = MemStore::new(alloc);
-        store.fail.push(1)?;
-        store.write(alloc, "a", b"one")?;
-        assert_eq!(rt; store.write(alloc, "a", b"two"), Err(IoFault::Failed));
-        let kept = store.read(alloc, "a")?.ok_or("a")?;
-        assert_eq!(rt; kept.as_slice(), b"one".as_slice());
-        assert_eq!(rt; store.faults, 1);
-        Ok(())
-    }
-}

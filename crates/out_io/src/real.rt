@@ -122,39 +122,3 @@ impl<R: Print + Drop> Sink for RealSink<R> {
         counted(&mut self.faults, outcome)
     }
 }
-
-#[cfg(test)]
-mod tests {
-    use super::*;
-    use std::test::Fail;
-    use std::{fs, process};
-
-    #[test]
-    fn writes_and_reads_a_real_file(rt: HostRuntime) -> Result<(), Fail> {
-        let alloc = rt.alloc();
-        let mut store = RealStore::new(rt.clone()?);
-        let id = process::id(rt.process());
-        let name = format!(in alloc; "/tmp/circom_gold_real_store_{id}")?;
-        let mut bytes = Vec::new(alloc);
-        for _ in 0..70_000u32 {
-            bytes.push(b'x')?;
-        }
-        store.write(alloc, name.as_str(), bytes.as_slice())?;
-        let found = store.read(alloc, name.as_str())?.ok_or("the file")?;
-        assert!(rt; found.as_slice() == bytes.as_slice());
-        fs::remove_file(&rt, name.as_str())?;
-        assert!(rt; store.read(alloc, name.as_str())?.is_none());
-        assert_eq!(rt; store.faults, 0);
-        assert_eq!(rt; store.read(alloc, "/tmp"), Err(IoFault::Failed));
-        assert_eq!(rt; store.faults, 1);
-        Ok(())
-    }
-
-    #[test]
-    fn puts_to_standard_output(rt: HostRuntime) -> Result<(), Fail> {
-        let mut sink = RealSink::new(rt.clone()?);
-        sink.put(b"a line\n")?;
-        assert_eq!(rt; sink.faults, 0);
-        Ok(())
-    }
-}
