@@ -25,6 +25,3 @@ pub use r1cs::R1cs;
 pub use r1cs_reading::read_r1cs;
 pub use write::{write_r1cs, write_wtns};
 pub use wtns_reading::read_wtns;
-
-#[cfg(test)]
-mod tests;
