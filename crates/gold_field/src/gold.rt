@@ -128,30 +128,3 @@ pub(crate) fn reduced(n: u64) -> Gold
         Gold { number: n }
     }
 }
-
-#[cfg(test)]
-mod tests {
-    use super::*;
-    use std::test::Fail;
-
-    fn gold(n: u64) -> Result<Gold, Fail> {
-        Ok(Gold::new(n).ok_or("not below p")?)
-    }
-
-    // p - 1 is -1, and 2^32 is a square root of 2^64 = 2^32 - 1.
-    #[test]
-    fn arithmetic_wraps_at_p(rt: HostRuntime) -> Result<(), Fail> {
-        let last = gold(18446744069414584320)?;
-        assert_eq!(rt; Gold::new(18446744069414584321), None);
-        assert_eq!(rt; last.add(Gold::ONE).get(), 0);
-        assert_eq!(rt; Gold::ZERO.sub(Gold::ONE).get(), 18446744069414584320);
-        assert_eq!(rt; last.mul(last).get(), 1);
-        assert_eq!(rt; gold(4294967296)?.mul(gold(4294967296)?).get(), 4294967295);
-        assert_eq!(rt; last.neg().get(), 1);
-        assert_eq!(rt;
-            Gold::from_wide(340282366920938463463374607431768211455).get(),
-            18446744065119617024
-        );
-        Ok(())
-    }
-}

@@ -181,6 +181,3 @@ fn right_by(a: Gold, k: u64) -> Gold
         Gold::ZERO
     }
 }
-
-#[cfg(test)]
-mod tests;
