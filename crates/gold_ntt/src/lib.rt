@@ -9,6 +9,3 @@ mod transform;
 pub use polynomial::{eval, mul};
 pub use roots::{ROOT, root};
 pub use transform::{coset_ntt, intt, ntt};
-
-#[cfg(test)]
-mod tests;
