@@ -13,6 +13,3 @@ mod tree;
 pub use hash::{Hash, absorb, leaf, root_of};
 pub use laws::path_leads_to_root;
 pub use tree::Tree;
-
-#[cfg(test)]
-mod tests;
