@@ -19,6 +19,3 @@ pub use laws::{combining_is_linear, vectors_solve};
 pub use matrix::Vectors;
 pub use params::Params;
 pub use system::combine;
-
-#[cfg(test)]
-mod tests;
