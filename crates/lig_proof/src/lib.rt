@@ -18,6 +18,3 @@ pub use proof::Proof;
 pub use read::read_proof;
 pub use transcript::{challenges, queries};
 pub use write::write_proof;
-
-#[cfg(test)]
-mod tests;
