@@ -21,6 +21,3 @@ mod operators;
 mod reader;
 
 pub use reader::{Reader, Stop};
-
-#[cfg(test)]
-mod tests;
