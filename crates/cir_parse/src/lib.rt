@@ -10,8 +10,6 @@ mod left_out;
 mod making;
 mod parsing;
 mod statements;
-#[cfg(test)]
-mod tests;
 
 pub use fault::{MAX_HEIGHT, ParseFault};
 pub use parsing::parse;
