@@ -12,6 +12,3 @@ pub use expression_lengths::{dimensions_len, expression_len, list_len, parallel_
 pub use item_lengths::{item_len, main_len};
 pub use place::{Places, Spot};
 pub use statement_lengths::{assign_len, block_len, first_len, simple_len, statement_len};
-
-#[cfg(test)]
-mod tests;
