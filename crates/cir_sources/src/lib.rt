@@ -11,6 +11,3 @@ mod source;
 pub use fault::LoadFault;
 pub use loading::sources;
 pub use source::{MAX_FILES, MAX_SOURCE, Site, Source};
-
-#[cfg(test)]
-mod tests;
