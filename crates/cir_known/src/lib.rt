@@ -9,6 +9,3 @@ mod variables;
 
 pub use faults::{UnknownFault, allowed_unknown};
 pub use variables::assigned;
-
-#[cfg(test)]
-mod tests;
