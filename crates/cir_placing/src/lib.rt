@@ -10,6 +10,3 @@ mod simple;
 mod statements;
 
 pub use definition::definitions;
-
-#[cfg(test)]
-mod tests;
