@@ -15,6 +15,3 @@ pub use name_set::NameSet;
 pub use names::{Defined, Definitions};
 pub use naming::Named;
 pub use repeats::first_repeat;
-
-#[cfg(test)]
-mod tests;
