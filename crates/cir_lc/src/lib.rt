@@ -9,6 +9,3 @@ mod sums;
 pub use laws::{constant_part, one_combination, one_normal, term_count};
 pub use quad::{Quad, normal, times};
 pub use sums::{add, scale};
-
-#[cfg(test)]
-mod tests;
