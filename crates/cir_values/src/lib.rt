@@ -5,8 +5,6 @@ mod class;
 mod names;
 mod shape;
 mod signals;
-#[cfg(test)]
-mod tests;
 mod value;
 
 pub use cir_meaning::Class;
