@@ -14,6 +14,3 @@ mod stop;
 mod value;
 
 pub use circuit::{Circuit, InstFault, instantiate};
-
-#[cfg(test)]
-mod tests;
