@@ -7,6 +7,3 @@ mod file;
 
 pub use compiling::compile;
 pub use fault::CompileFault;
-
-#[cfg(test)]
-mod tests;
