@@ -9,4 +9,3 @@ pub mod Calls
 pub mod Openings
 pub mod Makes
 pub mod Who
-pub mod Examples

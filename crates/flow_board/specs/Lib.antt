@@ -3,4 +3,3 @@ pub mod Rule
 pub mod Plays
 pub mod Closed
 pub mod Seats
-pub mod Examples

@@ -9,8 +9,6 @@ mod making;
 mod opening;
 mod rule;
 mod seat;
-#[cfg(test)]
-mod tests;
 mod view;
 mod words;
 

@@ -1,8 +1,8 @@
 use Rattle.std.proofs.Common.{sym, ◌∙◌, ap, subst, length}
 use Rattle.flow_core.specs.Flow.{IsFlow}
-use Rattle.flow_board.specs.Examples.{chain}
-use Rattle.flow_board.proofs.Examples.{chain_is_flow}
-use Rattle.flow_board.proofs.tests.chain_board.Goals as goal
+use Rattle.engine_tests.specs.Examples.{chain}
+use Rattle.engine_tests.proofs.Examples.{chain_is_flow}
+use Rattle.engine_tests.proofs.board.chain_board.Goals as goal
 
 pub make-requires-clause-flow : goal.make-requires-clause-flow
 make-requires-clause-flow c = λ _. subst (λ n. IsFlow (chain n)) (sym c.of.ensures)

@@ -5,7 +5,7 @@ use Rattle.flow_core.specs.Net.{Net, writes_of}
 use Rattle.flow_core.specs.Flow.{IsFlow, Answer, Unreached, Refuses, Gives}
 use Rattle.flow_core.proofs.Totals.{same_some, same_yes}
 use Rattle.std.specs.Prelude.{slice_get}
-use Rattle.flow_board.specs.Examples.{chain, pair}
+use Rattle.engine_tests.specs.Examples.{chain, pair}
 use Rattle.flow_board.specs.Seats.{ListsStarts}
 
 given : Answer → List ℕ

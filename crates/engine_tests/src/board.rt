@@ -3,10 +3,10 @@ ghost use Rattle.flow_core.specs.Counts.{IsIn};
 ghost use Rattle.flow_core.specs.Net.{reads_of, succs_of};
 ghost use Rattle.flow_core.specs.Flow.{Gives, Refuses, answer_of, HasValue};
 ghost use Rattle.flow_core.specs.Events.{hold};
-ghost use Rattle.flow_board.specs.Examples.{chain, pair};
+ghost use Rattle.engine_tests.specs.Examples.{chain, pair};
 ghost use Rattle.flow_board.specs.Seats.{first_seat};
 
-use crate::{Answers, Board, Words, WorkSeat};
+use flow_board::{Answers, Board, Words, WorkSeat};
 use flow_core::{Graph, GraphFault};
 use gold_field::Gold;
 use items::Items;
@@ -80,8 +80,8 @@ fn read_taken<A: Answers>(board: &Board<'_, A>, seat: &mut WorkSeat, strand: u32
     board.read(seat, cell)
 }
 
-/// Tells the successors of a strand that is published whole, and ends it. The answer is the last one that
-/// became ready.
+/// Tells the successors of a strand that is published whole, and ends it. The answer is the last one
+/// that became ready.
 fn hand_over<A: Answers>(
     board: &Board<'_, A>,
     graph: &Graph,
@@ -110,8 +110,8 @@ fn hand_over<A: Answers>(
     ready
 }
 
-/// What one thread does: it tries the other strand in vain, and runs its own whole. The answer is what it
-/// read and the strand that became ready, and None where a take answered otherwise.
+/// What one thread does: it tries the other strand in vain, and runs its own whole. The answer is
+/// what it read and the strand that became ready, and None where a take answered otherwise.
 fn work<A: Answers>(
     board: &Board<'_, A>,
     graph: &Graph,
@@ -165,15 +165,21 @@ fn in_a_thread(
     let (ran, ()) = join_mut(
         rt,
         &mut || -> Option<(Gold, Option<u32>)>
-            requires { (board.now.flow.net ≡ graph.now) × (seat.now.place ≡ board.now) × (seat.now.holding ≡ None) × (board.now.flow.net.strands ≡ 2) × (strand < 2) × IsIn strand (reads_of board.now.flow.net strand) × (answer_of board.now.flow strand ≡ Gives (value ∷ [])) }
-            ensures { (seat.exit.now.place ≡ board.entry.now) × IfSome result (λ _. seat.exit.now.holding ≡ None) × (seat.exit.now.share ≡ seat.entry.now.share) }
+            requires { (board.now.flow.net ≡ graph.now) × (seat.now.place ≡ board.now)
+                × (seat.now.holding ≡ None) × (board.now.flow.net.strands ≡ 2) × (strand < 2)
+                × IsIn strand (reads_of board.now.flow.net strand)
+                × (answer_of board.now.flow strand ≡ Gives (value ∷ [])) }
+            ensures { (seat.exit.now.place ≡ board.entry.now)
+                × IfSome result (λ _. seat.exit.now.holding ≡ None)
+                × (seat.exit.now.share ≡ seat.entry.now.share) }
         { work(board, graph, seat, strand, value) },
         &mut || (),
     );
     ran
 }
 
-/// The two strands, one after the other, each in a thread with a seat of its own. Gives the seats back.
+/// The two strands, one after the other, each in a thread with a seat of its own. Gives the seats
+/// back.
 fn in_turn<R: Threads + Abort>(
     rt: &R,
     board: &Board<'_, Chain>,

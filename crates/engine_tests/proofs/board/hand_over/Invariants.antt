@@ -1,6 +1,6 @@
 use Rattle.std.proofs.Common.{◌≡◌, Some}
 use Rattle.flow_core.specs.Events.{hold}
-use Rattle.flow_board.proofs.tests.hand_over.Given as goal
+use Rattle.engine_tests.proofs.board.hand_over.Given as goal
 
 abbrev pub invariant-loop-told : goal.invariant-loop-told
 invariant-loop-told g l = record {
