@@ -9,8 +9,6 @@ mod graph;
 mod laws;
 mod linking;
 mod state;
-#[cfg(test)]
-mod tests;
 
 pub use at_rest::quiet;
 pub use drawing::GraphFault;
