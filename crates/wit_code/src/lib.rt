@@ -6,8 +6,6 @@ mod code;
 mod frames;
 pub mod laws;
 mod machine;
-#[cfg(test)]
-mod tests;
 mod well_formed;
 
 pub use code::{Op, Proc, Stands, Step, Stop};
