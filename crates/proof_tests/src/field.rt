@@ -221,41 +221,71 @@ fn operators_agree_with_whole_numbers(rt: HostRuntime) -> Result<(), Fail> {
 #[test]
 fn division_by_zero_has_no_answer(rt: HostRuntime) -> Result<(), Fail> {
     let five = gold(5)?;
-    assert_eq!(rt; binary(Op2::Div, five, Gold::ZERO), None);
-    assert_eq!(rt; binary(Op2::Quot, five, Gold::ZERO), None);
-    assert_eq!(rt; binary(Op2::Rem, five, Gold::ZERO), None);
+    for op in [Op2::Div, Op2::Quot, Op2::Rem] {
+        assert_eq!(rt; binary(op, five, Gold::ZERO), None);
+    }
     assert_eq!(rt; Gold::ZERO.inv(), None);
     assert_eq!(rt; five.inv(), Some(gold(14757395255531667457)?));
     Ok(())
 }
 
+// An operator, its operand and its answer.
+static UNARY_ROWS: [(Op1, u64, u64); 5] = [
+    (Op1::Neg, 5, 18446744069414584316),
+    (Op1::Not, 0, 1),
+    (Op1::Not, 18446744069414584320, 0),
+    (Op1::Compl, 0, 4294967294),
+    (Op1::Compl, 18446744069414584320, 4294967295),
+];
+
 #[test]
 fn one_operand_agrees_with_whole_numbers(rt: HostRuntime) -> Result<(), Fail> {
-    let last = gold(18446744069414584320)?;
-    assert_eq!(rt; unary(Op1::Neg, gold(5)?), gold(18446744069414584316)?);
-    assert_eq!(rt; unary(Op1::Not, Gold::ZERO), Gold::ONE);
-    assert_eq!(rt; unary(Op1::Not, last), Gold::ZERO);
-    assert_eq!(rt; unary(Op1::Compl, Gold::ZERO), gold(4294967294)?);
-    assert_eq!(rt; unary(Op1::Compl, last), gold(4294967295)?);
-    assert_eq!(rt; gold(9223372034707292160)?.signed(), 9223372034707292160);
-    assert_eq!(rt; gold(9223372034707292161)?.signed(), -9223372034707292160);
-    assert_eq!(rt; last.signed(), -1);
+    for row in &UNARY_ROWS {
+        let (op, a, answer) = *row;
+        assert_eq!(rt; unary(op, gold(a)?).get(), answer);
+    }
     Ok(())
 }
 
-// p - 1 is -1, and 2^32 is a square root of 2^64 = 2^32 - 1.
+// A number, and its signed value.
+static SIGNED_ROWS: [(u64, i128); 3] = [
+    (9223372034707292160, 9223372034707292160),
+    (9223372034707292161, -9223372034707292160),
+    (18446744069414584320, -1),
+];
+
 #[test]
-fn arithmetic_wraps_at_p(rt: HostRuntime) -> Result<(), Fail> {
-    let last = gold(18446744069414584320)?;
+fn signed_values_lie_on_both_sides(rt: HostRuntime) -> Result<(), Fail> {
+    for row in &SIGNED_ROWS {
+        let (a, signed) = *row;
+        assert_eq!(rt; gold(a)?.signed(), signed);
+    }
+    Ok(())
+}
+
+// The operands of a product, and the product: p - 1 is -1, and 2^32 is a square root of 2^32 - 1.
+static PRODUCTS: [(u64, u64, u64); 2] = [
+    (18446744069414584320, 18446744069414584320, 1),
+    (4294967296, 4294967296, 4294967295),
+];
+
+#[test]
+fn products_wrap_at_p(rt: HostRuntime) -> Result<(), Fail> {
+    for row in &PRODUCTS {
+        let (a, b, product) = *row;
+        assert_eq!(rt; gold(a)?.mul(gold(b)?).get(), product);
+    }
+    Ok(())
+}
+
+#[test]
+fn numbers_wrap_at_p(rt: HostRuntime) {
     assert_eq!(rt; Gold::new(18446744069414584321), None);
-    assert_eq!(rt; last.add(Gold::ONE).get(), 0);
     assert_eq!(rt; Gold::ZERO.sub(Gold::ONE).get(), 18446744069414584320);
-    assert_eq!(rt; last.mul(last).get(), 1);
-    assert_eq!(rt; gold(4294967296)?.mul(gold(4294967296)?).get(), 4294967295);
-    assert_eq!(rt; last.neg().get(), 1);
+    assert_eq!(rt; Gold::ZERO.sub(Gold::ONE).add(Gold::ONE).get(), 0);
+    assert_eq!(rt; Gold::ZERO.sub(Gold::ONE).neg().get(), 1);
     assert_eq!(rt;
         Gold::from_wide(340282366920938463463374607431768211455).get(),
         18446744065119617024
     );
-    Ok(())
 }

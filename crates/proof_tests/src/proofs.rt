@@ -53,22 +53,24 @@ fn numbers_from_the_first_key(rt: HostRuntime) -> Result<(), Fail> {
     let file = hex::decode(alloc, FILE).ok().ok_or("hexadecimal")?;
     let drawn = challenges(alloc, &SMALL, &file, &[gold(33)?], 5, &hash_of(ROOT)?)?;
     assert_eq!(rt; hex::encode(alloc, drawn.first)?.as_str(), FIRST);
-    assert_eq!(rt;
-        text_of(alloc, drawn.alpha.as_slice())?.as_str(),
-        "1425510092024237162 5607104503221049881 11052051793607602968 5361158079796333595 \
-         2253861206807968990 12355069382853632511 7177887416754908636 15676468362065654624 "
-    );
-    let r = text_of(alloc, drawn.r.as_slice())?;
-    assert!(rt;
-        r.as_str().starts_with(
-            "11420618950501235445 7265414238954819002 699751162042768146 3471826760560595480 "
-        )
-    );
     assert_eq!(rt; drawn.r.len(), 10);
-    assert_eq!(rt;
-        text_of(alloc, drawn.rho.as_slice())?.as_str(),
-        "1726566576185662779 14326607648165731867 "
-    );
+    for (values, text) in [
+        (
+            drawn.alpha.as_slice(),
+            "1425510092024237162 5607104503221049881 11052051793607602968 5361158079796333595 \
+             2253861206807968990 12355069382853632511 7177887416754908636 15676468362065654624 ",
+        ),
+        (
+            drawn.r.as_slice(),
+            "11420618950501235445 7265414238954819002 699751162042768146 3471826760560595480 ",
+        ),
+        (
+            drawn.rho.as_slice(),
+            "1726566576185662779 14326607648165731867 ",
+        ),
+    ] {
+        assert!(rt; text_of(alloc, values)?.as_str().starts_with(text));
+    }
     Ok(())
 }
 
@@ -152,23 +154,37 @@ fn written_as_it_was_read(rt: HostRuntime) -> Result<(), Fail> {
 }
 
 #[test]
-fn malformed_at_the_first_wrong_byte(rt: HostRuntime) -> Result<(), Fail> {
-    let alloc = rt.alloc();
+fn heads_are_malformed_at_their_first_wrong_byte(rt: HostRuntime) {
+    for (bytes, offset) in [
+        (b"LIGG\x01\0\0".as_slice(), 7),
+        (b"LIGG\x02\0\0\0".as_slice(), 0),
+        (b"ligg\x02\0\0\0".as_slice(), 4),
+        (b"ligg\x01\0\0\0".as_slice(), 8),
+    ] {
+        assert_eq!(rt; malformed_at(rt.alloc(), bytes), Some(offset));
+    }
+}
+
+#[test]
+fn values_are_below_p(rt: HostRuntime) -> Result<(), Fail> {
     let order = P.to_le_bytes();
-    let bytes = sample(alloc)?;
-    assert_eq!(rt; malformed_at(alloc, &bytes), None);
-    assert_eq!(rt; malformed_at(alloc, b"LIGG\x01\0\0"), Some(7));
-    assert_eq!(rt; malformed_at(alloc, b"LIGG\x02\0\0\0"), Some(0));
-    assert_eq!(rt; malformed_at(alloc, b"ligg\x02\0\0\0"), Some(4));
-    assert_eq!(rt; malformed_at(alloc, b"ligg\x01\0\0\0"), Some(8));
-    assert_eq!(rt; changed_at(alloc, 40, &order)?, Some(40));
-    assert_eq!(rt; changed_at(alloc, 18464, &order)?, Some(18464));
-    assert_eq!(rt; changed_at(alloc, 18472, &[255; 32])?, Some(18472));
-    assert_eq!(rt; changed_at(alloc, 8, &[255; 32])?, None);
-    let mut longer = sample(alloc)?;
-    longer.push(0)?;
-    assert_eq!(rt; malformed_at(alloc, &longer), Some(56872));
-    longer.truncate(56871);
-    assert_eq!(rt; malformed_at(alloc, &longer), Some(56871));
+    for (place, new, fault) in [
+        (40usize, order.as_slice(), Some(40)),
+        (18464, order.as_slice(), Some(18464)),
+        (18472, [255; 32].as_slice(), Some(18472)),
+        (8, [255; 32].as_slice(), None),
+    ] {
+        assert_eq!(rt; changed_at(rt.alloc(), place, new)?, fault);
+    }
+    Ok(())
+}
+
+#[test]
+fn proofs_have_one_length(rt: HostRuntime) -> Result<(), Fail> {
+    let mut bytes = sample(rt.alloc())?;
+    bytes.push(0)?;
+    assert_eq!(rt; malformed_at(rt.alloc(), &bytes), Some(56872));
+    bytes.truncate(56871);
+    assert_eq!(rt; malformed_at(rt.alloc(), &bytes), Some(56871));
     Ok(())
 }

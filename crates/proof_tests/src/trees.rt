@@ -34,42 +34,40 @@ fn root_text(alloc: Global, depth: u32) -> Result<String, Fail>
     Ok(hex::encode(alloc, tree_of(alloc, depth)?.root())?)
 }
 
+// The hashes of the columns 0, 1 2 3, and p - 1, 0, 2^32.
+static LEAVES: [&str; 3] = [
+    "3e7077fd2f66d689e0cee6a7cf5b37bf2dca7c979af356d0a31cbc5c85605c7d",
+    "b3a0fa95548c1be9924b8f1758ef14309cce9d8d991553f85ef8057fb1d505ca",
+    "dd7bb10074cc674d02d60996afa259aeb603e49b02595f36e16fa0160c799e1c",
+];
+
 #[test]
 fn leaves_hash_words_low_byte_first(rt: HostRuntime) -> Result<(), Fail> {
-    assert_eq!(rt;
-        hash_of(rt.alloc(), &[0])?.as_str(),
-        "3e7077fd2f66d689e0cee6a7cf5b37bf2dca7c979af356d0a31cbc5c85605c7d"
-    );
-    assert_eq!(rt;
-        hash_of(rt.alloc(), &[1, 2, 3])?.as_str(),
-        "b3a0fa95548c1be9924b8f1758ef14309cce9d8d991553f85ef8057fb1d505ca"
-    );
-    assert_eq!(rt;
-        hash_of(rt.alloc(), &[18446744069414584320, 0, 4294967296])?.as_str(),
-        "dd7bb10074cc674d02d60996afa259aeb603e49b02595f36e16fa0160c799e1c"
-    );
+    let columns = [
+        [0u64].as_slice(),
+        [1, 2, 3].as_slice(),
+        [18446744069414584320, 0, 4294967296].as_slice(),
+    ];
+    for (column, hash) in columns.iter().zip(&LEAVES) {
+        assert_eq!(rt; hash_of(rt.alloc(), column)?.as_str(), *hash);
+    }
     Ok(())
 }
 
+// The roots of the trees over 1, 2, 4, 8 and 16 leaves.
+static ROOTS: [&str; 5] = [
+    "3e7077fd2f66d689e0cee6a7cf5b37bf2dca7c979af356d0a31cbc5c85605c7d",
+    "656675c027a9afdd7b83f5dfef7fca33883f07039f8a9a67c23188aa5b7f2143",
+    "9656f8043dfd7640896c81198d4fd347e03483cce7a1bfb081cd1fa3f7f916b1",
+    EIGHT,
+    "2d442bdcfbe1fdf00c78bbc256d5e9390adf2b230845c086c7ce4bde58a4f961",
+];
+
 #[test]
 fn roots(rt: HostRuntime) -> Result<(), Fail> {
-    assert_eq!(rt;
-        root_text(rt.alloc(), 0)?.as_str(),
-        "3e7077fd2f66d689e0cee6a7cf5b37bf2dca7c979af356d0a31cbc5c85605c7d"
-    );
-    assert_eq!(rt;
-        root_text(rt.alloc(), 1)?.as_str(),
-        "656675c027a9afdd7b83f5dfef7fca33883f07039f8a9a67c23188aa5b7f2143"
-    );
-    assert_eq!(rt;
-        root_text(rt.alloc(), 2)?.as_str(),
-        "9656f8043dfd7640896c81198d4fd347e03483cce7a1bfb081cd1fa3f7f916b1"
-    );
-    assert_eq!(rt; root_text(rt.alloc(), 3)?.as_str(), EIGHT);
-    assert_eq!(rt;
-        root_text(rt.alloc(), 4)?.as_str(),
-        "2d442bdcfbe1fdf00c78bbc256d5e9390adf2b230845c086c7ce4bde58a4f961"
-    );
+    for (depth, root) in (0u32..5).zip(&ROOTS) {
+        assert_eq!(rt; root_text(rt.alloc(), depth)?.as_str(), *root);
+    }
     Ok(())
 }
 

@@ -8,5 +8,10 @@ name-requires g c =
       first = omega arith;
       entry = record { instance = 0; base = 99 ∷ []; place = 0 };
       there = ap (λ ns. slice_get ns (1 - 1)) c.in_ok-signals.ensures;
-      named = record { declared = 99 ∷ []; dims = []; base = record { spelled = refl; plain = (λ e. omega (arith, e), tt); small = tt }; inside = omega arith };
+      named = record {
+        declared = 99 ∷ [];
+        dims = [];
+        base = record { spelled = refl; plain = (λ e. omega (arith, e), tt); small = tt };
+        inside = omega arith;
+      };
     }

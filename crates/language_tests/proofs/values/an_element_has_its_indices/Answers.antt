@@ -7,9 +7,20 @@ use Rattle.language_tests.proofs.values.an_element_has_its_indices.Goals as goal
 pub name-requires : goal.name-requires
 name-requires g c =
     let two : decimal 2 ≡ 50 ∷ [] = decimal_digit 2 (omega arith) in
+    let declared : List ℕ = 105 ∷ 110 ∷ [] in
+    let spelled-with : List ℕ → List ℕ = λ d. 105 ∷ 110 ∷ 91 ∷ (d ++ (93 ∷ 91 ∷ (d ++ (93 ∷ [])))) in
     record {
       first = omega arith;
-      entry = record { instance = 0; base = 105 ∷ 110 ∷ 91 ∷ 50 ∷ 93 ∷ 91 ∷ 50 ∷ 93 ∷ []; place = 2 };
+      entry = record { instance = 0; base = spelled-with (50 ∷ []); place = 2 };
       there = ap (λ ns. slice_get ns (1 - 1)) c.in_ok-signals.ensures;
-      named = record { declared = 105 ∷ 110 ∷ []; dims = 2 ∷ 2 ∷ []; base = record { spelled = ap (λ (d : List ℕ). 105 ∷ 110 ∷ 91 ∷ (d ++ (93 ∷ 91 ∷ (d ++ (93 ∷ []))))) (sym two); plain = (λ e. omega (arith, e), (λ e. omega (arith, e), tt)); small = (omega arith, (omega arith, tt)) }; inside = omega arith };
+      named = record {
+        declared = declared;
+        dims = 2 ∷ 2 ∷ [];
+        base = record {
+          spelled = ap spelled-with (sym two);
+          plain = (λ e. omega (arith, e), (λ e. omega (arith, e), tt));
+          small = (omega arith, (omega arith, tt));
+        };
+        inside = omega arith;
+      };
     }
