@@ -195,6 +195,12 @@ fn sections_in_any_order(rt: HostRuntime) -> Result<(), Fail> {
     turned.extend_from_slice(&R1CS[64..124])?;
     turned.extend_from_slice(&R1CS[12..64])?;
     assert!(rt; read_r1cs(alloc, &turned).is_ok());
+    Ok(())
+}
+
+#[test]
+fn other_sections(rt: HostRuntime) -> Result<(), Fail> {
+    let alloc = rt.alloc();
     let unknown = with_section(alloc, 9)?;
     assert!(rt; read_r1cs(alloc, &unknown).is_ok());
     let gates = with_section(alloc, 4)?;
@@ -208,18 +214,23 @@ fn sections_in_any_order(rt: HostRuntime) -> Result<(), Fail> {
     Ok(())
 }
 
-// One constraint over four wires whose A is 2 * w[3] + 5 * w[1] - 2 * w[3] + 0 * w[2] + 6 * w[1].
+// A section of one constraint over four wires, whose A is
+// 2 * w[3] + 5 * w[1] - 2 * w[3] + 0 * w[2] + 6 * w[1], and whose B and C are 0.
+static REPEATING: [u8; 84] = [
+    2, 0, 0, 0, 72, 0, 0, 0, 0, 0, 0, 0, 5, 0, 0, 0, // the head, and five terms
+    3, 0, 0, 0, 2, 0, 0, 0, 0, 0, 0, 0, // 2 * w[3]
+    1, 0, 0, 0, 5, 0, 0, 0, 0, 0, 0, 0, // 5 * w[1]
+    3, 0, 0, 0, 0xff, 0xff, 0xff, 0xff, 0xfe, 0xff, 0xff, 0xff, // -2 * w[3]
+    2, 0, 0, 0, 0, 0, 0, 0, 0, 0, 0, 0, // 0 * w[2]
+    1, 0, 0, 0, 6, 0, 0, 0, 0, 0, 0, 0, // 6 * w[1]
+    0, 0, 0, 0, 0, 0, 0, 0, // no terms, twice
+];
+
 #[test]
 fn repeated_wires_add_up(rt: HostRuntime) -> Result<(), Fail> {
     let alloc = rt.alloc();
     let mut bytes = with_bytes(alloc, &R1CS[..64], 8, &[2])?;
-    bytes.extend_from_slice(&[2, 0, 0, 0, 72, 0, 0, 0, 0, 0, 0, 0, 5, 0, 0, 0])?;
-    bytes.extend_from_slice(&[3, 0, 0, 0, 2, 0, 0, 0, 0, 0, 0, 0])?;
-    bytes.extend_from_slice(&[1, 0, 0, 0, 5, 0, 0, 0, 0, 0, 0, 0])?;
-    bytes.extend_from_slice(&[3, 0, 0, 0, 0xff, 0xff, 0xff, 0xff, 0xfe, 0xff, 0xff, 0xff])?;
-    bytes.extend_from_slice(&[2, 0, 0, 0, 0, 0, 0, 0, 0, 0, 0, 0])?;
-    bytes.extend_from_slice(&[1, 0, 0, 0, 6, 0, 0, 0, 0, 0, 0, 0])?;
-    bytes.extend_from_slice(&[0, 0, 0, 0, 0, 0, 0, 0])?;
+    bytes.extend_from_slice(&REPEATING)?;
     let file = read_r1cs(alloc, &bytes).ok().ok_or("the file is refused")?;
     for k in file.constraints() {
         assert_eq!(rt; k.a.as_slice().len(), 1);
