@@ -111,11 +111,11 @@ total-unit k [] = omega (arith, total-nil (unit_at k), total-nil (one_at 0), tot
 total-unit k (t ∷ ts) =
     omega (arith, total-unit k ts, total-cons (unit_at k) t ts, total-cons (one_at 0) t ts, total-cons (one_at (suc k)) t ts, ap (λ (n : ℕ). t.coef * n) (unit_split k t.signal))
 
-value_origin : (ts : List Term) → value_of ts origin ≡ coef_of 0 ts % P
+pub value_origin : (ts : List Term) → value_of ts origin ≡ coef_of 0 ts % P
 unfolding origin
 value_origin ts = value-total origin ts
 
-value_unit : (k : ℕ) (ts : List Term) → value_of ts (unit k) ≡ (coef_of 0 ts + coef_of (suc k) ts) % P
+pub value_unit : (k : ℕ) (ts : List Term) → value_of ts (unit k) ≡ (coef_of 0 ts + coef_of (suc k) ts) % P
 unfolding unit
 value_unit k ts = value-total (unit k) ts ∙ ap (λ (n : ℕ). n % P) (total-unit k ts)
 

@@ -5,3 +5,5 @@ pub mod Walk
 pub mod Values
 pub mod Normals
 pub mod Known
+pub mod Forms
+pub mod Changes

@@ -3,3 +3,5 @@ pub mod Coefficient
 pub mod Normal
 pub mod Terms
 pub mod Merge
+pub mod Sparse
+pub mod Substitution

@@ -7,6 +7,7 @@ ghost use Rattle.cir_lc.specs.declared.quad.Quad.{Quad};
 ghost use Rattle.cir_lc.specs.Number.{value_of};
 ghost use Rattle.cir_lc.specs.Coefficient.{terms_below, constant_in};
 ghost use Rattle.cir_lc.specs.Normal.{IsNormal, constant_of};
+ghost use Rattle.cir_lc.specs.Sparse.{form_of};
 ghost use Rattle.cir_lc.specs.Terms.{IsWithin};
 
 /// Linear combinations with the same numbers are the same.
@@ -30,4 +31,14 @@ pub fn constant_part()
 pub fn one_normal()
     ensures { (n : ℕ) (q : Quad) (j k : Constraint) → IsNormal q j → IsNormal q k → RisesFrom 0 j.c → RisesFrom 0 k.c
         → IsWithin n j.c → IsWithin n k.c → j ≡ k }
+{}
+
+/// A linear combination is the form of its numbers.
+pub fn one_form()
+    ensures { (n : ℕ) (ts : List Term) → RisesFrom 0 ts → IsWithin n ts → ts ≡ form_of n (value_of ts) }
+{}
+
+/// The form of a list's numbers has these numbers, also where the list's terms stand in no order.
+pub fn form_numbers()
+    ensures { (n : ℕ) (ts : List Term) → IsWithin n ts → value_of (form_of n (value_of ts)) ≡ value_of ts }
 {}

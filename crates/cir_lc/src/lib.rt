@@ -2,10 +2,12 @@
 //! constraint. Every call is linear in the length of its operands.
 #![tactic(auto)]
 
+mod change;
 mod laws;
 mod quad;
 mod sums;
 
-pub use laws::{constant_part, one_combination, one_normal, term_count};
+pub use change::{in_order, multiple, subst};
+pub use laws::{constant_part, form_numbers, one_combination, one_form, one_normal, term_count};
 pub use quad::{Quad, normal, times};
 pub use sums::{add, scale};

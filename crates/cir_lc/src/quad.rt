@@ -2,6 +2,7 @@ ghost use Rattle.std.specs.Prelude.{◌≡◌, ℕ, [], IfOk, ◌↔◌};
 ghost use Rattle.gold_field.specs.Form.{Holds};
 ghost use Rattle.cir_lc.specs.Number.{Assignment, value_of, multiplied, negated};
 ghost use Rattle.cir_lc.specs.Terms.{IsWithin};
+ghost use Rattle.cir_lc.specs.Sparse.{IsNormalForm};
 ghost use Rattle.cir_lc.specs.Normal.{IsNormal, IsLinear, IsConstraintWithin, IsQuadWithin, constant_of, value_of_quad};
 
 use crate::sums::{add, scale};
@@ -37,6 +38,7 @@ pub fn normal(alloc: Global, q: &Quad) -> Result<Constraint, AllocError>
     ensures value { IfOk result (λ n. (s : Assignment) → Holds s.at n ↔ (value_of_quad q.now s ≡ 0)) }
     ensures shape { IfOk result (λ n. IsNormal q.now n) }
     ensures within { IfOk result (λ n. (m : ℕ) → IsQuadWithin m q.now → IsConstraintWithin m n) }
+    ensures normal { IfOk result (λ n. IsNormalForm n) }
 {
     let n = shaped(alloc, q)?;
     Ok(n)
@@ -86,7 +88,7 @@ fn linear(alloc: Global, c: &Lc, factor: &Lc, k: Gold) -> Result<Constraint, All
     })
 }
 
-fn minus(alloc: Global, a: &Lc) -> Result<Lc, AllocError>
+pub(crate) fn minus(alloc: Global, a: &Lc) -> Result<Lc, AllocError>
     ensures value { IfOk result (λ f. value_of f ≡ negated (value_of a.now)) }
     ensures within { IfOk result (λ f. (n : ℕ) → IsWithin n a.now → IsWithin n f) }
 {

@@ -67,7 +67,7 @@ fn multiples(alloc: Global, a: &[Term], k: Gold) -> Result<Vec<Term>, AllocError
 }
 
 // The term at the end, unless its coefficient is 0.
-fn push_term(terms: &mut Vec<Term>, signal: u32, coef: Gold) -> Result<(), AllocError>
+pub(crate) fn push_term(terms: &mut Vec<Term>, signal: u32, coef: Gold) -> Result<(), AllocError>
     ensures { OnOk result (terms.new.items ≡ terms.old.items ++ term_of signal coef) }
 {
     if coef != Gold::ZERO {
