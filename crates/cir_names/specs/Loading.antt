@@ -8,7 +8,8 @@ use Rattle.cir_duplicates.specs.declared.faults.Found.{Found as CodeFound}
 use Rattle.cir_checks.specs.Checks.{first_fault, Found}
 use Rattle.cir_sources.specs.Includes.{Source}
 use Rattle.cir_sources.specs.Faults.{refusal_at}
-use Rattle.cir_sources.specs.Loading.{AreAll, IsFirstFault, IsIncludeFault, Told}
+use Rattle.out_io.specs.Calls.{Told}
+use Rattle.cir_sources.specs.Loading.{AreAll, IsFirstFault, IsIncludeFault}
 use Rattle.cir_sources.specs.declared.fault.LoadFault.{LoadFault}
 use Rattle.cir_sources.specs.declared.fault.LoadFault.TheVariants as fault
 use Rattle.cir_names.specs.Programs.{definitions_in, names_of, program_of}

@@ -4,7 +4,8 @@ ghost use Rattle.std.specs.Option.{option_copied};
 ghost use Rattle.out_io.specs.Faults.{Rose};
 ghost use Rattle.cir_ast.specs.Placed.{seen_definition};
 ghost use Rattle.cir_sources.specs.Includes.{seen, IsRead};
-ghost use Rattle.cir_sources.specs.Loading.{AreSources, OnlyReads};
+ghost use Rattle.out_io.specs.Calls.{OnlyReads};
+ghost use Rattle.cir_sources.specs.Loading.{AreSources};
 ghost use Rattle.cir_names.specs.Programs.{source_definitions, definitions_in, names_of};
 ghost use Rattle.cir_names.specs.Loading.{Loads, seen_found, refusal_of, Checks};
 

@@ -18,7 +18,7 @@ use Rattle.cir_sources.specs.declared.fault.LoadFault.{LoadFault}
 use Rattle.cir_sources.specs.declared.fault.LoadFault.TheVariants as fault
 use Rattle.cir_sources.specs.Includes.{seen, includes_of, held, chosen}
 use Rattle.cir_sources.specs.Faults.{refusal_at, Fault, Full}
-use Rattle.cir_sources.specs.Loading.{Told}
+use Rattle.out_io.specs.Calls.{Told}
 use Rattle.cir_sources.specs.Steps.{Adds, IsBad, Refuses, all_of, AreHeld, FindsTarget, Follows, IsFollowed, Loads, IsNamed, CannotFollow, Decodes}
 use Rattle.cir_sources.proofs.Searching.{told_on}
 

@@ -15,7 +15,8 @@ use Rattle.cir_sources.specs.declared.loading.Loading.{Loading}
 use Rattle.cir_sources.specs.declared.fault.LoadFault.{LoadFault}
 use Rattle.cir_sources.specs.declared.fault.LoadFault.TheVariants as fault
 use Rattle.cir_sources.specs.Includes.{Source, seen, IsRead, includes_of, held, chosen}
-use Rattle.cir_sources.specs.Loading.{Told, Loads, AreAll, OnlyReads, IsFirstFault, IsIncludeFault}
+use Rattle.out_io.specs.Calls.{Told, OnlyReads}
+use Rattle.cir_sources.specs.Loading.{Loads, AreAll, IsFirstFault, IsIncludeFault}
 use Rattle.cir_sources.specs.Steps.{Begins, Adds, IsBad, Decodes, all_of, left_of, AreHeld, FindsTarget, Follows, IsFollowed, Skips, Loads as LoadsIt, IsNamed, CannotFollow, Leads, IsLoading}
 use Rattle.cir_sources.proofs.Searching.{told_on, held_at}
 use Rattle.cir_sources.proofs.Reaching.{leads_first, leads_skips, leads_adds, leads_all, leads_stops, leads_sources, names_held, loaded_name, fresh_name, names_more, sources_more}

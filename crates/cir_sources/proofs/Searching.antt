@@ -7,7 +7,7 @@ use Rattle.std.proofs.lemmas.Bool.{false_from_ne_true}
 use Rattle.std.proofs.lemmas.Str.{is_utf8-from_IsUtf8, IsUtf8-from_is_utf8}
 use Rattle.out_io.specs.Contents.{Contents, Finds}
 use Rattle.cir_sources.specs.Includes.{held}
-use Rattle.cir_sources.specs.Loading.{Told}
+use Rattle.out_io.specs.Calls.{Told}
 use Rattle.cir_sources.specs.declared.search.Target.TheVariants.{Found}
 use Rattle.cir_sources.specs.Steps.{Looks}
 

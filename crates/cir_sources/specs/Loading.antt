@@ -1,6 +1,7 @@
 -- What the loading of a program's sources answers.
 use Rattle.std.specs.Prelude.{◌≡◌, ℕ, ◌+◌, ◌≤◌, List, [], ◌∷◌, length, map, ⊤, ◌⊎◌, All, Option, None, Some, Result, Ok, Err, Vec}
 use Rattle.std.specs.declared.alloc.Global.{Global}
+use Rattle.out_io.specs.Calls.{Told}
 use Rattle.out_io.specs.Contents.{Contents}
 use Rattle.out_io.specs.declared.fault.IoFault.{IoFault}
 use Rattle.out_io.specs.declared.fault.IoFault.TheVariants as io
@@ -47,11 +48,6 @@ abbrev pub fault_of : IoFault → LoadFault
 fault_of io.Failed = fault.Fault
 fault_of io.OutOfMemory = fault.OutOfMemory
 
--- this holds of the contents, where the store tells them
-abbrev pub Told : Option Contents → (Contents → Type 0) → Type 0
-Told None P = ⊤
-Told (Some files) P = P files
-
 -- What the loading of the file of this name answers, over the contents where the store tells them. It fails only
 -- where the store did; want of memory is free.
 abbrev pub Loads : Option Contents → List ℕ → Option (List ℕ) → Type 0 → Result (Vec CodeSource Global) LoadFault → Type 0
@@ -66,9 +62,3 @@ pub record AreSources (all : List Source) : Type 0 where
   pub some : 1 ≤ length all
   pub few : length all ≤ MAX_FILES
   pub read : All IsRead all
-
--- the store was only read: its contents, its count of faults, and whether no call fails
-pub record OnlyReads (old new : Option Contents) (before after : ℕ) (quiet still_quiet : Type 0) : Type 0 where
-  pub same : new ≡ old
-  pub later : before ≤ after
-  pub steady : quiet → still_quiet × (after ≡ before)

@@ -27,7 +27,8 @@ use Rattle.cir_sources.specs.declared.fault.LoadFault.TheVariants as fault
 use Rattle.cir_sources.specs.Names.{is_slash}
 use Rattle.cir_sources.specs.Includes.{Source, seen, IsRead, IsSource, includes_of, other_version, held, chosen, is_among, left_after}
 use Rattle.cir_sources.specs.Faults.{refusal_at, IsFault, IsStop}
-use Rattle.cir_sources.specs.Loading.{AreSources, Told}
+use Rattle.out_io.specs.Calls.{Told}
+use Rattle.cir_sources.specs.Loading.{AreSources}
 
 -- the segments that are kept, the last one first
 abbrev pub last_first : Kept → List (List ℕ)

@@ -3,7 +3,8 @@ ghost use Rattle.std.specs.Prelude.{◌≡◌, ◌≤◌, ◌++◌, reverse, str
 ghost use Rattle.std.specs.Option.{option_copied};
 ghost use Rattle.out_io.specs.Faults.{Rose};
 ghost use Rattle.cir_sources.specs.Includes.{seen, IsRead};
-ghost use Rattle.cir_sources.specs.Loading.{Loads, AreSources, OnlyReads};
+ghost use Rattle.out_io.specs.Calls.{OnlyReads};
+ghost use Rattle.cir_sources.specs.Loading.{Loads, AreSources};
 ghost use Rattle.cir_sources.specs.Steps.{Adds, Begins, Follows, all_of};
 
 use crate::decode;

@@ -2,7 +2,7 @@
 ghost use Rattle.std.specs.Prelude.{◌≡◌, IfOk};
 ghost use Rattle.std.specs.Option.{option_copied};
 ghost use Rattle.out_io.specs.Faults.{CountsFaults};
-ghost use Rattle.cir_sources.specs.Loading.{Told};
+ghost use Rattle.out_io.specs.Calls.{Told};
 ghost use Rattle.cir_sources.specs.Steps.{Looks, FindsTarget};
 
 use crate::path::{beside, in_library};

@@ -1,7 +1,7 @@
 ghost use Rattle.std.specs.Prelude.{◌≡◌, ◌↔◌, ◌≤◌, ◌++◌, [], Some, if◌then◌else◌, IsTrue, IsErrOf, IfOk, OnOk, OnErr};
 ghost use Rattle.out_io.specs.Contents.{Finds, Changes, Replaces, ReplacesInPart};
 ghost use Rattle.out_io.specs.Faults.{CountsFaults};
-ghost use Rattle.out_io.specs.Memory.{files_of, IsDue, next_call, one_more_fault};
+ghost use Rattle.out_io.specs.Memory.{files_of, IsDue, next_call, one_more_fault, faults_after};
 ghost use Rattle.out_io.specs.Written.{IsAppended, IsAppendedInPart};
 ghost use Rattle.out_io.specs.declared.fault.IoFault.TheVariants.{Failed};
 
@@ -95,6 +95,8 @@ impl Store for MemStore {
 
         ensures failed { IsErrOf result Failed ↔ IsDue self.old.fail.items self.old.calls }
         ensures calls { self.new.calls ≡ next_call self.old.calls }
+        ensures faults { self.new.faults ≡ faults_after result self.old.faults }
+        ensures to_come { self.new.fail ≡ self.old.fail }
     {
         if count_call(&self.fail, &mut self.calls, &mut self.faults) {
             return Err(IoFault::Failed);
@@ -114,6 +116,8 @@ impl Store for MemStore {
 
         ensures failed { IsErrOf result Failed ↔ IsDue self.old.fail.items self.old.calls }
         ensures calls { self.new.calls ≡ next_call self.old.calls }
+        ensures faults { self.new.faults ≡ faults_after result self.old.faults }
+        ensures to_come { self.new.fail ≡ self.old.fail }
     {
         if count_call(&self.fail, &mut self.calls, &mut self.faults) {
             return Err(IoFault::Failed);
@@ -141,6 +145,8 @@ impl Sink for MemSink {
 
         ensures failed { IsErrOf result Failed ↔ IsDue self.old.fail.items self.old.calls }
         ensures calls { self.new.calls ≡ next_call self.old.calls }
+        ensures faults { self.new.faults ≡ faults_after result self.old.faults }
+        ensures to_come { self.new.fail ≡ self.old.fail }
     {
         if count_call(&self.fail, &mut self.calls, &mut self.faults) {
             return Err(IoFault::Failed);

@@ -1,7 +1,7 @@
 use Rattle.std.proofs.Common.{◌+◌, ◌-◌, ◌*◌, ◌^◌, vec_len, length}
 use Rattle.std.specs.Option.{option_copied}
 use Rattle.cir_sources.specs.declared.source.TheConstants.{MAX_FILES}
-use Rattle.cir_sources.specs.Loading.{OnlyReads}
+use Rattle.out_io.specs.Calls.{OnlyReads}
 use Rattle.cir_sources.specs.Steps.{IsLoading, all_of, left_of}
 use Rattle.cir_sources.proofs.loading.sources.Given as goal
 
