@@ -67,11 +67,6 @@ chain_is_flow n two three reads writes = let in-writes = λ (k c : ℕ) (h : IsI
   written_or_start = λ c lt e. let r = chain_empty c (omega arith) e in let P : List (List ℕ) → Type 0 = λ ws. IsIn c (get_or ws r.0 []) in (r.0, subst P (sym writes) r.1);
   written_no_start = λ k c h. chain_free c (elim (in-writes k c h) [ inl e ↦ inl e.1 | inr e ↦ inr e.1 ]);
   values_each = λ k xs e. let v = chain_values k xs e in let P : List (List ℕ) → Type 0 = λ ws. length (get_or ws k []) ≡ 1 in ap length v.1.2 ∙ sym (subst P (sym writes) (row_one 1 2 k v.0));
-  values_below = λ c x h. elim h [
-    | inl s ↦ (let e = (chain_start c x s).1 in omega arith)
-    | inr w ↦ (let v = chain_values w.0 w.1.values w.1.gives in let le = one_le v.1.0 w.1.place in let same-x : get_or (v.1.0 ∷ []) w.1.place 0 ≡ x = ap (λ (l : List ℕ). get_or l w.1.place 0) (sym v.1.2) ∙ w.1.value in
-        let small = v.1.1 in omega arith)
-  ];
   unreached = λ k lt. (
     (λ e. absurd (chain_reached k (omega arith) e)),
     λ lacks.
@@ -140,11 +135,6 @@ pair_is_flow n two cells reads writes = record {
   written_or_start = λ c lt e. let r = pair_written c (omega arith) in let P : List (List ℕ) → Type 0 = λ ws. IsIn c (get_or ws r.0 []) in (r.0, subst P (sym writes) r.1);
   written_no_start = λ k c h. pair_none c;
   values_each = λ k xs e. let v = pair_values k xs e in let P : List (List ℕ) → Type 0 = λ ws. length (get_or ws k []) ≡ 1 in ap length v.1.2 ∙ sym (subst P (sym writes) (row_one 0 1 k v.0));
-  values_below = λ c x h. elim h [
-    | inl s ↦ absurd (pair_start c x s)
-    | inr w ↦ (let v = pair_values w.0 w.1.values w.1.gives in let le = one_le v.1.0 w.1.place in let same-x : get_or (v.1.0 ∷ []) w.1.place 0 ≡ x = ap (λ (l : List ℕ). get_or l w.1.place 0) (sym v.1.2) ∙ w.1.value in
-        let small = v.1.1 in omega arith)
-  ];
   unreached = λ k lt. (
     (λ e. absurd (pair_reached k (omega arith) e)),
     λ lacks. let P : List (List ℕ) → Type 0 = λ rs. IsIn lacks.0 (get_or rs k []) in absurd (pair_reads k lacks.0 (subst P reads lacks.1)),

@@ -4,7 +4,7 @@ ghost use Rattle.flow_core.specs.Net.{reads_of, succs_of};
 ghost use Rattle.flow_core.specs.Flow.{Gives, Refuses, answer_of, HasValue};
 ghost use Rattle.flow_core.specs.Events.{hold};
 ghost use Rattle.engine_tests.specs.Examples.{chain, pair};
-ghost use Rattle.flow_board.specs.Seats.{first_seat};
+ghost use Rattle.flow_board.specs.Seats.{first_seat, after_step};
 
 use flow_board::{Answers, Board, Words, WorkSeat};
 use flow_core::{Graph, GraphFault};
@@ -75,7 +75,7 @@ fn read_taken<A: Answers>(board: &Board<'_, A>, seat: &mut WorkSeat, strand: u32
     requires held { seat.old.holding ≡ Some (hold strand 0 0) }
     requires reads { IsIn cell (reads_of board.now.flow.net strand) }
     ensures read { HasValue board.now.flow cell result }
-    ensures seat { seat.new ≡ seat.old }
+    ensures seat { seat.new ≡ after_step seat.old }
 {
     board.read(seat, cell)
 }

@@ -4,7 +4,7 @@ use mathlib.Core.Option.{some, none}
 use prog.Atomic.{either}
 use Rattle.std.proofs.lemmas.Bool.{eq-eqb, eqb-true}
 use Rattle.gold_field.specs.declared.gold.TheConstants.{P}
-use Rattle.atomic_table.specs.Table.{Allows, Splits, Joins, Final, Seen, step}
+use Rattle.atomic_table.specs.Table.{Allows, Splits, Joins, Final, Seen, step, keeps}
 use Rattle.atomic_table.specs.Seated.{TableId}
 use Rattle.flow_core.specs.declared.Hold.{Hold}
 use Rattle.flow_core.specs.Net.{Net, writes_of, succs_of}
@@ -15,8 +15,8 @@ use Rattle.flow_core.proofs.Nets.{writes_few, succs_few, succs_near}
 use Rattle.flow_board.specs.declared.view.View.{View}
 use Rattle.flow_board.specs.declared.rule.TheConstants.{TAKEN}
 use Rattle.flow_board.specs.Rule.{left, right, both, spent, Ruled}
-use Rattle.flow_board.specs.Plays.{Sat, Reads, CanPublish, CanRelease, CanFinish, CanRefuse, read_play, publish_play, release_play, take_play, finish_play, refuse_play, look_play}
-use Rattle.flow_board.specs.Seats.{Place, Worker, place, worker, Stands}
+use Rattle.flow_board.specs.Plays.{Sat, tries, Finds, Reads, CanPublish, CanRelease, CanFinish, CanRefuse, read_play, publish_play, release_play, take_play, finish_play, refuse_play, look_play}
+use Rattle.flow_board.specs.Seats.{Place, Worker, place, worker, Stands, after_step, after_take}
 use Rattle.flow_board.proofs.Steps.{reads_cell, looks, publishes, releases_next, finishes, refuses, takes}
 use Rattle.flow_board.specs.Closed.{Closes, closing, IsClosing}
 use Rattle.flow_board.proofs.Ends.{closed, closing_fits}
@@ -70,26 +70,26 @@ module _ (f : Flow) (net : Net) (cells strands : ℕ) (z' : TableId) (st : Stand
   take_asks k free near = let e = st.cells_are in let s = st.strands_are in let ws = st.words_are in
       let near-f : k < f.net.strands = let N : Flow → Type 0 = λ g. k < g.net.strands in subst N (sym same_flow) near in
       let A : ℕ → Type 0 = λ c. Allows (Ruled f) z'.slots id me (1 + c + k) (λ n. either (n == 0) TAKEN n) (take_play (step z'.slots (1 + c + k) 0 TAKEN (some k)) me) in
-      (same_table, omega arith, subst A (sym e) (takes f z'.slots id me k live (sym same_holding ∙ free) near-f))
+      (same_table, omega arith, subst A (sym e) (λ t r _ at small. let x = takes f z'.slots id me live k (sym same_holding ∙ free) near-f t r at small in (x.0, keeps, tt, x.1, x.3)))
 
   pub read_asks : (c : ℕ) → Reads p.flow w.holding c → (z ≡ z') × (1 + c < z'.words) × Allows (Ruled f) z'.slots id me (1 + c) (λ n. n) (read_play (step z'.slots (1 + c) 0 0 none) me)
   read_asks c reads = let h = reads_here c reads in let in-net = st.net.reads_near h.0.strand c h.2 in let ws = st.words_are in
-      (same_table, omega arith, reads_cell f z'.slots id me (1 + c) live ((omega arith), omega arith))
+      (same_table, omega arith, λ t r _ at small. let x = reads_cell f z'.slots id me live (1 + c) (omega arith) (omega arith) t r at small in (x.0, keeps, tt, x.1, x.3))
 
   pub read_gives : (c r : ℕ) (n : Sat) → Reads p.flow w.holding c → read_play (step z'.slots (1 + c) 0 0 none) me r n → (x : ℕ) × (r ≡ x + 1) × HasValue p.flow c x × (x < P)
   read_gives c r n reads told = let h = reads_here c reads in let flow-is : me.0.flow ≡ f = ap (λ (x : Place). x.flow) same_place in
       let R : Flow → Type 0 = λ g. Reads g me.0.holding c in let v = told.1 c refl (subst R (sym flow-is) h) in
-      let H : Flow → Type 0 = λ g. HasValue g c v.0 in let here = subst H flow-is v.2 in (v.0, v.1, subst H same_flow here, st.flow.values_below c v.0 here)
+      let H : Flow → Type 0 = λ g. HasValue g c v.0 in let here = subst H flow-is v.2 in (v.0, v.1, subst H same_flow here, v.3)
 
-  pub publish_asks : (c x : ℕ) (h : Hold) → held ≡ Some h → CanPublish p.flow w.holding x → c ≡ get_or (writes_of net h.strand) h.published 0
+  pub publish_asks : (c x : ℕ) (h : Hold) → held ≡ Some h → CanPublish p.flow w.holding x → x < P → c ≡ get_or (writes_of net h.strand) h.published 0
       → (z ≡ z') × (1 + c < z'.words) × Allows (Ruled f) z'.slots id me (1 + c) (λ _. x + 1) (λ _. publish_play (step z'.slots (1 + c) (x + 1) 0 none) me (x + 1))
-  publish_asks c x h is next c-is = let q = can_publish_here x next in let each = st.flow.values_each q.held.strand q.values q.gives in let left = q.left in
+  publish_asks c x h is next below c-is = let q = can_publish_here x next in let each = st.flow.values_each q.held.strand q.values q.gives in let left = q.left in
       let same-hold : h ≡ q.held = ap (λ (o : Option Hold). unwrap_or o h) (sym is ∙ sym sits.kept.0 ∙ q.holds) in
       let C : Net → Hold → Type 0 = λ g y. c ≡ get_or (writes_of g y.strand) y.published 0 in
       let N : Net → Type 0 = λ g. C g h in let H : Hold → Type 0 = λ y. C f.net y in
       let at : c ≡ get_or (writes_of f.net q.held.strand) q.held.published 0 = subst H same-hold (subst N (sym st.same_net) c-is) in
       let M : ℕ → Type 0 = λ d. d < f.net.cells in let in-net : c < f.net.cells = subst M (sym at) (st.net.writes_near q.held.strand (get_or (writes_of f.net q.held.strand) q.held.published 0) (is_in_at (writes_of f.net q.held.strand) q.held.published (omega arith))) in
-      let ws = st.words_are in (same_table, omega arith, publishes f z'.slots id me c x live q at)
+      let ws = st.words_are in (same_table, omega arith, λ t r _ here small. let y = publishes f z'.slots id me live c x q below at t r here small in (y.0, keeps, tt, y.1, y.3))
 
   pub release_asks : (j : ℕ) (h : Hold) → held ≡ Some h → CanRelease p.flow w.holding → j ≡ get_or (succs_of net h.strand) h.released 0
       → (z ≡ z') × (1 + cells + j < z'.words) × Allows (Ruled f) z'.slots id me (1 + cells + j) (λ n. (n + (2 ^ 64 - 1)) % 2 ^ 64) (release_play (step z'.slots (1 + cells + j) 1 0 none) me)
@@ -101,21 +101,21 @@ module _ (f : Flow) (net : Net) (cells strands : ℕ) (z' : TableId) (st : Stand
       let M : ℕ → Type 0 = λ d. d < f.net.strands in let in-net : j < f.net.strands = subst M (sym at) (succs_near f.net st.net q.held.strand (get_or (succs_of f.net q.held.strand) q.held.released 0) (is_in_at (succs_of f.net q.held.strand) q.held.released q.left)) in
       let e = st.cells_are in let ws = st.words_are in
       let A : ℕ → Type 0 = λ c. Allows (Ruled f) z'.slots id me (1 + c + j) (λ n. (n + (2 ^ 64 - 1)) % 2 ^ 64) (release_play (step z'.slots (1 + c + j) 1 0 none) me) in
-      (same_table, omega arith, subst A (sym e) (releases_next f z'.slots id me j live q at))
+      (same_table, omega arith, subst A (sym e) (λ t r _ here small. let x = releases_next f z'.slots id me live j q at t r here small in (x.0, keeps, tt, x.1, x.3)))
 
   first_word : 0 < z'.words
   first_word = let ws = st.words_are in omega arith
 
   pub finish_asks : CanFinish p.flow w.holding → (z ≡ z') × (0 < z'.words) × Allows (Ruled f) z'.slots id me 0 (λ n. n) (finish_play (step z'.slots 0 0 0 none) me)
-  finish_asks next = (same_table, first_word, finishes f z'.slots id me live (can_finish_here next))
+  finish_asks next = (same_table, first_word, λ t r _ at small. let x = finishes f z'.slots id me live (can_finish_here next) t r at small in (x.0, keeps, tt, x.1, x.3))
 
   pub refuse_asks : (k : ℕ) (h : Hold) → held ≡ Some h → CanRefuse p.flow w.holding → k ≡ h.strand → (z ≡ z') × (0 < z'.words) × Allows (Ruled f) z'.slots id me 0 (λ n. min n k) (refuse_play (step z'.slots 0 k 0 none) me)
   refuse_asks k h is next k-is = let q = can_refuse_here next in
       let same-hold : h ≡ q.held = ap (λ (o : Option Hold). unwrap_or o h) (sym is ∙ sym sits.kept.0 ∙ q.holds) in
-      (same_table, first_word, refuses f z'.slots id me k live q (k-is ∙ ap (λ (y : Hold). y.strand) same-hold))
+      (same_table, first_word, λ t r _ at small. let x = refuses f z'.slots id me live k q (k-is ∙ ap (λ (y : Hold). y.strand) same-hold) t r at small in (x.0, keeps, tt, x.1, x.3))
 
   pub look_asks : (z ≡ z') × (0 < z'.words) × Allows (Ruled f) z'.slots id me 0 (λ n. n) (look_play (step z'.slots 0 0 0 none) me)
-  look_asks = (same_table, first_word, looks f z'.slots id me live)
+  look_asks = (same_table, first_word, λ t r _ at small. let x = looks f z'.slots id me live t r at small in (x.0, keeps, tt, x.1, x.3))
 
   pub split_asks : w.holding ≡ None → 2 ≤ w.share → (z ≡ z') × (0 < z'.words) × Splits (Ruled f) id me.0 (left me.0) (right me.0)
   split_asks free many = let e : w.share ≡ me.0.share = ap (λ (x : Worker). x.share) (sym sits.seat_is) in (same_table, first_word, splits f id me.0 (sym same_holding ∙ free) (omega arith))
@@ -127,14 +127,14 @@ module _ (f : Flow) (net : Net) (cells strands : ℕ) (z' : TableId) (st : Stand
   pub took_says : (r : ℕ) (b : Bool) (n : Sat) (u : View) → b ≡ (r == 0) → n ≡ (u, me.1) → u.took ≡ r → IsTrue b ↔ (n.0.took ≡ 0)
   took_says r b n u b-is e t = let tk : n.0.took ≡ r = ap (λ (m : Sat). m.0.took) e ∙ t in ((λ q. tk ∙ eqb-true r 0 (sym b-is ∙ q)), λ q. b-is ∙ eq-eqb r 0 (sym tk ∙ q))
 
-  pub take_leaves : (y : TableId) (n : Sat) (r k : ℕ) (b : Bool) → y ≡ z → n ≡ (record me.0 { holding = cond (r == 0) (Some (hold k 0 0)) me.0.holding; tried = k; took = r }, me.1) → b ≡ (r == 0) → w.holding ≡ None
-      → worker y n.0 ≡ record w { holding = cond b (Some (hold k 0 0)) None; tried = k; took = n.0.took }
+  pub take_leaves : (y : TableId) (n : Sat) (r k : ℕ) (b : Bool) → y ≡ z → n ≡ (tries me.0 k r, me.1) → b ≡ (r == 0) → w.holding ≡ None
+      → worker y n.0 ≡ after_take w k b n.0.took
   take_leaves y n r k b e told b-is free =
       let h : cond (r == 0) (Some (hold k 0 0)) me.0.holding ≡ cond b (Some (hold k 0 0)) None = λ i. cond (sym b-is i) (Some (hold k 0 0)) ((sym same_holding ∙ free) i) in
       let t : r ≡ n.0.took = ap (λ (m : Sat). m.0.took) (sym told) in
-      seat_after y n (record me.0 { holding = cond (r == 0) (Some (hold k 0 0)) me.0.holding; tried = k; took = r }) e told
-      ∙ (λ i. record (worker z me.0) { holding = h i; tried = k; took = t i })
-      ∙ ap (λ (x : Worker). record x { holding = cond b (Some (hold k 0 0)) None; tried = k; took = n.0.took }) sits.seat_is
+      seat_after y n (tries me.0 k r) e told
+      ∙ (λ i. record (after_step (worker z me.0)) { holding = h i; tried = k; took = t i })
+      ∙ ap (λ (x : Worker). after_take x k b n.0.took) sits.seat_is
 
   pub publish_small : (x : ℕ) (h : Hold) → held ≡ Some h → CanPublish p.flow w.holding x → h.published + 1 < 4294967296
   publish_small x h is next = let q = can_publish_here x next in let each = st.flow.values_each q.held.strand q.values q.gives in let left = q.left in
@@ -165,6 +165,6 @@ module _ (f : Flow) (net : Net) (cells strands : ℕ) (z' : TableId) (st : Stand
       subst C (sym e) (subst W sits.seat_is (subst F same_flow (closes_here ws xs free whole h)))
 
   pub closing_is : (ws xs vs : List ℕ) → w.holding ≡ None → w.share ≡ 65 → Final (Seen (Ruled f) id me.0) ws xs → vs ≡ ws → IsClosing (closing cells strands vs)
-  closing_is ws xs vs free whole h e = let fits = closing_fits f me.0.done me.0.refused ws st.flow st.narrow (closes_here ws xs free whole h) in
+  closing_is ws xs vs free whole h e = let fits = closing_fits f me.0.done me.0.refused ws (closes_here ws xs free whole h) in
       let C : ℕ → Type 0 = λ n. IsClosing (closing n strands vs) in let K : ℕ → Type 0 = λ n. IsClosing (closing f.net.cells n vs) in let W : List ℕ → Type 0 = λ us. IsClosing (closing f.net.cells f.net.strands us) in
       subst C (sym st.cells_are) (subst K (sym st.strands_are) (subst W (sym e) fits))

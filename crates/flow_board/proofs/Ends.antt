@@ -15,7 +15,7 @@ use Rattle.flow_core.specs.Events.{hold, opening}
 use Rattle.flow_core.proofs.Keeps.{opens, waits_at_first}
 use Rattle.flow_board.specs.declared.view.View.{View}
 use Rattle.flow_board.specs.Shows.{cell_word, Shows}
-use Rattle.flow_board.specs.Rule.{first, spent, done_mark, refused_mark, SeatFits, Ruled}
+use Rattle.flow_board.specs.Rule.{first, spent, done_mark, refused_mark, HasNumbers, SeatFits, Ruled}
 use Rattle.flow_board.specs.Closed.{Closes, closing, IsClosing}
 use Rattle.flow_board.proofs.Views.{terms_le}
 use Rattle.flow_board.proofs.Moved.{Board}
@@ -25,13 +25,14 @@ only_one : {A : Type 0} (x y : A) (j : ℕ) → get_elem? (x ∷ []) j ≡ some 
 only_one x y zero e = (refl, some-injective x y e)
 only_one x y (suc j) e = absurd (some-ne-none y (sym e))
 
-pub begins : (f : Flow) (ws : List ℕ) → f.net.strands < 2 ^ 32 → IsNet f.net → IsFlow f → Shows f (opening f) ws → Ruled f (table.opening ws [] (first f))
-begins f ws narrow ok flow shows = let s : State = opening f in let waits = waits_at_first f in record {
+pub begins : (f : Flow) (ws : List ℕ) → f.net.strands < 2 ^ 32 → IsNet f.net → IsFlow f → HasNumbers f.start → Shows f (opening f) ws → Ruled f (table.opening ws [] (first f))
+begins f ws narrow ok flow numbers shows = let s : State = opening f in let waits = waits_at_first f in record {
   core = s;
   narrow = narrow;
   net = ok;
   flow = flow;
   kept = opens f ok flow;
+  numbers = numbers;
   shows = shows;
   seats = λ j v e. let x = only_one (first f) v j e in let P : View → Type 0 = SeatFits f s j in subst P x.1 record {
     joined = λ z. absurd (omega arith);
@@ -62,7 +63,11 @@ module _ (f : Flow) (t : Board) (r : Ruled f t) (id : ℕ) (v : View) (at : get_
   pub closes : Closes f v.done v.refused t.words
   closes = record {
     core = r.core;
+    narrow = r.narrow;
+    net = r.net;
+    flow = r.flow;
     kept = r.kept;
+    numbers = r.numbers;
     shows = r.shows;
     none_held = λ k j a b e. let x = r.holder k j a b e in elim (cases_eq j id) [
       | inl same-j ↦ (let Q : ℕ → Type 0 = λ i. get_elem? t.views i ≡ some x.0 in let same-view : x.0 ≡ v = some-injective _ _ (sym (subst Q same-j x.1) ∙ at) in
@@ -80,10 +85,10 @@ word_below : (o : Option ℕ) (p : ℕ) → ((x : ℕ) → o ≡ Some x → x < 
 word_below None p h = omega arith
 word_below (Some x) p h = let l = h x refl in omega arith
 
-pub closing_fits : (f : Flow) (done refused ws : List ℕ) → IsFlow f → f.net.strands < 4294967296 → Closes f done refused ws → IsClosing (closing f.net.cells f.net.strands ws)
-closing_fits f done refused ws flow narrow c = record {
+pub closing_fits : (f : Flow) (done refused ws : List ℕ) → Closes f done refused ws → IsClosing (closing f.net.cells f.net.strands ws)
+closing_fits f done refused ws c = record {
   wide = c.shows.wide;
-  cells_below = λ d lt. let is = c.shows.cell_is d lt in let b = word_below (cell_of c.core d) P (λ x e. flow.values_below d x (c.kept.holds_values.values d x e)) in omega arith;
+  cells_below = λ d lt. let is = c.shows.cell_is d lt in let b = word_below (cell_of c.core d) P (c.numbers d) in omega arith;
   least_below = let is = c.shows.least_is in let told = (least_told f c.core c.kept c.core.least refl).0 in omega arith;
-  narrow = narrow;
+  narrow = c.narrow;
 }

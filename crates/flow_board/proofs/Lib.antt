@@ -9,3 +9,4 @@ pub mod Calls
 pub mod Openings
 pub mod Makes
 pub mod Who
+pub mod Last

@@ -9,7 +9,7 @@ use Rattle.flow_core.specs.Net.{Net, IsNet}
 use Rattle.flow_core.specs.Flow.{Flow, IsFlow}
 use Rattle.flow_core.specs.Events.{opening}
 use Rattle.flow_board.specs.Shows.{Shows}
-use Rattle.flow_board.specs.Rule.{first, Ruled}
+use Rattle.flow_board.specs.Rule.{first, HasNumbers, Ruled}
 use Rattle.flow_board.specs.Seats.{Stands}
 use Rattle.flow_board.proofs.Views.{place_within}
 use Rattle.flow_board.proofs.Ends.{begins}
@@ -22,8 +22,8 @@ elem_read (y ∷ xs) (suc i) x e = elem_read xs i x e
 pub copied_more : (xs : List ℕ) (i x : ℕ) → get_elem? xs i ≡ some x → take (i + 1) xs ≡ take i xs ++ x ∷ []
 copied_more xs i x e = take_more xs i 0 (place_within xs i x e) ∙ ap (λ (y : ℕ). take i xs ++ y ∷ []) (elem_read xs i x e)
 
-pub opens_board : (f : Flow) (n : Net) (ws : List ℕ) → f.net ≡ n → IsNet n → IsFlow f → n.strands < 4294967296 → Shows f (opening f) ws → Ruled f (table.opening ws [] (first f))
-opens_board f n ws same ok flow small shows = let N : Net → Type 0 = λ m. m.strands < 2 ^ 32 in begins f ws (subst N (sym same) small) (subst IsNet (sym same) ok) flow shows
+pub opens_board : (f : Flow) (n : Net) (ws : List ℕ) → f.net ≡ n → IsNet n → IsFlow f → n.strands < 4294967296 → HasNumbers f.start → Shows f (opening f) ws → Ruled f (table.opening ws [] (first f))
+opens_board f n ws same ok flow small numbers shows = let N : Net → Type 0 = λ m. m.strands < 2 ^ 32 in begins f ws (subst N (sym same) small) (subst IsNet (sym same) ok) flow numbers shows
 
 pub stands : (f : Flow) (n : Net) (cells strands : ℕ) (z : TableId) (ws : List ℕ) → f.net ≡ n → IsNet n → IsFlow f → cells ≡ n.cells → strands ≡ n.strands → cells < 4294967296 → strands < 4294967296
     → Shows f (opening f) ws → z.words ≡ length ws → z.slots ≡ 0 → Stands f n cells strands z

@@ -1,5 +1,5 @@
 -- One step of one seat keeps the rule
-use Rattle.std.proofs.Common.{◌≡◌, ◌≢◌, ℕ, ◌+◌, ◌<◌, ◌≤◌, List, length, get_or, set, sym, ◌∙◌, ap, subst, inl, inr, ◌⊎◌, ⊎_elim, arith, Option, Some, get_or-set_same}
+use Rattle.std.proofs.Common.{◌≡◌, ◌≢◌, ℕ, ◌+◌, ◌<◌, ◌≤◌, List, length, get_or, set, refl, sym, ◌∙◌, ap, subst, inl, inr, ◌⊎◌, ⊎_elim, arith, Option, Some, get_or-set_same}
 use mathlib.Core.Option.{some, some-injective}
 use lib.ListN.{get_elem?}
 use Rattle.std.proofs.lemmas.Bool.{cases_eq}
@@ -17,7 +17,8 @@ use Rattle.flow_core.specs.Events.{hold}
 use Rattle.flow_core.proofs.Lists.{set_all}
 use Rattle.flow_board.specs.declared.view.View.{View}
 use Rattle.flow_board.specs.Shows.{least_word, Shows}
-use Rattle.flow_board.specs.Rule.{done_mark, refused_mark, SeatFits, Ruled}
+use Rattle.flow_board.specs.Rule.{done_mark, refused_mark, HasNumbers, SeatFits, Ruled}
+use Rattle.flow_board.specs.Events.{Shown}
 use Rattle.flow_board.proofs.Views.{place_within, total-set}
 
 abbrev pub Board : Type 0
@@ -27,19 +28,20 @@ abbrev pub state : List (Option ℕ) → List ℕ → List Phase → Option ℕ 
 state cs ms ps l = record { cells = cs; missing = ms; phase = ps; least = l }
 
 module _ (f : Flow) (t : Board) (r : Ruled f t) (id : ℕ) (v : View) (at : get_elem? t.views id ≡ some v) where
-  pub moved : (w : View) (s : State) (ws : List ℕ) → IsKept f s → Shows f s ws → SeatFits f s id w → least_word f s.least ≤ least_word f r.core.least
+  pub moved : (w : View) (s : State) (ws : List ℕ) → IsKept f s → HasNumbers s.cells → Shows f s ws → SeatFits f s id w → least_word f s.least ≤ least_word f r.core.least
       → ((k j a b : ℕ) → j ≢ id → phase_of r.core k ≡ Held j a b → phase_of s k ≡ Held j a b)
       → ((k j a b : ℕ) → phase_of s k ≡ Held j a b → ((j ≡ id) × (w.holding ≡ Some (hold k a b))) ⊎ ((j ≢ id) × (phase_of r.core k ≡ Held j a b)))
       → ((k : ℕ) → times k w.done + done_mark (phase_of r.core k) ≡ times k v.done + done_mark (phase_of s k))
       → ((k : ℕ) → times k w.refused + refused_mark (phase_of r.core k) ≡ times k v.refused + refused_mark (phase_of s k))
       → w.share ≡ v.share
-      → Ruled f record { words = ws; homes = t.homes; views = set t.views id w }
-  moved w s ws kept shows fits less others back done stopped share = record {
+      → Shown f record { words = ws; homes = t.homes; views = set t.views id w } s
+  moved w s ws kept numbers shows fits less others back done stopped share = let next : Ruled f record { words = ws; homes = t.homes; views = set t.views id w } = record {
     core = s;
     narrow = r.narrow;
     net = r.net;
     flow = r.flow;
     kept = kept;
+    numbers = numbers;
     shows = shows;
     seats = λ j u e. ⊎_elim
         (λ x. let P : View → Type 0 = SeatFits f s j in let Q : ℕ → Type 0 = λ i. SeatFits f s i w in subst P x.1 (subst Q (sym x.0) fits))
@@ -55,12 +57,12 @@ module _ (f : Flow) (t : Board) (r : Ruled f t) (id : ℕ) (v : View) (at : get_
     done_is = λ k. let m = total-set (λ (u : View). times k u.done) t.views id v w at in let d = done k in let o = r.done_is k in omega arith;
     refused_is = λ k. let m = total-set (λ (u : View). times k u.refused) t.views id v w at in let d = stopped k in let o = r.refused_is k in omega arith;
     shares = let m = total-set (λ (u : View). u.share) t.views id v w at in let o = r.shares in omega arith;
-  }
+  } in (next, refl)
 
   -- the strand k, which no other seat holds, goes to the phase p
   pub moves : (k : ℕ) (p : Phase) (w : View) (cs : List (Option ℕ)) (ms : List ℕ) (l : Option ℕ) (ws : List ℕ)
       → let s : State = state cs ms (set r.core.phase k p) l in
-      k < length r.core.phase → IsKept f s → Shows f s ws → least_word f l ≤ least_word f r.core.least
+      k < length r.core.phase → IsKept f s → HasNumbers cs → Shows f s ws → least_word f l ≤ least_word f r.core.least
       → ((j a b : ℕ) → j ≢ id → phase_of r.core k ≢ Held j a b)
       → ((h : Hold) → v.holding ≡ Some h → h.strand ≡ k)
       → ((j a b : ℕ) → p ≡ Held j a b → (j ≡ id) × (w.holding ≡ Some (hold k a b)))
@@ -68,10 +70,10 @@ module _ (f : Flow) (t : Board) (r : Ruled f t) (id : ℕ) (v : View) (at : get_
       → ((i : ℕ) → i ≢ k → times i w.done ≡ times i v.done) → times k w.done + done_mark (phase_of r.core k) ≡ times k v.done + done_mark p
       → ((i : ℕ) → i ≢ k → times i w.refused ≡ times i v.refused) → times k w.refused + refused_mark (phase_of r.core k) ≡ times k v.refused + refused_mark p
       → w.share ≡ v.share → 0 < v.share → w.flow ≡ f → least_word f l ≤ w.seen
-      → Ruled f record { words = ws; homes = t.homes; views = set t.views id w }
-  moves k p w cs ms l ws near kept shows less mine only-k new-held new-holding done-else done-k refused-else refused-k share live flow seen = let s : State = state cs ms (set r.core.phase k p) l in
+      → Shown f record { words = ws; homes = t.homes; views = set t.views id w } s
+  moves k p w cs ms l ws near kept numbers shows less mine only-k new-held new-holding done-else done-k refused-else refused-k share live flow seen = let s : State = state cs ms (set r.core.phase k p) l in
       let all = set_all r.core.phase k p Waiting in
-      moved w s ws kept shows
+      moved w s ws kept numbers shows
       record {
         joined = λ e. absurd (omega arith);
         same_flow = λ _. flow;
@@ -94,9 +96,9 @@ module _ (f : Flow) (t : Board) (r : Ruled f t) (id : ℕ) (v : View) (at : get_
 
   -- what the seat has seen changes, and nothing else
   pub notes : (w : View) → w.holding ≡ v.holding → w.done ≡ v.done → w.refused ≡ v.refused → w.share ≡ v.share → 0 < v.share → w.flow ≡ f → least_word f r.core.least ≤ w.seen
-      → Ruled f record { words = t.words; homes = t.homes; views = set t.views id w }
+      → Shown f record { words = t.words; homes = t.homes; views = set t.views id w } r.core
   notes w holding done refused share live flow seen = let o = r.seats id v at in
-      moved w r.core t.words r.kept r.shows
+      moved w r.core t.words r.kept r.numbers r.shows
       record { joined = λ e. absurd (omega arith); same_flow = λ _. flow; held = λ h e. o.held h (sym holding ∙ e); seen = λ _. seen }
       (omega arith)
       (λ k j a b _ e. e)
@@ -109,9 +111,3 @@ module _ (f : Flow) (t : Board) (r : Ruled f t) (id : ℕ) (v : View) (at : get_
       (λ k. let e : times k w.done ≡ times k v.done = ap (times k) done in omega arith)
       (λ k. let e : times k w.refused ≡ times k v.refused = ap (times k) refused in omega arith)
       share
-
-  -- a load that changes no view
-  pub unmoved : (i : ℕ) → Ruled f record { words = set t.words i (get_or t.words i 0); homes = t.homes; views = set t.views id v }
-  unmoved i = let P : List ℕ → Type 0 = λ ws. Ruled f record { words = ws; homes = t.homes; views = set t.views id v } in
-      let Q : List View → Type 0 = λ vs. Ruled f record { words = t.words; homes = t.homes; views = vs } in
-      subst P (sym (set-get_or t.words i 0)) (subst Q (sym (set_again t.views id v at)) r)

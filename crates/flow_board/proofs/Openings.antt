@@ -5,7 +5,9 @@ use Rattle.std.proofs.lemmas.Bool.{cases_eq, cases_lt}
 use Rattle.std.proofs.lemmas.List.{get_or_past}
 use Rattle.std.proofs.lemmas.Option.{slice_get_within, slice_get_read}
 use Rattle.flow_core.specs.Flow.{Flow, IsFlow, start_of}
+use Rattle.gold_field.specs.declared.gold.TheConstants.{P}
 use Rattle.flow_board.specs.Shows.{cell_word}
+use Rattle.flow_board.specs.Rule.{HasNumbers}
 use Rattle.flow_board.specs.Seats.{ListsStarts}
 
 some_same : (x y : ℕ) → Some x ≡ Some y → x ≡ y
@@ -54,3 +56,21 @@ all_written f starts h ws n c all each written = elim (cases_start (start_of f c
   | inl no-start ↦ elim each [ inl z ↦ z ∙ ap cell_word (sym no-start) | inr z ↦ z ]
   | inr s ↦ (let at = h.all c s.0 s.1 in let near = slice_get_within starts at.0 (c, s.0) at.1 in written at.0 c s.0 (omega arith) at.1 ∙ ap cell_word (sym s.1))
 ]
+
+-- the start values that are written so far are numbers of the field
+pub numbers_next : (starts : List (ℕ × ℕ)) (n : ℕ) (p : ℕ × ℕ) → n < length starts → p ≡ get_or starts n p → p.1 < P
+    → ((i c x : ℕ) → i < n → slice_get starts i ≡ Some (c, x) → x < P)
+    → (i c x : ℕ) → i < n + 1 → slice_get starts i ≡ Some (c, x) → x < P
+numbers_next starts n p in-list is below before i c x less at = elim (cases_eq i n) [
+  | inl e ↦ (
+      let Q : ℕ → Type 0 = λ i. slice_get starts i ≡ Some (c, x) in
+      let same-pair = pair_same p (c, x) (sym (slice_get_read starts (length starts) n p refl in-list is) ∙ subst Q e at) in
+      let same-x : p.1 ≡ x = ap (λ (y : ℕ × ℕ). y.1) same-pair in omega arith)
+  | inr ne ↦ before i c x (omega arith) at
+]
+
+pub all_numbers : (f : Flow) (starts : List (ℕ × ℕ)) → ListsStarts f starts → (n : ℕ) → length starts ≤ n
+    → ((i c x : ℕ) → i < n → slice_get starts i ≡ Some (c, x) → x < P) → HasNumbers f.start
+all_numbers f starts h n all below c x e =
+    let at = h.all c x e in
+    let near = slice_get_within starts at.0 (c, x) at.1 in below at.0 c x (omega arith) at.1

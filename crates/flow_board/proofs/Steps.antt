@@ -1,5 +1,5 @@
 -- Each kind of step on a word is allowed: it keeps the rule, and tells what its caller is promised
-use Rattle.std.proofs.Common.{◌≡◌, ◌≢◌, ℕ, zero, suc, ◌+◌, ◌-◌, ◌%◌, ◌^◌, ◌<◌, ◌≤◌, min, true, cond, ◌==◌, List, ◌∷◌, length, take, get_or, set, refl, sym, ◌∙◌, ap, subst, inl, inr, ◌⊎◌, arith, Option, Some, None, unwrap_or, is_some, MatchOption}
+use Rattle.std.proofs.Common.{◌≡◌, ◌≢◌, ℕ, zero, suc, ◌+◌, ◌-◌, ◌%◌, ◌^◌, ◌<◌, ◌≤◌, min, Bool, true, cond, ◌==◌, List, ◌∷◌, length, take, get_or, set, refl, sym, ◌∙◌, ap, subst, inl, inr, ◌⊎◌, arith, Option, Some, None, unwrap_or, is_some, MatchOption}
 use mathlib.Core.Option.{some, some-injective, none}
 use prog.Atomic.{either}
 use lib.ListN.{get_elem?}
@@ -7,8 +7,11 @@ use Rattle.std.specs.Option.{option_map_or}
 use Rattle.std.proofs.lemmas.Bool.{cases_lt, eq-eqb, ne_eqb, lt-ltb}
 use Rattle.std.proofs.lemmas.List.{set-get_or, get_or_past}
 use Rattle.atomic_table.specs.Table as table
-use Rattle.atomic_table.specs.Table.{Allows, Step, step, Act, keeps, stepped}
+use Rattle.atomic_table.specs.Table.{step, keeps, stepped}
 use Rattle.atomic_table.proofs.Lists.{exchanged}
+use Rattle.gold_field.specs.declared.gold.TheConstants.{P}
+use Rattle.flow_core.specs.declared.Event.{Event}
+use Rattle.flow_core.specs.declared.Event.TheVariants.{Take, Publish, Release, Finish, Refuse}
 use Rattle.flow_core.specs.declared.Phase.{Phase}
 use Rattle.flow_core.specs.declared.Phase.TheVariants.{Waiting, Held, Done, Refused}
 use Rattle.flow_core.specs.declared.State.{State}
@@ -20,14 +23,16 @@ use Rattle.flow_core.specs.Core.{cell_of, missing_of, phase_of, published_at, re
 use Rattle.flow_core.specs.Events.{hold}
 use Rattle.flow_core.proofs.Totals.{same_yes, same_no, total_full, is_in_at, place_of}
 use Rattle.flow_core.proofs.Steady.{steady, Next, next_waits, release_le}
+use Rattle.flow_core.proofs.Lists.{set_all}
 use Rattle.flow_board.specs.declared.view.View.{View}
 use Rattle.flow_board.specs.declared.rule.TheConstants.{TAKEN}
 use Rattle.flow_board.specs.Shows.{cell_at, counter_at, least_word, cell_word, counter_word, Shows}
-use Rattle.flow_board.specs.Rule.{done_mark, refused_mark, Ruled}
-use Rattle.flow_board.specs.Plays.{Sat, Reads, CanPublish, CanRelease, CanFinish, CanRefuse, one_published, one_released, with_held, read_play, publish_play, release_play, take_play, finish_play, refuse_play, look_play}
-use Rattle.flow_board.proofs.Kept.{take_kept, publish_kept, release_kept, finish_kept, refuse_kept, no_successor}
+use Rattle.flow_board.specs.Rule.{done_mark, refused_mark, HasNumbers, Ruled}
+use Rattle.flow_board.specs.Events.{Becomes, Shown, Evolves, WordSteps, taking}
+use Rattle.flow_board.specs.Plays.{Sat, one_more, tries, finishes_seeing, refuses_seeing, Reads, CanPublish, CanRelease, CanFinish, CanRefuse, one_published, one_released, with_held, read_play, publish_play, release_play, take_play, finish_play, refuse_play, look_play}
+use Rattle.flow_board.proofs.Kept.{Makes, take_made, publish_made, release_made, finish_made, refuse_made, no_successor}
 use Rattle.flow_board.proofs.Showing.{counter_free, lesser, shows_cell, shows_release, shows_take, shows_turn, shows_least}
-use Rattle.flow_board.proofs.Moved.{Board, state, moves, notes, unmoved}
+use Rattle.flow_board.proofs.Moved.{Board, state, moves, notes}
 
 some_inj : (x y : Hold) → Some x ≡ Some y → x ≡ y
 some_inj x y e = ap (λ (o : Option Hold). unwrap_or o x) e
@@ -85,207 +90,348 @@ least_told f s h (Some l) e =
     let is : phase_of s l ≡ Refused = (subst P e h.sound.least_refused).0 in
     ((let near = strand_near f s h l (λ w. cc) in omega arith), λ _. h.answers_kept.refused_refuses l is)
 
-module _ (f : Flow) (slots id : ℕ) (m : Sat) where
-  -- the view's flow is the rule's
-  flow_is : (t : Board) (r : Ruled f t) → get_elem? t.views id ≡ some m.0 → 0 < m.0.share → m.0.flow ≡ f
-  flow_is t r at live = (r.seats id m.0 at).same_flow live
+module _ (f : Flow) (slots id : ℕ) (m : Sat) (live : 0 < m.0.share) where
+  flow_is : (t : Board) (r : Ruled f t) → get_elem? t.views id ≡ some m.0 → m.0.flow ≡ f
+  flow_is t r at = (r.seats id m.0 at).same_flow live
 
   not_waiting : (s : State) (k a b : ℕ) → phase_of s k ≡ Held id a b → phase_of s k ≢ Waiting
   not_waiting s k a b is = λ e. cc
 
-  pub reads_cell : (i : ℕ) → 0 < m.0.share → (0 < i) × (i < 1 + f.net.cells) → Allows (Ruled f) slots id m i (λ n. n) (read_play (step slots i 0 0 none) m)
-  reads_cell i live near t r wide at _ = let same-flow = flow_is t r at live in let o = r.seats id m.0 at in (
-    m.0,
-    keeps,
-    tt,
-    unmoved f t r id m.0 at i,
-    (
-      refl,
-      λ c place reads.
-          let R : Flow → Type 0 = λ g. Reads g m.0.holding c in let rd = subst R same-flow reads in
-          let v = read_value f r.net r.flow r.core r.kept rd.0.strand c (not_waiting r.core rd.0.strand rd.0.published rd.0.released (o.held rd.0 rd.1)) rd.2 in
-          let H : Flow → Type 0 = λ g. HasValue g c v.0 in
-          let word : get_or t.words (cell_at c) 0 ≡ v.0 + 1 = r.shows.cell_is c (r.net.reads_near rd.0.strand c rd.2) ∙ ap cell_word v.1 in
-          (v.0, ap (λ (j : ℕ). get_or t.words j 0) place ∙ word, subst H (sym same-flow) v.2),
-    ),
-  )
+  -- a step that changes neither a word nor what the seat has and holds
+  stays : (t : Board) (r : Ruled f t) → get_elem? t.views id ≡ some m.0 → (i : ℕ) (w : View)
+      → w.holding ≡ m.0.holding → w.done ≡ m.0.done → w.refused ≡ m.0.refused → w.share ≡ m.0.share
+      → w.flow ≡ m.0.flow → least_word f r.core.least ≤ w.seen
+      → Shown f (stepped t i (get_or t.words i 0) id m.1 w keeps) r.core
+  stays t r at i w holding done refused share flow seen =
+      let P : List ℕ → Type 0 =
+      λ ws. Shown f record { words = ws; homes = t.homes; views = set t.views id w } r.core in
+      subst P (sym (set-get_or t.words i 0))
+      (notes f t r id m.0 at w holding done refused share live (flow ∙ flow_is t r at) seen)
 
-  pub looks : 0 < m.0.share → Allows (Ruled f) slots id m 0 (λ n. n) (look_play (step slots 0 0 0 none) m)
-  looks live t r wide at _ = let same-flow = flow_is t r at live in let o = r.seats id m.0 at in
-      let found : ℕ = get_or t.words 0 0 in let is : found ≡ least_word f r.core.least = r.shows.least_is in
-      let w : View = record m.0 { seen = found } in
+  pub reads_cell : (i : ℕ) → 0 < i → i < 1 + f.net.cells
+      → Evolves f id m i (λ n. n) (λ _. None) (read_play (step slots i 0 0 none) m)
+  reads_cell i first-in near t r at _ =
+      let same-flow = flow_is t r at in
+      let o = r.seats id m.0 at in
+      let w : View = one_more m.0 in
+      let next = stays t r at i w refl refl refl refl refl (o.seen live) in (
+        w,
+        next.0,
+        next.1,
+        (
+          refl,
+          λ c place reads.
+              let R : Flow → Type 0 = λ g. Reads g m.0.holding c in
+              let rd = subst R same-flow reads in
+              let k : ℕ = rd.0.strand in
+              let begun = not_waiting r.core k rd.0.published rd.0.released (o.held rd.0 rd.1) in
+              let v = read_value f r.net r.flow r.core r.kept k c begun rd.2 in
+              let H : Flow → Type 0 = λ g. HasValue g c v.0 in
+              let word : get_or t.words (cell_at c) 0 ≡ v.0 + 1 =
+              r.shows.cell_is c (r.net.reads_near k c rd.2) ∙ ap cell_word v.1 in
+              let found = ap (λ (j : ℕ). get_or t.words j 0) place ∙ word in
+              (v.0, found, subst H (sym same-flow) v.2, r.numbers c v.0 v.1),
+        ),
+      )
+
+  pub looks : Evolves f id m 0 (λ n. n) (λ _. None) (look_play (step slots 0 0 0 none) m)
+  looks t r at _ =
+      let same-flow = flow_is t r at in
+      let o = r.seats id m.0 at in
+      let found : ℕ = get_or t.words 0 0 in
+      let is : found ≡ least_word f r.core.least = r.shows.least_is in
+      let w : View = record (one_more m.0) { seen = found } in
       let told = least_told f r.core r.kept r.core.least refl in
-      let S : Flow → Type 0 = λ g. (found ≤ g.net.strands) × (found < g.net.strands → answer_of g found ≡ Refuses) in
-      let W : ℕ → Type 0 = λ x. (x ≤ f.net.strands) × (x < f.net.strands → answer_of f x ≡ Refuses) in
+      let S : Flow → Type 0 =
+      λ g. (found ≤ g.net.strands) × (found < g.net.strands → answer_of g found ≡ Refuses) in
+      let W : ℕ → Type 0 =
+      λ x. (x ≤ f.net.strands) × (x < f.net.strands → answer_of f x ≡ Refuses) in
       let says = subst S (sym same-flow) (subst W (sym is) told) in
-      let ruled = notes f t r id m.0 at w refl refl refl refl live same-flow (omega arith) in
-      let P : List ℕ → Type 0 = λ ws. Ruled f record { words = ws; homes = t.homes; views = set t.views id w } in
-      (w, keeps, tt, subst P (sym (set-get_or t.words 0 0)) ruled, (refl, (let s = o.seen live in omega arith), says.0, says.1))
+      let next = stays t r at 0 w refl refl refl refl refl (omega arith) in
+      (w, next.0, next.1, (refl, (let s = o.seen live in omega arith), says.0, says.1))
 
-  held_parts : (w a b j x y k : ℕ) → Held w a b ≡ Held j x y → (j ≡ w) × (Some (hold k a b) ≡ Some (hold k x y))
-  held_parts w a b j x y k e = let a-is : a ≡ x = cc in let b-is : b ≡ y = cc in ((cc), λ i. Some (hold k (a-is i) (b-is i)))
+  held_parts : (w a b j x y k : ℕ) → Held w a b ≡ Held j x y
+      → (j ≡ w) × (Some (hold k a b) ≡ Some (hold k x y))
+  held_parts w a b j x y k e =
+      let a-is : a ≡ x = cc in let b-is : b ≡ y = cc in ((cc), λ i. Some (hold k (a-is i) (b-is i)))
 
-  not_others : (s : State) (k a b : ℕ) → phase_of s k ≡ Held id a b → (j x y : ℕ) → j ≢ id → phase_of s k ≢ Held j x y
+  not_others : (s : State) (k a b : ℕ) → phase_of s k ≡ Held id a b
+      → (j x y : ℕ) → j ≢ id → phase_of s k ≢ Held j x y
   not_others s k a b is j x y ne = λ e. let j-is : j ≡ id = cc in ne j-is
 
-  same_hold : (x y : Hold) → Some x ≡ Some y → (y.strand ≡ x.strand) × (Held id x.published x.released ≡ Held id y.published y.released)
-  same_hold x y e = let is = some_inj x y e in (ap (λ (h : Hold). h.strand) (sym is), λ i. Held id (is i).published (is i).released)
+  same_hold : (x y : Hold) → Some x ≡ Some y
+      → (y.strand ≡ x.strand) × (Held id x.published x.released ≡ Held id y.published y.released)
+  same_hold x y e =
+      let is = some_inj x y e in
+      (ap (λ (h : Hold). h.strand) (sym is), λ i. Held id (is i).published (is i).released)
 
   -- a seat goes on with its strand
-  holds_on : (t : Board) (r : Ruled f t) → get_elem? t.views id ≡ some m.0 → 0 < m.0.share → (k a b a' b' n : ℕ) → m.0.holding ≡ Some (hold k a b) → (cs : List (Option ℕ)) (ms ws : List ℕ)
-      → k < length r.core.phase → IsKept f (state cs ms (set r.core.phase k (Held id a' b')) r.core.least) → Shows f (state cs ms (set r.core.phase k (Held id a' b')) r.core.least) ws
-      → Ruled f record { words = ws; homes = t.homes; views = set t.views id (record m.0 { holding = Some (hold k a' b'); told = n }) }
-  holds_on t r at live k a b a' b' n holds cs ms ws near kept shows = let o = r.seats id m.0 at in let is = o.held (hold k a b) holds in
-      let mark : done_mark (phase_of r.core k) ≡ 0 = ap done_mark is in let mark' : refused_mark (phase_of r.core k) ≡ 0 = ap refused_mark is in
-      moves f t r id m.0 at k (Held id a' b') (record m.0 { holding = Some (hold k a' b'); told = n }) cs ms r.core.least ws near kept shows (omega arith)
+  holds_on : (t : Board) (r : Ruled f t) → get_elem? t.views id ≡ some m.0
+      → (k a b a' b' n : ℕ) → m.0.holding ≡ Some (hold k a b)
+      → (cs : List (Option ℕ)) (ms ws : List ℕ)
+      → let s : State = state cs ms (set r.core.phase k (Held id a' b')) r.core.least in
+      let w : View = record (one_more m.0) { holding = Some (hold k a' b'); told = n } in
+      k < length r.core.phase → IsKept f s → HasNumbers cs → Shows f s ws
+      → Shown f record { words = ws; homes = t.homes; views = set t.views id w } s
+  holds_on t r at k a b a' b' n holds cs ms ws near kept numbers shows =
+      let o = r.seats id m.0 at in
+      let is = o.held (hold k a b) holds in
+      let mark : done_mark (phase_of r.core k) ≡ 0 = ap done_mark is in
+      let mark' : refused_mark (phase_of r.core k) ≡ 0 = ap refused_mark is in
+      let w : View = record (one_more m.0) { holding = Some (hold k a' b'); told = n } in
+      moves f t r id m.0 at k (Held id a' b') w cs ms r.core.least ws near kept numbers shows (omega arith)
       (not_others r.core k a b is)
       (λ h e. (same_hold (hold k a b) h (sym holds ∙ e)).0)
       (λ j x y e. held_parts id a' b' j x y k e)
       (λ h e. same_hold (hold k a' b') h e)
-      (λ i _. refl) (omega arith) (λ i _. refl) (omega arith) refl live (o.same_flow live) (o.seen live)
+      (λ i _. refl) (omega arith) (λ i _. refl) (omega arith)
+      refl live (o.same_flow live) (o.seen live)
 
-  strand_within : (t : Board) (r : Ruled f t) (k a b : ℕ) → phase_of r.core k ≡ Held id a b → (k < f.net.strands) × (k < length r.core.phase)
-  strand_within t r k a b is = let near = strand_near f r.core r.kept k (not_waiting r.core k a b is) in let each = r.kept.sound.fits.phase_each in (near, omega arith)
+  strand_within : (t : Board) (r : Ruled f t) (k a b : ℕ) → phase_of r.core k ≡ Held id a b
+      → (k < f.net.strands) × (k < length r.core.phase)
+  strand_within t r k a b is =
+      let near = strand_near f r.core r.kept k (not_waiting r.core k a b is) in
+      let each = r.kept.sound.fits.phase_each in (near, omega arith)
 
-  pub publishes : (c x : ℕ) → 0 < m.0.share → (p : CanPublish f m.0.holding x) → c ≡ get_or (writes_of f.net p.held.strand) p.held.published 0
-      → Allows (Ruled f) slots id m (cell_at c) (λ _. x + 1) (λ _. publish_play (step slots (cell_at c) (x + 1) 0 none) m (x + 1))
-  publishes c x live p c-is t r wide at _ = let o = r.seats id m.0 at in let k : ℕ = p.held.strand in let a : ℕ = p.held.published in let b : ℕ = p.held.released in
-      let is = o.held p.held p.holds in let near = strand_within t r k a b is in
-      let each = r.flow.values_each k p.values p.gives in let left = p.left in
-      let in-net : c < f.net.cells = let P : ℕ → Type 0 = λ d. d < f.net.cells in subst P (sym c-is) (r.net.writes_near k (get_or (writes_of f.net k) a 0) (is_in_at (writes_of f.net k) a (omega arith))) in
+  -- a held strand's counter word stays as it is while the strand is held, done or refused
+  same_word : (t : Board) (r : Ruled f t) (k a b : ℕ) → phase_of r.core k ≡ Held id a b
+      → TAKEN ≡ counter_word (phase_of r.core k) (missing_of r.core k)
+  same_word t r k a b is = ap (λ (q : Phase). counter_word q (missing_of r.core k)) (sym is)
+
+  one_filled : (cs : List (Option ℕ)) (c x : ℕ) → c < length cs → x < P → HasNumbers cs
+      → HasNumbers (set cs c (Some x))
+  one_filled cs c x near small h =
+      set_all cs c (Some x) None (λ j o. (y : ℕ) → o ≡ Some y → y < P) near
+      (λ y e. let same-x : x ≡ y = ap (λ (o : Option ℕ). unwrap_or o x) e in omega arith)
+      (λ j ne. h j)
+
+  pub publishes : (c x : ℕ) (p : CanPublish f m.0.holding x) → x < P
+      → c ≡ get_or (writes_of f.net p.held.strand) p.held.published 0
+      → Evolves f id m (cell_at c) (λ _. x + 1) (λ _. Some (Publish id x))
+      (λ _. publish_play (step slots (cell_at c) (x + 1) 0 none) m (x + 1))
+  publishes c x p small c-is t r at _ =
+      let o = r.seats id m.0 at in
+      let k : ℕ = p.held.strand in let a : ℕ = p.held.published in let b : ℕ = p.held.released in
+      let is = o.held p.held p.holds in
+      let near = strand_within t r k a b is in
+      let each = r.flow.values_each k p.values p.gives in
+      let left = p.left in
+      let N : ℕ → Type 0 = λ d. d < f.net.cells in
+      let first-of = is_in_at (writes_of f.net k) a (omega arith) in
+      let in-net : c < f.net.cells =
+      subst N (sym c-is) (r.net.writes_near k (get_or (writes_of f.net k) a 0) first-of) in
       let cells-each = r.kept.sound.fits.cells_each in
-      let S : ℕ → State = λ d. state (set r.core.cells d (Some x)) r.core.missing (set r.core.phase k (Held id (a + 1) b)) r.core.least in
-      let K : ℕ → Type 0 = λ d. IsKept f (S d) in
-      let kept : IsKept f (S c) = subst K (sym c-is) (publish_kept f r.net r.flow r.core r.kept id k a b x p.values is p.gives p.left p.next) in
-      let shows : Shows f (S c) (set t.words (cell_at c) (x + 1)) = shows_cell f r.core t.words r.shows k (Held id (a + 1) b) near.1 c x in-net (omega arith) (ap (λ (q : Phase). counter_word q (missing_of r.core k)) (sym is)) in
-      let e : Some (hold k (a + 1) b) ≡ one_published m.0.holding = ap one_published (sym p.holds) in (
-        record m.0 { holding = Some (hold k (a + 1) b) },
-        keeps,
-        tt,
-        holds_on t r at live k a b (a + 1) b m.0.told p.holds (set r.core.cells c (Some x)) r.core.missing (set t.words (cell_at c) (x + 1)) near.1 kept shows,
-        λ i. (record m.0 { holding = e i }, m.1),
+      let S : ℕ → State = λ d.
+      state (set r.core.cells d (Some x)) r.core.missing
+      (set r.core.phase k (Held id (a + 1) b)) r.core.least in
+      let K : ℕ → Type 0 = λ d. Makes f r.core (Publish id x) (S d) in
+      let made : Makes f r.core (Publish id x) (S c) = subst K (sym c-is)
+      (publish_made f r.net r.flow r.core r.kept id k a b x p.values is p.gives p.left p.next) in
+      let shows : Shows f (S c) (set t.words (cell_at c) (x + 1)) =
+      shows_cell f r.core t.words r.shows k (Held id (a + 1) b) near.1 c x in-net (omega arith)
+      (same_word t r k a b is) in
+      let e : Some (hold k (a + 1) b) ≡ one_published m.0.holding = ap one_published (sym p.holds) in
+      let numbers = one_filled r.core.cells c x (omega arith) small r.numbers in
+      let next = holds_on t r at k a b (a + 1) b m.0.told p.holds (set r.core.cells c (Some x))
+      r.core.missing (set t.words (cell_at c) (x + 1)) near.1 made.kept numbers shows in (
+        record (one_more m.0) { holding = Some (hold k (a + 1) b) },
+        next.0,
+        (made.enabled, made.honest, next.1 ∙ made.is),
+        λ i. (record (one_more m.0) { holding = e i }, m.1),
       )
 
-  pub releases_next : (j : ℕ) → 0 < m.0.share → (p : CanRelease f m.0.holding) → j ≡ get_or (succs_of f.net p.held.strand) p.held.released 0
-      → Allows (Ruled f) slots id m (counter_at f j) (λ n. (n + (2 ^ 64 - 1)) % 2 ^ 64) (release_play (step slots (counter_at f j) 1 0 none) m)
-  releases_next j live p j-is t r wide at narrow = let o = r.seats id m.0 at in let k : ℕ = p.held.strand in let a : ℕ = p.held.published in let b : ℕ = p.held.released in
-      let is = o.held p.held p.holds in let near = strand_within t r k a b is in
+  pub releases_next : (j : ℕ) (p : CanRelease f m.0.holding)
+      → j ≡ get_or (succs_of f.net p.held.strand) p.held.released 0
+      → Evolves f id m (counter_at f j) (λ n. (n + (2 ^ 64 - 1)) % 2 ^ 64) (λ _. Some (Release id))
+      (release_play (step slots (counter_at f j) 1 0 none) m)
+  releases_next j p j-is t r at narrow =
+      let o = r.seats id m.0 at in
+      let k : ℕ = p.held.strand in let a : ℕ = p.held.published in let b : ℕ = p.held.released in
+      let is = o.held p.held p.holds in
+      let near = strand_within t r k a b is in
       let next' = next_waits f.net r.net r.core (steady f.net r.core r.kept.sound) k id a b is p.left in
-      let N : ℕ → Type 0 = λ d. Next f.net r.core k d in let next : N j = subst N (sym j-is) next' in
+      let N : ℕ → Type 0 = λ d. Next f.net r.core k d in
+      let next : N j = subst N (sym j-is) next' in
       let each = r.kept.sound.fits.missing_each in let in-list = next.near in
-      let S : ℕ → State = λ d. state r.core.cells (set r.core.missing d (missing_of r.core d - 1)) (set r.core.phase k (Held id a (b + 1))) r.core.least in
-      let K : ℕ → Type 0 = λ d. IsKept f (S d) in
-      let kept : IsKept f (S j) = subst K (sym j-is) (release_kept f r.net r.flow r.core r.kept id k a b p.values is p.gives p.all_published p.left) in
+      let S : ℕ → State = λ d.
+      state r.core.cells (set r.core.missing d (missing_of r.core d - 1))
+      (set r.core.phase k (Held id a (b + 1))) r.core.least in
+      let K : ℕ → Type 0 = λ d. Makes f r.core (Release id) (S d) in
+      let made : Makes f r.core (Release id) (S j) = subst K (sym j-is)
+      (release_made f r.net r.flow r.core r.kept id k a b p.values is p.gives p.all_published p.left) in
       let n : ℕ = get_or t.words (counter_at f j) 0 in
       let ws : List ℕ = set t.words (counter_at f j) ((n + (2 ^ 64 - 1)) % 2 ^ 64) in
-      let shows : Shows f (S j) ws = shows_release f r.core t.words r.shows k (Held id a (b + 1)) near.1 j (omega arith) in-list next.apart next.waits next.misses narrow (ap (λ (q : Phase). counter_word q (missing_of r.core k)) (sym is)) in
-      let e : Some (hold k a (b + 1)) ≡ one_released m.0.holding = ap one_released (sym p.holds) in (
-        record m.0 { holding = Some (hold k a (b + 1)); told = n },
-        keeps,
-        tt,
-        holds_on t r at live k a b a (b + 1) n p.holds r.core.cells (set r.core.missing j (missing_of r.core j - 1)) ws near.1 kept shows,
-        λ i. (record m.0 { holding = e i; told = n }, m.1),
+      let shows : Shows f (S j) ws =
+      shows_release f r.core t.words r.shows k (Held id a (b + 1)) near.1 j (omega arith) in-list
+      next.apart next.waits next.misses narrow (same_word t r k a b is) in
+      let e : Some (hold k a (b + 1)) ≡ one_released m.0.holding = ap one_released (sym p.holds) in
+      let then = holds_on t r at k a b a (b + 1) n p.holds r.core.cells
+      (set r.core.missing j (missing_of r.core j - 1)) ws near.1 made.kept r.numbers shows in (
+        record (one_more m.0) { holding = Some (hold k a (b + 1)); told = n },
+        then.0,
+        (made.enabled, made.honest, then.1 ∙ made.is),
+        λ i. (record (one_more m.0) { holding = e i; told = n }, m.1),
       )
 
   -- a seat gives up its strand
-  puts_down : (t : Board) (r : Ruled f t) → get_elem? t.views id ≡ some m.0 → 0 < m.0.share → (k a b : ℕ) (p : Phase) (ds rs : List ℕ) (seen : ℕ) (l : Option ℕ) (ws : List ℕ) → m.0.holding ≡ Some (hold k a b)
-      → k < length r.core.phase → IsKept f (state r.core.cells r.core.missing (set r.core.phase k p) l) → Shows f (state r.core.cells r.core.missing (set r.core.phase k p) l) ws
-      → least_word f l ≤ least_word f r.core.least → least_word f l ≤ seen → ((j x y : ℕ) → p ≢ Held j x y)
+  puts_down : (t : Board) (r : Ruled f t) → get_elem? t.views id ≡ some m.0
+      → (k a b : ℕ) (p : Phase) (ds rs : List ℕ) (seen : ℕ) (l : Option ℕ) (ws : List ℕ)
+      → m.0.holding ≡ Some (hold k a b)
+      → let s : State = state r.core.cells r.core.missing (set r.core.phase k p) l in
+      let w : View = record (one_more m.0) { holding = None; done = ds; refused = rs; seen = seen } in
+      k < length r.core.phase → IsKept f s → Shows f s ws
+      → least_word f l ≤ least_word f r.core.least → least_word f l ≤ seen
+      → ((j x y : ℕ) → p ≢ Held j x y)
       → ((i : ℕ) → i ≢ k → times i ds ≡ times i m.0.done) → times k ds ≡ times k m.0.done + done_mark p
-      → ((i : ℕ) → i ≢ k → times i rs ≡ times i m.0.refused) → times k rs ≡ times k m.0.refused + refused_mark p
-      → Ruled f record { words = ws; homes = t.homes; views = set t.views id (record m.0 { holding = None; done = ds; refused = rs; seen = seen }) }
-  puts_down t r at live k a b p ds rs seen l ws holds near kept shows less below unheld d-else d-k r-else r-k = let o = r.seats id m.0 at in let is = o.held (hold k a b) holds in
-      let mark : done_mark (phase_of r.core k) ≡ 0 = ap done_mark is in let mark' : refused_mark (phase_of r.core k) ≡ 0 = ap refused_mark is in
-      moves f t r id m.0 at k p (record m.0 { holding = None; done = ds; refused = rs; seen = seen }) r.core.cells r.core.missing l ws near kept shows less
+      → ((i : ℕ) → i ≢ k → times i rs ≡ times i m.0.refused)
+      → times k rs ≡ times k m.0.refused + refused_mark p
+      → Shown f record { words = ws; homes = t.homes; views = set t.views id w } s
+  puts_down t r at k a b p ds rs seen l ws holds near kept shows less below unheld d-else d-k r-else r-k =
+      let o = r.seats id m.0 at in
+      let is = o.held (hold k a b) holds in
+      let mark : done_mark (phase_of r.core k) ≡ 0 = ap done_mark is in
+      let mark' : refused_mark (phase_of r.core k) ≡ 0 = ap refused_mark is in
+      let w : View = record (one_more m.0) { holding = None; done = ds; refused = rs; seen = seen } in
+      moves f t r id m.0 at k p w r.core.cells r.core.missing l ws near kept r.numbers shows less
       (not_others r.core k a b is)
       (λ h e. (same_hold (hold k a b) h (sym holds ∙ e)).0)
       (λ j x y e. absurd (unheld j x y e))
       (λ h e. absurd (none_some h e))
       d-else (omega arith) r-else (omega arith) refl live (o.same_flow live) below
 
-  pub finishes : 0 < m.0.share → CanFinish f m.0.holding → Allows (Ruled f) slots id m 0 (λ n. n) (finish_play (step slots 0 0 0 none) m)
-  finishes live p t r wide at _ = let o = r.seats id m.0 at in let k : ℕ = p.held.strand in let a : ℕ = p.held.published in let b : ℕ = p.held.released in
-      let is = o.held p.held p.holds in let near = strand_within t r k a b is in
-      let kept = finish_kept f r.net r.flow r.core r.kept id k a b p.values is p.gives p.all_published p.all_released in
-      let found : ℕ = get_or t.words 0 0 in let found-is : found ≡ least_word f r.core.least = r.shows.least_is in
+  pub finishes : CanFinish f m.0.holding
+      → Evolves f id m 0 (λ n. n) (λ _. Some (Finish id)) (finish_play (step slots 0 0 0 none) m)
+  finishes p t r at _ =
+      let o = r.seats id m.0 at in
+      let k : ℕ = p.held.strand in let a : ℕ = p.held.published in let b : ℕ = p.held.released in
+      let is = o.held p.held p.holds in
+      let near = strand_within t r k a b is in
+      let made = finish_made f r.net r.flow r.core r.kept id k a b p.values is p.gives
+      p.all_published p.all_released in
+      let found : ℕ = get_or t.words 0 0 in
+      let found-is : found ≡ least_word f r.core.least = r.shows.least_is in
       let ws : List ℕ = set t.words 0 found in
-      let W : List ℕ → Type 0 = λ ws. Shows f (state r.core.cells r.core.missing (set r.core.phase k Done) r.core.least) ws in
-      let shows = subst W (sym (set-get_or t.words 0 0)) (shows_turn f r.core t.words r.shows k Done near.1 (ap (λ (q : Phase). counter_word q (missing_of r.core k)) (sym is))) in
-      let e : (k ∷ m.0.done) ≡ with_held m.0.holding m.0.done = ap (λ (x : Option Hold). with_held x m.0.done) (sym p.holds) in (
-        record m.0 { holding = None; done = k ∷ m.0.done; seen = found },
-        keeps,
-        tt,
-        puts_down t r at live k a b Done (k ∷ m.0.done) m.0.refused found r.core.least ws p.holds near.1 kept shows (omega arith) (omega arith) (λ j x y e. cc)
-            (λ i ne. let z = same_no i k ne in omega arith) (let y = same_yes k k refl in omega arith) (λ i _. refl) (omega arith),
-        ((λ i. (record m.0 { holding = None; done = e i; seen = found }, m.1)), (let s = o.seen live in omega arith)),
+      let S : State = state r.core.cells r.core.missing (set r.core.phase k Done) r.core.least in
+      let W : List ℕ → Type 0 = λ ws. Shows f S ws in
+      let shows = subst W (sym (set-get_or t.words 0 0))
+      (shows_turn f r.core t.words r.shows k Done near.1 (same_word t r k a b is)) in
+      let e : (k ∷ m.0.done) ≡ with_held m.0.holding m.0.done =
+      ap (λ (x : Option Hold). with_held x m.0.done) (sym p.holds) in
+      let next = puts_down t r at k a b Done (k ∷ m.0.done) m.0.refused found r.core.least ws p.holds
+      near.1 made.kept shows (omega arith) (omega arith) (λ j x y e. cc)
+      (λ i ne. let z = same_no i k ne in omega arith) (let y = same_yes k k refl in omega arith)
+      (λ i _. refl) (omega arith) in (
+        record (one_more m.0) { holding = None; done = k ∷ m.0.done; seen = found },
+        next.0,
+        (made.enabled, made.honest, next.1 ∙ made.is),
+        (
+          (λ i. (record (one_more m.0) { holding = None; done = e i; seen = found }, m.1)),
+          (let s = o.seen live in omega arith),
+        ),
       )
 
-  pub refuses : (k : ℕ) → 0 < m.0.share → (p : CanRefuse f m.0.holding) → k ≡ p.held.strand → Allows (Ruled f) slots id m 0 (λ n. min n k) (refuse_play (step slots 0 k 0 none) m)
-  refuses k live p k-is t r wide at _ = let o = r.seats id m.0 at in let a : ℕ = p.held.published in let b : ℕ = p.held.released in
+  pub refuses : (k : ℕ) (p : CanRefuse f m.0.holding) → k ≡ p.held.strand
+      → Evolves f id m 0 (λ n. min n k) (λ _. Some (Refuse id)) (refuse_play (step slots 0 k 0 none) m)
+  refuses k p k-is t r at _ =
+      let o = r.seats id m.0 at in
+      let a : ℕ = p.held.published in let b : ℕ = p.held.released in
       let none-out = p.none_published in
       let is' = o.held p.held p.holds in
-      let I : ℕ → Type 0 = λ i. phase_of r.core i ≡ Held id a b in let is : I k = subst I (sym k-is) is' in
+      let I : ℕ → Type 0 = λ i. phase_of r.core i ≡ Held id a b in
+      let is : I k = subst I (sym k-is) is' in
       let near = strand_within t r k a b is in
       let few = r.kept.sound.fills_first.few k id a b is in
       let none-released : b ≡ 0 = elim (cases_lt 0 b) [
-        | inl some-out ↦ (let full = r.kept.sound.fills_first.published_first k id a b is some-out in let no-succ = no_successor f.net r.net k (omega arith) in let le = few.1 in absurd (omega arith))
+        | inl some-out ↦ (
+            let full = r.kept.sound.fills_first.published_first k id a b is some-out in
+            let no-succ = no_successor f.net r.net k (omega arith) in
+            let le = few.1 in absurd (omega arith))
         | inr ge ↦ omega arith
       ] in
       let is-fresh : phase_of r.core k ≡ Held id 0 0 = is ∙ (λ i. Held id (none-out i) (none-released i)) in
       let A : ℕ → Type 0 = λ i. answer_of f i ≡ Refuses in
-      let kept = refuse_kept f r.net r.flow r.core r.kept id k is-fresh (subst A (sym k-is) p.refuses) in
-      let found : ℕ = get_or t.words 0 0 in let found-is : found ≡ least_word f r.core.least = r.shows.least_is in
+      let made = refuse_made f r.net r.flow r.core r.kept id k is-fresh (subst A (sym k-is) p.refuses) in
+      let found : ℕ = get_or t.words 0 0 in
+      let found-is : found ≡ least_word f r.core.least = r.shows.least_is in
       let lower : ℕ = option_map_or (λ l. min l k) r.core.least k in
-      let l : Option ℕ = Some lower in let ws : List ℕ = set t.words 0 (min found k) in
-      let shows = shows_least f r.core t.words r.shows k Refused near.1 near.0 (ap (λ (q : Phase). counter_word q (missing_of r.core k)) (sym is)) in
-      let lower-is : min found k ≡ lower = ap (λ (n : ℕ). min n k) found-is ∙ lesser f r.core.least k near.0 in
+      let l : Option ℕ = Some lower in
+      let ws : List ℕ = set t.words 0 (min found k) in
+      let shows = shows_least f r.core t.words r.shows k Refused near.1 near.0 (same_word t r k a b is) in
+      let lower-is : min found k ≡ lower =
+      ap (λ (n : ℕ). min n k) found-is ∙ lesser f r.core.least k near.0 in
       let holds-k : m.0.holding ≡ Some (hold k a b) = p.holds ∙ (λ i. Some (hold (sym k-is i) a b)) in
-      let e : (k ∷ m.0.refused) ≡ with_held m.0.holding m.0.refused = ap (λ (x : Option Hold). with_held x m.0.refused) (sym holds-k) in (
-        record m.0 { holding = None; refused = k ∷ m.0.refused; seen = min found k },
-        keeps,
-        tt,
-        puts_down t r at live k a b Refused m.0.done (k ∷ m.0.refused) (min found k) l ws holds-k near.1 kept shows (omega arith) (omega arith) (λ j x y e. cc)
-            (λ i _. refl) (omega arith) (λ i ne. let z = same_no i k ne in omega arith) (let y = same_yes k k refl in omega arith),
-        ((λ i. (record m.0 { holding = None; refused = e i; seen = min found k }, m.1)), (let s = o.seen live in omega arith)),
+      let e : (k ∷ m.0.refused) ≡ with_held m.0.holding m.0.refused =
+      ap (λ (x : Option Hold). with_held x m.0.refused) (sym holds-k) in
+      let next = puts_down t r at k a b Refused m.0.done (k ∷ m.0.refused) (min found k) l ws holds-k
+      near.1 made.kept shows (omega arith) (omega arith) (λ j x y e. cc)
+      (λ i _. refl) (omega arith)
+      (λ i ne. let z = same_no i k ne in omega arith) (let y = same_yes k k refl in omega arith) in (
+        record (one_more m.0) { holding = None; refused = k ∷ m.0.refused; seen = min found k },
+        next.0,
+        (made.enabled, made.honest, next.1 ∙ made.is),
+        (
+          (λ i. (record (one_more m.0) { holding = None; refused = e i; seen = min found k }, m.1)),
+          (let s = o.seen live in omega arith),
+        ),
       )
 
-  abbrev Goes : Board → ℕ → (ℕ → Sat → Type 0) → ℕ → Type 0
-  Goes t i then n = (w : View) × (a : Act ℕ) × table.Valid t.homes m.1 a × Ruled f (stepped t i n id m.1 w a) × then (get_or t.words i 0) (w, table.carried_after m.1 a)
+  abbrev Goes : (t : Board) → Ruled f t → ℕ → Option Event → (ℕ → Sat → Type 0) → ℕ → Type 0
+  Goes t r i event then n =
+      (w : View) × (next : Ruled f (stepped t i n id m.1 w keeps)) × Becomes f r.core event next.core
+      × then (get_or t.words i 0) (w, m.1)
 
-  pub takes : (k : ℕ) → 0 < m.0.share → m.0.holding ≡ None → k < f.net.strands
-      → Allows (Ruled f) slots id m (counter_at f k) (λ n. either (n == 0) TAKEN n) (take_play (step slots (counter_at f k) 0 TAKEN (some k)) m)
-  takes k live free near t r wide at _ = let o = r.seats id m.0 at in let i : ℕ = counter_at f k in let n : ℕ = get_or t.words i 0 in let each = r.kept.sound.fits.phase_each in
-      exchanged n 0 TAKEN (Goes t i (take_play (step slots i 0 TAKEN (some k)) m))
+  pub takes : (k : ℕ) → m.0.holding ≡ None → k < f.net.strands
+      → Evolves f id m (counter_at f k) (λ n. either (n == 0) TAKEN n) (taking id k)
+      (take_play (step slots (counter_at f k) 0 TAKEN (some k)) m)
+  takes k free near t r at _ =
+      let o = r.seats id m.0 at in
+      let i : ℕ = counter_at f k in let n : ℕ = get_or t.words i 0 in
+      let each = r.kept.sound.fits.phase_each in
+      let then : ℕ → Sat → Type 0 = take_play (step slots i 0 TAKEN (some k)) m in
+      let w : View = tries m.0 k n in
+      let told : then n (w, m.1) = λ k' said.
+      let k-is : k ≡ k' = some-injective k k' said in λ z. (tries m.0 (k-is z) n, m.1) in
+      exchanged n 0 TAKEN (Goes t r i (taking id k n) then)
       (λ hit.
-      let open-strand = counter_free (phase_of r.core k) (missing_of r.core k) (sym (r.shows.counter_is k near) ∙ hit) in
-      let nobody : (j a b : ℕ) → phase_of r.core j ≢ Held id a b = λ j a b e. let x = r.holder j id a b e in
-      let same-view : x.0 ≡ m.0 = some-injective _ _ (sym x.1 ∙ at) in none_some (hold j a b) (sym free ∙ ap (λ (u : View). u.holding) (sym same-view) ∙ x.2) in
-      let kept = take_kept f r.net r.flow r.core r.kept id k nobody near open-strand.0 open-strand.1 in
+      let test = sym (eq-eqb n 0 hit) in
+      let open-strand =
+      counter_free (phase_of r.core k) (missing_of r.core k) (sym (r.shows.counter_is k near) ∙ hit) in
+      let nobody : (j a b : ℕ) → phase_of r.core j ≢ Held id a b = λ j a b e.
+      let x = r.holder j id a b e in
+      let same-view : x.0 ≡ m.0 = some-injective _ _ (sym x.1 ∙ at) in
+      none_some (hold j a b) (sym free ∙ ap (λ (u : View). u.holding) (sym same-view) ∙ x.2) in
+      let made = take_made f r.net r.flow r.core r.kept id k nobody near open-strand.0 open-strand.1 in
       let shows = shows_take f r.core t.words r.shows k (Held id 0 0) (omega arith) near refl in
-      let w : View = record m.0 { holding = Some (hold k 0 0); tried = k; took = n } in
       let is = open-strand.0 in
-      let mark : done_mark (phase_of r.core k) ≡ 0 = ap done_mark is in let mark' : refused_mark (phase_of r.core k) ≡ 0 = ap refused_mark is in
-      let ruled = moves f t r id m.0 at k (Held id 0 0) w r.core.cells r.core.missing r.core.least (set t.words i TAKEN) (omega arith) kept shows (omega arith)
+      let mark : done_mark (phase_of r.core k) ≡ 0 = ap done_mark is in
+      let mark' : refused_mark (phase_of r.core k) ≡ 0 = ap refused_mark is in
+      let holds : w.holding ≡ Some (hold k 0 0) =
+      ap (λ (b : Bool). cond b (Some (hold k 0 0)) m.0.holding) (sym test) in
+      let next = moves f t r id m.0 at k (Held id 0 0) w r.core.cells r.core.missing r.core.least
+      (set t.words i TAKEN) (omega arith) made.kept r.numbers shows (omega arith)
       (λ j a b ne e. cc)
       (λ h e. absurd (none_some h (sym free ∙ e)))
-      (λ j x y e. held_parts id 0 0 j x y k e)
-      (λ h e. same_hold (hold k 0 0) h e)
-      (λ i _. refl) (omega arith) (λ i _. refl) (omega arith) refl live (o.same_flow live) (o.seen live) in (
-        w,
-        keeps,
-        tt,
-        ruled,
-        (λ k' said. let k-is : k ≡ k' = some-injective k k' said in let test = sym (eq-eqb n 0 hit) in
-            λ z. (record m.0 { holding = cond (test z) (Some (hold (k-is z) 0 0)) m.0.holding; tried = k-is z; took = n }, m.1)),
-      ))
+      (λ j x y e. let p = held_parts id 0 0 j x y k e in (p.0, holds ∙ p.1))
+      (λ h e. same_hold (hold k 0 0) h (sym holds ∙ e))
+      (λ i _. refl) (omega arith) (λ i _. refl) (omega arith)
+      refl live (o.same_flow live) (o.seen live) in
+      let B : Bool → Type 0 = λ b. Becomes f r.core (cond b (Some (Take id k)) None) next.0.core in
+      (w, next.0, subst B test (made.enabled, made.honest, next.1 ∙ made.is), told))
       (λ miss.
-      let w : View = record m.0 { tried = k; took = n } in
-      let ruled = notes f t r id m.0 at w refl refl refl refl live (o.same_flow live) (o.seen live) in
-      let P : List ℕ → Type 0 = λ ws. Ruled f record { words = ws; homes = t.homes; views = set t.views id w } in (
-        w,
-        keeps,
-        tt,
-        subst P (sym (set-get_or t.words i 0)) ruled,
-        (λ k' said. let k-is : k ≡ k' = some-injective k k' said in let test = sym (ne_eqb n 0 miss) in
-            λ z. (record m.0 { holding = cond (test z) (Some (hold (k-is z) 0 0)) m.0.holding; tried = k-is z; took = n }, m.1)),
-      ))
+      let test = sym (ne_eqb n 0 miss) in
+      let holds : w.holding ≡ m.0.holding =
+      ap (λ (b : Bool). cond b (Some (hold k 0 0)) m.0.holding) (sym test) in
+      let next = stays t r at i w holds refl refl refl refl (o.seen live) in
+      let B : Bool → Type 0 = λ b. Becomes f r.core (cond b (Some (Take id k)) None) next.0.core in
+      (w, next.0, subst B test next.1, told))
+
+pub word_steps : (f : Flow) (slots id : ℕ) (m : Sat) → 0 < m.0.share → WordSteps f slots id m
+word_steps f slots id m live = record {
+  read = reads_cell f slots id m live;
+  look = looks f slots id m live;
+  take = takes f slots id m live;
+  publish = publishes f slots id m live;
+  release = releases_next f slots id m live;
+  finish = finishes f slots id m live;
+  refuse = refuses f slots id m live;
+}

@@ -18,7 +18,6 @@ use Rattle.flow_board.specs.declared.view.View.{View}
 use Rattle.flow_board.specs.declared.rule.TheConstants.{TAKEN}
 use Rattle.flow_board.specs.Shows.{cell_at, counter_at, cell_word, counter_word, least_word}
 use Rattle.flow_board.specs.Rule.{done_mark, refused_mark, hold_mark, names, Ruled, SaysWho}
-use Rattle.flow_board.specs.Closed.{Closes, IsDoneBelow}
 use Rattle.flow_board.proofs.Moved.{Board}
 use Rattle.flow_board.proofs.Showing.{counter_free}
 use Rattle.flow_board.proofs.Ends.{total_zero, total_only}
@@ -63,7 +62,7 @@ module _ (f : Flow) (t : Board) (r : Ruled f t) (k : ℕ) where
   waits_never is = let n = nobody (λ j a b e. cc) in let h = held_total Waiting is in omega arith
 
 -- a missing count is below TAKEN
-not_waiting : (f : Flow) (s : State) → IsNet f.net → IsKept f s → f.net.strands < 4294967296 → (k : ℕ) → k < f.net.strands → counter_word (phase_of s k) (missing_of s k) ≡ TAKEN → phase_of s k ≢ Waiting
+pub not_waiting : (f : Flow) (s : State) → IsNet f.net → IsKept f s → f.net.strands < 4294967296 → (k : ℕ) → k < f.net.strands → counter_word (phase_of s k) (missing_of s k) ≡ TAKEN → phase_of s k ≢ Waiting
 not_waiting f s ok kept narrow k near word = λ waits. let c = kept.sound.counts_missing k waits in let few = preds_few f.net ok k in
     let m : missing_of s k ≡ TAKEN = sym (ap (λ (q : Phase). counter_word q (missing_of s k)) waits) ∙ word in omega arith
 
@@ -79,22 +78,3 @@ says_who f t r = record {
       let none-there = r.kept.sound.fills_first.filled h.strand h.published left ∙ ap (λ (q : Phase). nat_lt h.published (published_at f.net h.strand q)) is ∙ le-ltb h.published h.published (omega arith) in
       r.shows.cell_is c (r.net.writes_near h.strand c (is_in_at (writes_of f.net h.strand) h.published left)) ∙ empty_word (cell_of r.core c) none-there;
 }
-
-unrefused : (s : State) (o : Option ℕ) (n k : ℕ) → MatchOption o ((k : ℕ) → phase_of s k ≢ Refused) (λ l. (phase_of s l ≡ Refused) × ((k : ℕ) → phase_of s k ≡ Refused → l ≤ k))
-    → ((l : ℕ) → o ≡ Some l → k < l) → phase_of s k ≢ Refused
-unrefused s None n k h below = h k
-unrefused s (Some l) n k h below = λ e. let le = h.1 k e in let less = below l refl in absurd (omega arith)
-
-done_phase : (p : Phase) → p ≢ Waiting → ((j a b : ℕ) → p ≢ Held j a b) → p ≢ Refused → p ≡ Done
-done_phase Waiting a b c = absurd (a refl)
-done_phase (Held w x y) a b c = absurd (b w x y refl)
-done_phase Done a b c = refl
-done_phase Refused a b c = absurd (c refl)
-
-pub done_below : (f : Flow) (done refused ws : List ℕ) (k : ℕ) → IsNet f.net → f.net.strands < 4294967296 → Closes f done refused ws → k < f.net.strands → k < get_or ws 0 0 → get_or ws (counter_at f k) 0 ≡ TAKEN → IsDoneBelow f done k
-done_below f done refused ws k ok narrow h near below word =
-    let low : (l : ℕ) → h.core.least ≡ Some l → k < l = λ l e. let w = h.shows.least_is in let e' : least_word f h.core.least ≡ l = ap (least_word f) e in omega arith in
-    let is : phase_of h.core k ≡ Done = done_phase (phase_of h.core k) (not_waiting f h.core ok h.kept narrow k near (sym (h.shows.counter_is k near) ∙ word)) (h.none_held k)
-    (unrefused h.core h.core.least k k h.kept.sound.least_refused low) in
-    let g = h.kept.answers_kept.done_gives k is in let d : times k done ≡ 1 = h.done_is k ∙ ap done_mark is in
-    record { listed = omega arith; values = g.0; gives = g.1 }

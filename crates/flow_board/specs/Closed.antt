@@ -1,19 +1,24 @@
 -- What the words of a closed board show, and how they are read
-use Rattle.std.specs.Prelude.{◌≡◌, ◌≢◌, ℕ, ◌+◌, ◌-◌, ◌<◌, ◌≤◌, ◌==◌, Bool, cond, List, length, slice_index, Option, Some, None}
+use Rattle.std.specs.Prelude.{◌≡◌, ◌≢◌, ℕ, ◌+◌, ◌-◌, ◌^◌, ◌<◌, ◌≤◌, ◌==◌, Bool, cond, List, length, slice_index, Option, Some, None}
 use Rattle.gold_field.specs.declared.gold.TheConstants.{P}
 use Rattle.flow_core.specs.declared.Phase.TheVariants.{Held}
 use Rattle.flow_core.specs.declared.State.{State}
 use Rattle.flow_core.specs.Counts.{times, IsIn}
-use Rattle.flow_core.specs.Flow.{Flow, Gives, answer_of}
+use Rattle.flow_core.specs.Net.{IsNet, writes_of}
+use Rattle.flow_core.specs.Flow.{Flow, IsFlow, Refuses, Gives, start_of, answer_of, HasValue}
 use Rattle.flow_core.specs.Core.{phase_of, IsKept}
 use Rattle.flow_board.specs.declared.rule.TheConstants.{TAKEN}
 use Rattle.flow_board.specs.Shows.{cell_at, Shows}
-use Rattle.flow_board.specs.Rule.{done_mark, refused_mark}
+use Rattle.flow_board.specs.Rule.{done_mark, refused_mark, HasNumbers}
 
 -- the words show a state that keeps the core's invariant, in which no strand is held, and the done and refused strands are the two lists
 pub record Closes (f : Flow) (done refused ws : List ℕ) : Type 0 where
   pub core : State
+  pub narrow : f.net.strands < 2 ^ 32
+  pub net : IsNet f.net
+  pub flow : IsFlow f
   pub kept : IsKept f core
+  pub numbers : HasNumbers core.cells
   pub shows : Shows f core ws
   pub none_held : (k j a b : ℕ) → phase_of core k ≢ Held j a b
   pub done_is : (k : ℕ) → times k done ≡ done_mark (phase_of core k)
@@ -45,8 +50,22 @@ done_in w k = slice_index w.words (1 + w.cells + k) == TAKEN
 abbrev pub least_in : Closing → Option ℕ
 least_in w = cond (slice_index w.words 0 == w.strands) None (Some (slice_index w.words 0))
 
--- a strand below the least refused one whose word is TAKEN is done, so its answer is a list
-pub record IsDoneBelow (f : Flow) (done : List ℕ) (k : ℕ) : Type 0 where
+-- the words are those of a board over the flow, with its done and refused strands
+pub record IsClosed (f : Flow) (done refused : List ℕ) (w : Closing) : Type 0 where
+  pub closes : Closes f done refused w.words
+  pub cells_are : w.cells ≡ f.net.cells
+  pub strands_are : w.strands ≡ f.net.strands
+
+-- a strand below the least refused one whose word is TAKEN is done, so its answer is a list, and each cell that it writes has its value of that
+pub record IsDoneBelow (f : Flow) (done : List ℕ) (w : Closing) (k : ℕ) : Type 0 where
   pub listed : IsIn k done
   pub values : List ℕ
   pub gives : answer_of f k ≡ Gives values
+  pub filled : (i : ℕ) → i < length (writes_of f.net k)
+      → cell_in w (slice_index (writes_of f.net k) i) ≡ Some (slice_index values i)
+
+-- a start cell has its value, a cell that has one has the flow's, and the least refused strand is one whose answer is a refusal
+pub record HasOnlyAnswers (f : Flow) (w : Closing) : Type 0 where
+  pub starts : (c x : ℕ) → start_of f c ≡ Some x → cell_in w c ≡ Some x
+  pub values : (c x : ℕ) → c < f.net.cells → cell_in w c ≡ Some x → HasValue f c x
+  pub least : (l : ℕ) → least_in w ≡ Some l → (l < f.net.strands) × (answer_of f l ≡ Refuses)

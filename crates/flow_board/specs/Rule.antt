@@ -1,8 +1,9 @@
 -- The rule that holds between any two steps on a board, whoever makes them
-use Rattle.std.specs.Prelude.{◌≡◌, ℕ, ◌+◌, ◌-◌, ◌^◌, ◌<◌, ◌≤◌, min, [], ◌++◌, Some, None, Option, slice_index, length}
+use Rattle.std.specs.Prelude.{◌≡◌, ℕ, ◌+◌, ◌-◌, ◌^◌, ◌<◌, ◌≤◌, min, [], ◌++◌, Some, None, Option, List, slice_index, slice_index_or, length}
 use mathlib.Core.Option.{some}
 use lib.ListN.{get_elem?}
 use Rattle.atomic_table.specs.Table as table
+use Rattle.gold_field.specs.declared.gold.TheConstants.{P}
 use Rattle.flow_core.specs.declared.Phase.{Phase}
 use Rattle.flow_core.specs.declared.Phase.TheVariants.{Waiting, Held, Done, Refused}
 use Rattle.flow_core.specs.declared.Hold.{Hold}
@@ -18,22 +19,39 @@ use Rattle.flow_board.specs.Shows.{Shows, least_word, cell_at, counter_at}
 
 -- the view of the first seat: nothing is done, and every part is its own
 abbrev pub first : Flow → View
-first f = record { flow = f; holding = None; done = []; refused = []; seen = f.net.strands; tried = 0; took = 0; told = 0; share = 65 }
+first f = record {
+  flow = f;
+  holding = None;
+  done = [];
+  refused = [];
+  seen = f.net.strands;
+  tried = 0;
+  took = 0;
+  told = 0;
+  steps = 0;
+  share = 65;
+}
 
 -- the view of a seat that was joined into another
 abbrev pub spent : View
-spent = record { flow = record { net = net 0 0 [] [] [] []; start = []; answers = [] }; holding = None; done = []; refused = []; seen = 0; tried = 0; took = 0; told = 0; share = 0 }
+spent = record (first (record { net = net 0 0 [] [] [] []; start = []; answers = [] })) { share = 0 }
 
 -- a seat is cut in two, and one of its parts goes to the new one
 abbrev pub left : View → View
-left v = record v { share = v.share - 1 }
+left v = record v { share = v.share - 1; steps = v.steps + 1 }
 
 abbrev pub right : View → View
-right v = record { flow = v.flow; holding = None; done = []; refused = []; seen = v.seen; tried = 0; took = 0; told = 0; share = 1 }
+right v = record (first v.flow) { seen = v.seen; share = 1 }
 
 -- a seat takes in another
 abbrev pub both : View → View → View
-both v w = record v { done = v.done ++ w.done; refused = v.refused ++ w.refused; seen = min v.seen w.seen; share = v.share + w.share }
+both v w = record v {
+  done = v.done ++ w.done;
+  refused = v.refused ++ w.refused;
+  seen = min v.seen w.seen;
+  steps = v.steps + w.steps + 1;
+  share = v.share + w.share;
+}
 
 abbrev pub done_mark : Phase → ℕ
 done_mark Waiting = 0
@@ -54,6 +72,10 @@ pub record SeatFits (f : Flow) (s : State) (j : ℕ) (v : View) : Type 0 where
   pub held : (h : Hold) → v.holding ≡ Some h → phase_of s h.strand ≡ Held j h.published h.released
   pub seen : 0 < v.share → least_word f s.least ≤ v.seen
 
+-- each cell that is filled has a number of the field
+abbrev pub HasNumbers : List (Option ℕ) → Type 0
+HasNumbers cells = (c x : ℕ) → slice_index_or cells c None ≡ Some x → x < P
+
 -- the words and the views show a state of the core that keeps its invariant
 pub record Ruled (f : Flow) (t : table.State ℕ View) : Type 0 where
   pub core : State
@@ -61,6 +83,7 @@ pub record Ruled (f : Flow) (t : table.State ℕ View) : Type 0 where
   pub net : IsNet f.net
   pub flow : IsFlow f
   pub kept : IsKept f core
+  pub numbers : HasNumbers core.cells
   pub shows : Shows f core t.words
   pub seats : (j : ℕ) (v : View) → get_elem? t.views j ≡ some v → SeatFits f core j v
   -- a strand is held, done or refused as the one view that names it says

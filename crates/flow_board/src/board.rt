@@ -1,9 +1,9 @@
-ghost use Rattle.std.specs.Prelude.{◌≡◌, ℕ, ◌+◌, ◌-◌, ◌<◌, ◌≤◌, ◌++◌, ◌↔◌, min, cond, List, [], ◌∷◌, Some, None, IsTrue, IfSome, MatchOption, slice_index};
-ghost use Rattle.flow_core.specs.Net.{succs_of};
+ghost use Rattle.std.specs.Prelude.{◌≡◌, ◌<◌, ◌≤◌, ◌↔◌, None, IsTrue, IfSome};
 ghost use Rattle.flow_core.specs.Flow.{Refuses, answer_of, HasValue};
-ghost use Rattle.flow_core.specs.Events.{hold};
-ghost use Rattle.flow_board.specs.Plays.{Reads, CanPublish, CanRelease, CanFinish, CanRefuse, one_published, one_released, with_held};
-ghost use Rattle.flow_board.specs.Seats.{cut_from, joined_with};
+ghost use Rattle.flow_board.specs.Plays.{Reads, CanPublish, CanRelease, CanFinish, CanRefuse};
+ghost use Rattle.flow_board.specs.Seats.{TellsNext, least_of, cut_from, joined_with, after_step, after_take};
+ghost use Rattle.flow_board.specs.Seats.{after_publish, after_release, after_look, after_finish};
+ghost use Rattle.flow_board.specs.Seats.{after_refuse, after_split};
 
 use crate::answers::Answers;
 use crate::rule::{Both, Finish, Halves, Look, Order, Publish, Read, Refuse, Release, TAKEN, Take};
@@ -51,7 +51,7 @@ impl<'g, A: Answers> Board<'g, A> {
         requires free { seat.old.holding ≡ None }
         requires near { strand < self.now.flow.net.strands }
         ensures found { IsTrue result ↔ (seat.new.took ≡ 0) }
-        ensures seat { seat.new ≡ record seat.old { holding = cond result (Some (hold strand 0 0)) None; tried = strand; took = seat.new.took } }
+        ensures seat { seat.new ≡ after_take seat.old strand result seat.new.took }
     {
         let word = 1 + self.cells as usize + strand as usize;
         let found = self
@@ -74,7 +74,7 @@ impl<'g, A: Answers> Board<'g, A> {
         requires own { seat.old.place ≡ self.now }
         requires reads { Reads self.now.flow seat.old.holding cell }
         ensures value { HasValue self.now.flow cell result }
-        ensures seat { seat.new ≡ seat.old }
+        ensures seat { seat.new ≡ after_step seat.old }
     {
         let word = self
             .table
@@ -90,7 +90,7 @@ impl<'g, A: Answers> Board<'g, A> {
     pub fn publish(&self, seat: &mut WorkSeat, value: Gold)
         requires own { seat.old.place ≡ self.now }
         requires next { CanPublish self.now.flow seat.old.holding value }
-        ensures { seat.new ≡ record seat.old { holding = one_published seat.old.holding } }
+        ensures { seat.new ≡ after_publish seat.old }
     {
         let Some(held) = seat.held else {
             unreachable!()
@@ -111,9 +111,9 @@ impl<'g, A: Answers> Board<'g, A> {
     pub fn release(&self, seat: &mut WorkSeat) -> Released
         requires own { seat.old.place ≡ self.now }
         requires next { CanRelease self.now.flow seat.old.holding }
-        ensures strand { IfSome seat.old.holding (λ h. result.strand ≡ slice_index (succs_of self.now.flow.net h.strand) h.released) }
+        ensures strand { TellsNext self.now.flow seat.old.holding result.strand }
         ensures ready { IsTrue result.ready ↔ (seat.new.told ≡ 1) }
-        ensures seat { seat.new ≡ record seat.old { holding = one_released seat.old.holding; told = seat.new.told } }
+        ensures seat { seat.new ≡ after_release seat.old seat.new.told }
     {
         let Some(held) = seat.held else {
             unreachable!()
@@ -141,7 +141,7 @@ impl<'g, A: Answers> Board<'g, A> {
         requires own { seat.old.place ≡ self.now }
         requires last { CanFinish self.now.flow seat.old.holding }
         ensures seen { seat.new.seen ≤ seat.old.seen }
-        ensures seat { seat.new ≡ record seat.old { holding = None; done = with_held seat.old.holding seat.old.done; seen = seat.new.seen } }
+        ensures seat { seat.new ≡ after_finish seat.old seat.new.seen }
     {
         let _least = self.table.shared.load::<Finish>(&mut seat.seat, 0);
         seat.held = None;
@@ -154,7 +154,7 @@ impl<'g, A: Answers> Board<'g, A> {
         requires none { CanRefuse self.now.flow seat.old.holding }
         ensures seen { seat.new.seen ≤ seat.old.seen }
         ensures own_refusal { IfSome seat.old.holding (λ h. seat.new.seen ≤ h.strand) }
-        ensures seat { seat.new ≡ record seat.old { holding = None; refused = with_held seat.old.holding seat.old.refused; seen = seat.new.seen } }
+        ensures seat { seat.new ≡ after_refuse seat.old seat.new.seen }
     {
         let Some(held) = seat.held else {
             unreachable!()
@@ -169,10 +169,11 @@ impl<'g, A: Answers> Board<'g, A> {
     /// The least strand that has been refused so far: one load.
     pub fn least(&self, seat: &mut WorkSeat) -> Option<u32>
         requires own { seat.old.place ≡ self.now }
-        ensures value { MatchOption result (seat.new.seen ≡ self.now.flow.net.strands) (λ l. (l ≡ seat.new.seen) × (l < self.now.flow.net.strands)) }
+        ensures value { result ≡ least_of self.now.flow seat.new.seen }
+        ensures near { seat.new.seen ≤ self.now.flow.net.strands }
         ensures refuses { IfSome result (λ l. answer_of self.now.flow l ≡ Refuses) }
         ensures seen { seat.new.seen ≤ seat.old.seen }
-        ensures seat { seat.new ≡ record seat.old { seen = seat.new.seen } }
+        ensures seat { seat.new ≡ after_look seat.old seat.new.seen }
     {
         let found = self.table.shared.load::<Look>(&mut seat.seat, 0);
         if found == u64::from(self.strands) {
@@ -187,7 +188,7 @@ impl<'g, A: Answers> Board<'g, A> {
         requires own { seat.old.place ≡ self.now }
         requires free { seat.old.holding ≡ None }
         requires many { 2 ≤ seat.old.share }
-        ensures kept { seat.new ≡ record seat.old { share = seat.old.share - 1 } }
+        ensures kept { seat.new ≡ after_split seat.old }
         ensures cut { result ≡ cut_from seat.old }
     {
         let cut = self.table.shared.split_seat::<Halves>(&mut seat.seat);

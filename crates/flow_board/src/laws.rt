@@ -1,13 +1,16 @@
 //! What the rule of a board says, as contracts of functions that do nothing.
-ghost use Rattle.std.specs.Prelude.{◌≡◌, ℕ, ◌<◌, List, slice_index};
+ghost use Rattle.std.specs.Prelude.{◌≡◌, ℕ, ◌<◌, IsTrue, List};
+ghost use mathlib.Core.Option.{some};
+ghost use lib.ListN.{get_elem?};
 ghost use Rattle.atomic_table.specs.Table.{State as TableState};
-ghost use Rattle.flow_core.specs.Net.{IsNet};
 ghost use Rattle.flow_core.specs.Flow.{Flow};
 ghost use Rattle.flow_board.specs.declared.view.View.{View as AView};
-ghost use Rattle.flow_board.specs.declared.rule.TheConstants.{TAKEN as taken};
-ghost use Rattle.flow_board.specs.Shows.{counter_at};
+ghost use Rattle.flow_core.specs.Quiet.{IsBelow};
+ghost use Rattle.flow_board.specs.Plays.{Sat};
+ghost use Rattle.flow_board.specs.Events.{WordSteps, SeatSteps};
 ghost use Rattle.flow_board.specs.Rule.{Ruled, SaysWho};
-ghost use Rattle.flow_board.specs.Closed.{Closes, IsDoneBelow};
+ghost use Rattle.flow_board.specs.Closed.{Closing, IsClosed, IsDoneBelow, HasOnlyAnswers};
+ghost use Rattle.flow_board.specs.Closed.{done_in, least_in};
 
 /// Between any two steps the counter words say who has a strand, and the cell that a worker fills
 /// next is empty.
@@ -15,7 +18,28 @@ pub fn the_rule_says_who_has_a_strand()
     ensures { (f : Flow) (t : TableState ℕ AView) → Ruled f t → SaysWho f t }
 {}
 
-/// In the words of a closed board a strand below the least refused one whose word is TAKEN is done.
+/// In the words of a closed board a strand below the least refused one whose word is TAKEN is done, and
+/// the cells that it writes have its answer's values.
 pub fn a_taken_strand_below_the_least_is_done()
-    ensures { (f : Flow) (done refused ws : List ℕ) (k : ℕ) → IsNet f.net → f.net.strands < 4294967296 → Closes f done refused ws → k < f.net.strands → k < slice_index ws 0 → slice_index ws (counter_at f k) ≡ taken → IsDoneBelow f done k }
+    ensures { (f : Flow) (done refused : List ℕ) (w : Closing) (k : ℕ)
+        → IsClosed f done refused w → k < f.net.strands
+        → IsBelow (least_in w) k → IsTrue (done_in w k) → IsDoneBelow f done w k }
+{}
+
+/// The words of a closed board show the answers' values and refusals, and no others.
+pub fn closed_words_have_only_answers()
+    ensures { (f : Flow) (done refused : List ℕ) (w : Closing)
+        → IsClosed f done refused w → HasOnlyAnswers f w }
+{}
+
+/// Each step on a word that a board's calls make is one event of the core, or leaves its state as it was:
+/// the calls make no other steps, for the table asks of each just what stands here.
+pub fn each_step_is_one_event_or_none()
+    ensures { (f : Flow) (slots id : ℕ) (m : Sat) → 0 < m.0.share → WordSteps f slots id m }
+{}
+
+/// Cutting a seat in two and joining two into one leave the core's state as it was.
+pub fn seats_are_split_and_joined_without_an_event()
+    ensures { (f : Flow) (t : TableState ℕ AView) (r : Ruled f t) (id : ℕ) (v : AView)
+        → get_elem? t.views id ≡ some v → 0 < v.share → SeatSteps f t r id v }
 {}

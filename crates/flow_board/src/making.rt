@@ -3,7 +3,7 @@ ghost use Rattle.std.specs.Prelude.{◌≡◌, ℕ, ◌+◌, ◌<◌, ◌^◌, l
 ghost use Rattle.std.specs.Slots.{slots_items, slots_len, IsFull};
 ghost use Rattle.flow_core.specs.Flow.{IsFlow};
 ghost use Rattle.flow_board.specs.Seats.{ListsStarts, first_seat};
-ghost use Rattle.flow_board.specs.Closed.{Closes};
+ghost use Rattle.flow_board.specs.Closed.{IsClosed};
 
 use crate::answers::Answers;
 use crate::board::Board;
@@ -52,9 +52,7 @@ impl<'g, A: Answers + Drop> Board<'g, A> {
         requires own { seat.place ≡ self }
         requires free { seat.holding ≡ None }
         requires whole { seat.share ≡ 65 }
-        ensures words { IfOk result (λ w. Closes self.entry.flow seat.done seat.refused w.words) }
-        ensures cells { IfOk result (λ w. w.cells ≡ self.entry.flow.net.cells) }
-        ensures strands { IfOk result (λ w. w.strands ≡ self.entry.flow.net.strands) }
+        ensures { IfOk result (IsClosed self.entry.flow seat.done seat.refused) }
     {
         let WorkSeat {
             seat: last,

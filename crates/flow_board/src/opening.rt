@@ -4,6 +4,7 @@ ghost use Rattle.flow_core.specs.Net.{preds_of};
 ghost use Rattle.flow_core.specs.Flow.{start_of, IsFlow};
 ghost use Rattle.flow_core.specs.Events.{opening};
 ghost use Rattle.flow_board.specs.Shows.{cell_word, Shows};
+ghost use Rattle.flow_board.specs.Rule.{HasNumbers};
 ghost use Rattle.flow_board.specs.Seats.{ListsStarts};
 
 use crate::answers::Answers;
@@ -31,6 +32,7 @@ fn write_starts<A: Answers>(graph: &Graph, start: &[(u32, Gold)], answers: &A, w
     requires wide { length words.old ≡ 1 + graph.now.cells + graph.now.strands }
     requires blank { (c : ℕ) → c < graph.now.cells → slice_index words.old (1 + c) ≡ 0 }
     ensures cells { (c : ℕ) → c < graph.now.cells → slice_index words.new (1 + c) ≡ cell_word (start_of (A.flow answers.now) c) }
+    ensures numbers { HasNumbers (A.flow answers.now).start }
     ensures least { slice_index words.new 0 ≡ slice_index words.old 0 }
     ensures counters { (i : ℕ) → 1 + graph.now.cells ≤ i → slice_index words.new i ≡ slice_index words.old i }
 {
@@ -50,7 +52,8 @@ pub fn opening_words<A: Answers>(
     requires net { (A.flow answers.now).net ≡ graph.now }
     requires flow { IsFlow (A.flow answers.now) }
     requires starts { ListsStarts (A.flow answers.now) start.now }
-    ensures { IfOk result (λ ws. Shows (A.flow answers.now) (opening (A.flow answers.now)) ws.items) }
+    ensures shows { IfOk result (λ ws. Shows (A.flow answers.now) (opening (A.flow answers.now)) ws.items) }
+    ensures numbers { IfOk result (λ _. HasNumbers (A.flow answers.now).start) }
 {
     let count = 1 + graph.cells as usize + graph.strands as usize;
     let mut words = vec![in alloc; 0u64; count]?;

@@ -20,6 +20,8 @@ pub struct View {
     pub ghost took: { ℕ },
     // The word that its last release found.
     pub ghost told: { ℕ },
+    // How many steps it has made, and those of the seats that it took in.
+    pub ghost steps: { ℕ },
     // How many of the board's 65 parts are its own.
     pub ghost share: { ℕ },
 }

@@ -112,11 +112,23 @@ keeps_honest f ok flow s h hon (Refuse w) says = holds_after (Honest f) (holding
     (λ x e t. let r = holds_found s w x e in let a = says x e (enabled_at (holding s w) can_refuse x e t) in let kept = goes f s x.strand Refused r.0 hon (λ q. cc) (λ _. a) in
     record { holds_values = record { starts = hon.holds_values.starts; values = hon.holds_values.values }; answers_kept = record { done_gives = kept.done_gives; refused_refuses = kept.refused_refuses } })
 
-pub keeps_all : (f : Flow) → IsNet f.net → IsFlow f → (s : State) → IsKept f s → (es : List Event) → AreHonest f s es → IsKept f (after_all f.net s es)
+pub keeps_kept : (f : Flow) → IsNet f.net → IsFlow f → (s : State) → IsKept f s → (e : Event) → IsHonest f s e
+    → IsKept f (after f.net s e)
+keeps_kept f ok flow s h e honest =
+    let st = steady f.net s h.sound in
+    let before : Honest f s = record { holds_values = h.holds_values; answers_kept = h.answers_kept } in
+    let hon = keeps_honest f ok flow s st before e honest in
+    record {
+      sound = sound f.net (after f.net s e) (keeps_steady f.net ok s st e);
+      holds_values = hon.holds_values;
+      answers_kept = hon.answers_kept;
+    }
+
+pub keeps_all : (f : Flow) → IsNet f.net → IsFlow f → (s : State) → IsKept f s → (es : List Event) → AreHonest f s es
+    → IsKept f (after_all f.net s es)
 keeps_all f ok flow s h [] says = h
-keeps_all f ok flow s h (e ∷ es) says = let st = steady f.net s h.sound in let next : State = after f.net s e in
-    let hon = keeps_honest f ok flow s st record { holds_values = h.holds_values; answers_kept = h.answers_kept } e says.0 in
-    keeps_all f ok flow next record { sound = sound f.net next (keeps_steady f.net ok s st e); holds_values = hon.holds_values; answers_kept = hon.answers_kept } es says.1
+keeps_all f ok flow s h (e ∷ es) says =
+    keeps_all f ok flow (after f.net s e) (keeps_kept f ok flow s h e says.0) es says.1
 
 pub waits_first : (n : Net) (start : List (Option ℕ)) (k : ℕ) → phase_of (opening_of n start) k ≡ Waiting
 waits_first n start k = get_or-all_same n.strands k Waiting

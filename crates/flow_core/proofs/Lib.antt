@@ -11,3 +11,5 @@ pub mod Rising
 pub mod Linked
 pub mod Draws
 pub mod Starts
+pub mod Tellings
+pub mod Values

@@ -1,6 +1,5 @@
 -- What each strand of a graph answers
 use Rattle.std.specs.Prelude.{◌≡◌, ℕ, ◌<◌, ◌↔◌, ◌⊎◌, List, length, slice_index, slice_index_or, Option, Some, None}
-use Rattle.gold_field.specs.declared.gold.TheConstants.{P}
 use Rattle.flow_core.specs.Counts.{IsIn}
 use Rattle.flow_core.specs.Net.{Net, reads_of, writes_of}
 
@@ -47,6 +46,5 @@ pub record IsFlow (f : Flow) : Type 0 where
   pub written_no_start : (k c : ℕ) → IsIn c (writes_of f.net k) → start_of f c ≡ None
   -- a list has one value for each cell that its strand writes
   pub values_each : (k : ℕ) (xs : List ℕ) → answer_of f k ≡ Gives xs → length xs ≡ length (writes_of f.net k)
-  pub values_below : (c x : ℕ) → HasValue f c x → x < P
   -- a strand is Unreached exactly where a cell that it reads has no value
   pub unreached : (k : ℕ) → k < f.net.strands → (answer_of f k ≡ Unreached) ↔ LacksRead f k

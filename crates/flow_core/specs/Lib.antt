@@ -4,4 +4,5 @@ pub mod Flow
 pub mod Core
 pub mod Events
 pub mod Quiet
+pub mod Told
 pub mod Drawn

@@ -1,16 +1,53 @@
 //! What holds of every run, as contracts of functions that do nothing.
-ghost use Rattle.std.specs.Prelude.{List};
+ghost use Rattle.std.specs.Prelude.{◌≡◌, ℕ, ◌+◌, ◌<◌, List, Option, length};
 ghost use Rattle.flow_core.specs.declared.state.Event.{Event as AnEvent};
 ghost use Rattle.flow_core.specs.declared.state.State.{State as AState};
-ghost use Rattle.flow_core.specs.Net.{Net, IsNet};
-ghost use Rattle.flow_core.specs.Flow.{Flow, IsFlow};
-ghost use Rattle.flow_core.specs.Core.{IsSound, IsKept};
-ghost use Rattle.flow_core.specs.Events.{opening, after, after_all, AreHonest};
+ghost use Rattle.flow_core.specs.Net.{Net, IsNet, preds_of};
+ghost use Rattle.flow_core.specs.Flow.{Flow, IsFlow, HasValue};
+ghost use Rattle.flow_core.specs.Core.{missing_of, IsSound, IsKept};
+ghost use Rattle.flow_core.specs.Events.{opening, opening_of, CanStart, after, after_all, IsHonest};
+ghost use Rattle.flow_core.specs.Events.{AreHonest};
+ghost use Rattle.flow_core.specs.Told.{times_told, times_ready};
 ghost use Rattle.flow_core.specs.Quiet.{IsQuiet, IsSettled, IsAnswered};
 
 /// Every event, honest or not, keeps what a state is sound by.
 pub fn every_event_keeps_a_state_sound()
     ensures { (n : Net) (s : AState) (e : AnEvent) → IsNet n → IsSound n s → IsSound n (after n s e) }
+{}
+
+/// Every honest event keeps the whole invariant.
+pub fn every_honest_event_keeps_the_invariant()
+    ensures {
+        (f : Flow) (s : AState) (e : AnEvent) → IsNet f.net → IsFlow f → IsKept f s
+            → IsHonest f s e → IsKept f (after f.net s e)
+    }
+{}
+
+/// A cell has at most one value.
+pub fn a_cell_has_one_value()
+    ensures {
+        (f : Flow) (c x y : ℕ) → IsNet f.net → IsFlow f → HasValue f c x → HasValue f c y → x ≡ y
+    }
+{}
+
+/// A strand's missing count falls by one at each release that tells it, and by nothing else. Once it
+/// is 0, just one of the releases that told the strand has found it at 1, and before that none has.
+pub fn one_release_finds_a_strand_ready()
+    ensures told {
+        (n : Net) (start : List (Option ℕ)) (es : List AnEvent) (k : ℕ) → IsNet n → CanStart n start
+            → times_told n (opening_of n start) es k + missing_of (after_all n (opening_of n start) es) k
+                ≡ length (preds_of n k)
+    }
+    ensures ready {
+        (n : Net) (start : List (Option ℕ)) (es : List AnEvent) (k : ℕ) → IsNet n → CanStart n start
+            → 0 < length (preds_of n k) → missing_of (after_all n (opening_of n start) es) k ≡ 0
+            → times_ready n (opening_of n start) es k ≡ 1
+    }
+    ensures not_yet {
+        (n : Net) (start : List (Option ℕ)) (es : List AnEvent) (k : ℕ) → IsNet n → CanStart n start
+            → 0 < missing_of (after_all n (opening_of n start) es) k
+            → times_ready n (opening_of n start) es k ≡ 0
+    }
 {}
 
 /// Over every honest list of events from the opening state, whatever workers they come from and in

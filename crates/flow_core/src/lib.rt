@@ -15,7 +15,8 @@ pub use drawing::GraphFault;
 pub use events::step;
 pub use graph::Graph;
 pub use laws::{
-    every_event_keeps_a_state_sound, every_honest_run_keeps_the_invariant,
+    a_cell_has_one_value, every_event_keeps_a_state_sound, every_honest_event_keeps_the_invariant,
+    every_honest_run_keeps_the_invariant, one_release_finds_a_strand_ready,
     quiet_states_are_settled, settled_states_have_the_answer,
 };
 pub use state::{Event, Hold, Phase, State};

@@ -2,7 +2,7 @@ use Rattle.std.proofs.Common.{◌≡◌, ℕ, ◌+◌, ◌<◌, ◌⊎◌, lengt
 use Rattle.std.specs.Prelude.{slice_get}
 use Rattle.flow_core.specs.Flow.{start_of}
 use Rattle.flow_board.specs.Shows.{cell_word}
-use Rattle.flow_board.proofs.Openings.{start_near, listed, each_next, written_next, all_written}
+use Rattle.flow_board.proofs.Openings.{start_near, listed, each_next, written_next, all_written, numbers_next, all_numbers}
 use Rattle.flow_board.proofs.opening.write_starts.Goals as goal
 
 pub bounds-words-cell : goal.bounds-words-cell
@@ -20,9 +20,13 @@ loop-pair-preserved g c = let f = g.A.Answers.flow c.args.answers.now in let p =
     record {
       each = subst E v (λ d lt. each_next f c.loop-pair.words p.0 p.1 d at near (c.loop-pair.invariant.each d lt));
       written = subst W v (written_next f c.args.start.now c.requires.starts c.loop-pair.words c.loop-pair.pair-index p c.loop-pair-test.true c.pair-item.is near c.loop-pair.invariant.written);
+      numbers = numbers_next c.args.start.now c.loop-pair.pair-index p c.loop-pair-test.true c.pair-item.is (let below = c.get.ensures.below in omega arith) c.loop-pair.invariant.numbers;
       least = get_or-set_other c.loop-pair.words (1 + p.0) 0 (c.get.result + 1) 0 (λ e. omega arith) ∙ c.loop-pair.invariant.least;
       counters = λ i le. get_or-set_other c.loop-pair.words (1 + p.0) i (c.get.result + 1) 0 (λ e. omega arith) ∙ c.loop-pair.invariant.counters i le;
     }
 
 pub returns-clause-cells : goal.returns-clause-cells
 returns-clause-cells g c = λ d lt. all_written (g.A.Answers.flow c.args.answers.now) c.args.start.now c.requires.starts c.loop-pair.words c.loop-pair.pair-index d c.loop-pair-test.false (c.loop-pair.invariant.each d lt) c.loop-pair.invariant.written
+
+pub returns-clause-numbers : goal.returns-clause-numbers
+returns-clause-numbers g c = all_numbers (g.A.Answers.flow c.args.answers.now) c.args.start.now c.requires.starts c.loop-pair.pair-index c.loop-pair-test.false c.loop-pair.invariant.numbers
