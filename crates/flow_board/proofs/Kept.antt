@@ -1,5 +1,7 @@
 -- The core's events as the board's steps use them: each keeps the whole invariant
-use Rattle.std.proofs.Common.{◌≡◌, ◌≢◌, ℕ, ◌<◌, Bool, true, false, cond, List, length, get_or, refl, sym, ◌∙◌, ap, subst, inl, inr, arith, Option, Some, IsTrue, is_none, unwrap_or}
+use Rattle.std.proofs.Common.{◌≡◌, ◌≢◌, ℕ, ◌<◌, Bool, true, false, cond, List, length, get_or, refl}
+use Rattle.std.proofs.Common.{sym, ◌∙◌, ap, subst, inl, inr, arith, Option, Some, IsTrue, is_none}
+use Rattle.std.proofs.Common.{unwrap_or}
 use Rattle.std.specs.Option.{option_map_or}
 use Rattle.std.proofs.lemmas.Bool.{and_from, eq-eqb, lt-ltb, cases_lt}
 use Rattle.flow_core.specs.declared.Phase.TheVariants.{Waiting, Held, Done}
@@ -11,18 +13,25 @@ use Rattle.flow_core.specs.Counts.{times}
 use Rattle.flow_core.specs.Net.{Net, IsNet, writes_of, preds_of, succs_of}
 use Rattle.flow_core.specs.Flow.{Flow, IsFlow, Refuses, Gives, answer_of}
 use Rattle.flow_core.specs.Core.{missing_of, phase_of, IsKept}
-use Rattle.flow_core.specs.Events.{hold, holding, is_waiting, is_enabled, effect, can_publish, can_release, can_finish, can_refuse, turned, published, released, refused, after, worker_of, IsHonestOf, IsHonest}
+use Rattle.flow_core.specs.Events.{hold, holding, is_waiting, is_enabled, can_publish}
+use Rattle.flow_core.specs.Events.{can_release, can_finish, can_refuse, turned, published, released}
+use Rattle.flow_core.specs.Events.{refused, after, worker_of, IsHonestOf, IsHonest}
 use Rattle.flow_core.proofs.Totals.{is_in_at, place_of}
 use Rattle.flow_core.proofs.Holding.{holds_found, finds_held, cases_hold}
 use Rattle.flow_core.proofs.Keeps.{keeps_kept}
 
-after_effect : (P : State → Type 0) (o : Option Hold) (test : Hold → Bool) (fx : Hold → State) (s : State) (x : Hold) → o ≡ Some x → test x ≡ true → P (cond (option_map_or test o false) (option_map_or fx o s) s) → P (fx x)
+after_effect : (P : State → Type 0) (o : Option Hold) (test : Hold → Bool) (fx : Hold
+    → State) (s : State) (x : Hold) → o ≡ Some x → test x ≡ true
+    → P (cond (option_map_or test o false) (option_map_or fx o s) s) → P (fx x)
 after_effect P o test fx s x e t h =
-    let Q : Option Hold → Type 0 = λ y. P (cond (option_map_or test y false) (option_map_or fx y s) s) in
+    let Q : Option Hold → Type 0 =
+    λ y. P (cond (option_map_or test y false) (option_map_or fx y s) s) in
     let R : Bool → Type 0 = λ b. P (cond b (fx x) s) in subst R t (subst Q e h)
 
-honest_at : (f : Flow) (s : State) (e : Event) (x : Hold) → holding s (worker_of e) ≡ Some x → IsHonestOf f e x → IsHonest f s e
-honest_at f s e x is h = λ y is' _. subst (IsHonestOf f e) (ap (λ (o : Option Hold). unwrap_or o x) (sym is ∙ is')) h
+honest_at : (f : Flow) (s : State) (e : Event) (x : Hold) → holding s (worker_of e) ≡ Some x
+    → IsHonestOf f e x → IsHonest f s e
+honest_at f s e x is h = λ y is' _. subst (IsHonestOf f e)
+    (ap (λ (o : Option Hold). unwrap_or o x) (sym is ∙ is')) h
 
 -- an honest event that is enabled, and the state after it
 pub record Makes (f : Flow) (s : State) (e : Event) (t : State) : Type 0 where
@@ -58,7 +67,8 @@ module _ (f : Flow) (ok : IsNet f.net) (flow : IsFlow f) (s : State) (h : IsKept
   -- an event of the worker j, which holds the strand k
   by_holder : (j k a b : ℕ) (e : Event) (test : Hold → Bool) (fx : Hold → State)
       → is_enabled f.net s e ≡ option_map_or test (holding s j) false
-      → after f.net s e ≡ cond (option_map_or test (holding s j) false) (option_map_or fx (holding s j) s) s
+      → after f.net s e ≡ cond (option_map_or test (holding s j) false)
+      (option_map_or fx (holding s j) s) s
       → worker_of e ≡ j → phase_of s k ≡ Held j a b → test (hold k a b) ≡ true
       → IsHonestOf f e (hold k a b) → Makes f s e (fx (hold k a b))
   by_holder j k a b e test fx on-is after-is worker is t honest =
@@ -82,27 +92,33 @@ module _ (f : Flow) (ok : IsNet f.net) (flow : IsFlow f) (s : State) (h : IsKept
       makes e (turned s k (Held j 0 0)) (λ x is _. tt) on
       (ap (λ (b : Bool). cond b (turned s k (Held j 0 0)) s) (sym on))
 
-  pub publish_made : (j k a b x : ℕ) (xs : List ℕ) → phase_of s k ≡ Held j a b → answer_of f k ≡ Gives xs
-      → a < length xs → get_or xs a 0 ≡ x → Makes f s (Publish j x) (published f.net s j x (hold k a b))
+  pub publish_made : (j k a b x : ℕ) (xs : List ℕ) → phase_of s k ≡ Held j a b
+      → answer_of f k ≡ Gives xs
+      → a < length xs → get_or xs a 0 ≡ x
+      → Makes f s (Publish j x) (published f.net s j x (hold k a b))
   publish_made j k a b x xs is gives left value =
       let each = flow.values_each k xs gives in
       by_holder j k a b (Publish j x) (can_publish f.net) (published f.net s j x) refl refl refl is
       (lt-ltb a (length (writes_of f.net k)) (omega arith)) (xs, gives, value)
 
-  pub release_made : (j k a b : ℕ) (xs : List ℕ) → phase_of s k ≡ Held j a b → answer_of f k ≡ Gives xs
-      → a ≡ length xs → b < length (succs_of f.net k) → Makes f s (Release j) (released f.net s j (hold k a b))
+  pub release_made : (j k a b : ℕ) (xs : List ℕ) → phase_of s k ≡ Held j a b
+      → answer_of f k ≡ Gives xs
+      → a ≡ length xs → b < length (succs_of f.net k)
+      → Makes f s (Release j) (released f.net s j (hold k a b))
   release_made j k a b xs is gives all left =
       let each = flow.values_each k xs gives in
       let full = eq-eqb a (length (writes_of f.net k)) (omega arith) in
       by_holder j k a b (Release j) (can_release f.net) (released f.net s j) refl refl refl is
       (and_from _ _ full (lt-ltb b (length (succs_of f.net k)) left)) (xs, gives)
 
-  pub finish_made : (j k a b : ℕ) (xs : List ℕ) → phase_of s k ≡ Held j a b → answer_of f k ≡ Gives xs
+  pub finish_made : (j k a b : ℕ) (xs : List ℕ) → phase_of s k ≡ Held j a b
+      → answer_of f k ≡ Gives xs
       → a ≡ length xs → b ≡ length (succs_of f.net k) → Makes f s (Finish j) (turned s k Done)
   finish_made j k a b xs is gives all told =
       let each = flow.values_each k xs gives in
       let full = eq-eqb a (length (writes_of f.net k)) (omega arith) in
-      by_holder j k a b (Finish j) (can_finish f.net) (λ x. turned s x.strand Done) refl refl refl is
+      by_holder j k a b (Finish j) (can_finish f.net) (λ x. turned s x.strand Done) refl refl refl
+      is
       (and_from _ _ full (eq-eqb b (length (succs_of f.net k)) told)) (xs, gives)
 
   pub refuse_made : (j k : ℕ) → phase_of s k ≡ Held j 0 0 → answer_of f k ≡ Refuses
@@ -112,10 +128,13 @@ module _ (f : Flow) (ok : IsNet f.net) (flow : IsFlow f) (s : State) (h : IsKept
       (and_from _ _ (eq-eqb 0 0 refl) (eq-eqb 0 0 refl)) stops
 
 -- a strand that writes nothing has no successor
-pub no_successor : (n : Net) → IsNet n → (k : ℕ) → length (writes_of n k) ≡ 0 → length (succs_of n k) ≡ 0
+pub no_successor : (n : Net) → IsNet n → (k : ℕ) → length (writes_of n k) ≡ 0
+    → length (succs_of n k) ≡ 0
 no_successor n ok k none = elim (cases_lt 0 (length (succs_of n k))) [
   | inl some ↦ (
-      let j : ℕ = get_or (succs_of n k) 0 0 in let inv = ok.inverse k j in let here = is_in_at (succs_of n k) 0 some in
-      let feeds = (ok.preds_feed k j).0 (let z : 0 < times k (preds_of n j) = omega arith in z) in let p = place_of feeds.0 (writes_of n k) feeds.1 in let less = p.1 in absurd (omega arith))
+      let j : ℕ = get_or (succs_of n k) 0 0 in let inv = ok.inverse k j in
+      let here = is_in_at (succs_of n k) 0 some in
+      let feeds = (ok.preds_feed k j).0 (let z : 0 < times k (preds_of n j) = omega arith in z) in
+      let p = place_of feeds.0 (writes_of n k) feeds.1 in let less = p.1 in absurd (omega arith))
   | inr ge ↦ omega arith
 ]

@@ -1,5 +1,6 @@
 -- Making a board, and copying its last words
-use Rattle.std.proofs.Common.{◌≡◌, ℕ, zero, suc, ◌+◌, ◌^◌, ◌<◌, List, [], ◌∷◌, ◌++◌, length, get_or, take, sym, ◌∙◌, ap, subst, arith}
+use Rattle.std.proofs.Common.{◌≡◌, ℕ, zero, suc, ◌+◌, ◌^◌, ◌<◌, List, [], ◌∷◌, ◌++◌, length, get_or}
+use Rattle.std.proofs.Common.{take, sym, ◌∙◌, ap, subst, arith}
 use mathlib.Core.Option.{some, some-injective, some-ne-none}
 use lib.ListN.{get_elem?}
 use Rattle.std.proofs.lemmas.List.{take_more}
@@ -19,16 +20,25 @@ elem_read [] i x e = absurd (some-ne-none x (sym e))
 elem_read (y ∷ xs) zero x e = some-injective y x e
 elem_read (y ∷ xs) (suc i) x e = elem_read xs i x e
 
-pub copied_more : (xs : List ℕ) (i x : ℕ) → get_elem? xs i ≡ some x → take (i + 1) xs ≡ take i xs ++ x ∷ []
-copied_more xs i x e = take_more xs i 0 (place_within xs i x e) ∙ ap (λ (y : ℕ). take i xs ++ y ∷ []) (elem_read xs i x e)
+pub copied_more : (xs : List ℕ) (i x : ℕ) → get_elem? xs i ≡ some x
+    → take (i + 1) xs ≡ take i xs ++ x ∷ []
+copied_more xs i x e = take_more xs i 0 (place_within xs i x e)
+    ∙ ap (λ (y : ℕ). take i xs ++ y ∷ []) (elem_read xs i x e)
 
-pub opens_board : (f : Flow) (n : Net) (ws : List ℕ) → f.net ≡ n → IsNet n → IsFlow f → n.strands < 4294967296 → HasNumbers f.start → Shows f (opening f) ws → Ruled f (table.opening ws [] (first f))
-opens_board f n ws same ok flow small numbers shows = let N : Net → Type 0 = λ m. m.strands < 2 ^ 32 in begins f ws (subst N (sym same) small) (subst IsNet (sym same) ok) flow numbers shows
+pub opens_board : (f : Flow) (n : Net) (ws : List ℕ) → f.net ≡ n → IsNet n → IsFlow f
+    → n.strands < 4294967296 → HasNumbers f.start → Shows f (opening f) ws
+    → Ruled f (table.opening ws [] (first f))
+opens_board f n ws same ok flow small numbers shows = let N : Net
+    → Type 0 = λ m. m.strands < 2 ^ 32 in
+    begins f ws (subst N (sym same) small) (subst IsNet (sym same) ok) flow numbers shows
 
-pub stands : (f : Flow) (n : Net) (cells strands : ℕ) (z : TableId) (ws : List ℕ) → f.net ≡ n → IsNet n → IsFlow f → cells ≡ n.cells → strands ≡ n.strands → cells < 4294967296 → strands < 4294967296
+pub stands : (f : Flow) (n : Net) (cells strands : ℕ) (z : TableId) (ws : List ℕ) → f.net ≡ n
+    → IsNet n → IsFlow f → cells ≡ n.cells → strands ≡ n.strands → cells < 4294967296
+    → strands < 4294967296
     → Shows f (opening f) ws → z.words ≡ length ws → z.slots ≡ 0 → Stands f n cells strands z
 stands f n cells strands z ws same ok flow c k c-small k-small shows words slots =
-    let c-is : f.net.cells ≡ n.cells = ap (λ (m : Net). m.cells) same in let k-is : f.net.strands ≡ n.strands = ap (λ (m : Net). m.strands) same in record {
+    let c-is : f.net.cells ≡ n.cells = ap (λ (m : Net). m.cells) same in
+    let k-is : f.net.strands ≡ n.strands = ap (λ (m : Net). m.strands) same in record {
       same_net = same;
       net = subst IsNet (sym same) ok;
       flow = flow;

@@ -1,12 +1,14 @@
 -- Each kind of step on a word is allowed: it keeps the rule, and tells what its caller is promised
-use Rattle.std.proofs.Common.{◌≡◌, ◌≢◌, ℕ, zero, suc, ◌+◌, ◌-◌, ◌%◌, ◌^◌, ◌<◌, ◌≤◌, min, Bool, true, cond, ◌==◌, List, ◌∷◌, length, take, get_or, set, refl, sym, ◌∙◌, ap, subst, inl, inr, ◌⊎◌, arith, Option, Some, None, unwrap_or, is_some, MatchOption}
+use Rattle.std.proofs.Common.{◌≡◌, ◌≢◌, ℕ, zero, suc, ◌+◌, ◌-◌, ◌%◌, ◌^◌, ◌<◌, ◌≤◌, min, Bool, true}
+use Rattle.std.proofs.Common.{cond, ◌==◌, List, ◌∷◌, length, take, get_or, set, refl, sym, ◌∙◌, ap}
+use Rattle.std.proofs.Common.{subst, inl, inr, ◌⊎◌, arith, Option, Some, None, unwrap_or, is_some}
+use Rattle.std.proofs.Common.{MatchOption}
 use mathlib.Core.Option.{some, some-injective, none}
 use prog.Atomic.{either}
 use lib.ListN.{get_elem?}
 use Rattle.std.specs.Option.{option_map_or}
 use Rattle.std.proofs.lemmas.Bool.{cases_lt, eq-eqb, ne_eqb, lt-ltb}
 use Rattle.std.proofs.lemmas.List.{set-get_or, get_or_past}
-use Rattle.atomic_table.specs.Table as table
 use Rattle.atomic_table.specs.Table.{step, keeps, stepped}
 use Rattle.atomic_table.proofs.Lists.{exchanged}
 use Rattle.gold_field.specs.declared.gold.TheConstants.{P}
@@ -19,7 +21,8 @@ use Rattle.flow_core.specs.declared.Hold.{Hold}
 use Rattle.flow_core.specs.Counts.{times, IsIn}
 use Rattle.flow_core.specs.Net.{Net, IsNet, reads_of, writes_of, preds_of, succs_of}
 use Rattle.flow_core.specs.Flow.{Flow, IsFlow, Refuses, HasValue, start_of, answer_of}
-use Rattle.flow_core.specs.Core.{cell_of, missing_of, phase_of, published_at, released_at, releases, IsKept}
+use Rattle.flow_core.specs.Core.{cell_of, missing_of, phase_of, published_at, released_at, releases}
+use Rattle.flow_core.specs.Core.{IsKept}
 use Rattle.flow_core.specs.Events.{hold}
 use Rattle.flow_core.proofs.Totals.{same_yes, same_no, total_full, is_in_at, place_of}
 use Rattle.flow_core.proofs.Steady.{steady, Next, next_waits, release_le}
@@ -29,19 +32,26 @@ use Rattle.flow_board.specs.declared.rule.TheConstants.{TAKEN}
 use Rattle.flow_board.specs.Shows.{cell_at, counter_at, least_word, cell_word, counter_word, Shows}
 use Rattle.flow_board.specs.Rule.{done_mark, refused_mark, HasNumbers, Ruled}
 use Rattle.flow_board.specs.Events.{Becomes, Shown, Evolves, WordSteps, taking}
-use Rattle.flow_board.specs.Plays.{Sat, one_more, tries, finishes_seeing, refuses_seeing, Reads, CanPublish, CanRelease, CanFinish, CanRefuse, one_published, one_released, with_held, read_play, publish_play, release_play, take_play, finish_play, refuse_play, look_play}
-use Rattle.flow_board.proofs.Kept.{Makes, take_made, publish_made, release_made, finish_made, refuse_made, no_successor}
-use Rattle.flow_board.proofs.Showing.{counter_free, lesser, shows_cell, shows_release, shows_take, shows_turn, shows_least}
+use Rattle.flow_board.specs.Plays.{Sat, one_more, tries, Reads}
+use Rattle.flow_board.specs.Plays.{CanPublish, CanRelease, CanFinish, CanRefuse, one_published}
+use Rattle.flow_board.specs.Plays.{one_released, with_held, read_play, publish_play, release_play}
+use Rattle.flow_board.specs.Plays.{take_play, finish_play, refuse_play, look_play}
+use Rattle.flow_board.proofs.Kept.{Makes, take_made, publish_made, release_made, finish_made}
+use Rattle.flow_board.proofs.Kept.{refuse_made, no_successor}
+use Rattle.flow_board.proofs.Showing.{counter_free, lesser, shows_cell, shows_release, shows_take}
+use Rattle.flow_board.proofs.Showing.{shows_turn, shows_least}
 use Rattle.flow_board.proofs.Moved.{Board, state, moves, notes}
 
 some_inj : (x y : Hold) → Some x ≡ Some y → x ≡ y
 some_inj x y e = ap (λ (o : Option Hold). unwrap_or o x) e
 
 -- a strand that has a phase of its own is in range
-pub strand_near : (f : Flow) (s : State) → IsKept f s → (k : ℕ) → phase_of s k ≢ Waiting → k < f.net.strands
+pub strand_near : (f : Flow) (s : State) → IsKept f s → (k : ℕ) → phase_of s k ≢ Waiting
+    → k < f.net.strands
 strand_near f s h k ne = elim (cases_lt k f.net.strands) [
   | inl near ↦ near
-  | inr far ↦ let each = h.sound.fits.phase_each in absurd (ne (get_or_past s.phase k Waiting (omega arith)))
+  | inr far ↦ let each = h.sound.fits.phase_each in
+      absurd (ne (get_or_past s.phase k Waiting (omega arith)))
 ]
 
 filled_some : (o : Option ℕ) → is_some o ≡ true → (x : ℕ) × (o ≡ Some x)
@@ -57,38 +67,56 @@ some_taken x zero xs h = absurd (omega arith)
 some_taken x (suc b) xs h = omega arith
 
 -- a strand that has released another has published all
-all_published : (n : Net) (s : State) (q : ℕ) (p : Phase) (k : ℕ) → phase_of s q ≡ p → ((q w a b : ℕ) → phase_of s q ≡ Held w a b → 0 < b → a ≡ length (writes_of n q))
-    → times k (take (released_at n q p) (succs_of n q)) ≡ 1 → published_at n q p ≡ length (writes_of n q)
+all_published : (n : Net) (s : State) (q : ℕ) (p : Phase) (k : ℕ) → phase_of s q ≡ p
+    → ((q w a b : ℕ) → phase_of s q ≡ Held w a b → 0 < b → a ≡ length (writes_of n q))
+    → times k (take (released_at n q p) (succs_of n q)) ≡ 1
+    → published_at n q p ≡ length (writes_of n q)
 all_published n s q Waiting k is first e = absurd (omega arith)
-all_published n s q (Held w a b) k is first e = first q w a b is (some_taken k b (succs_of n q) (omega arith))
+all_published n s q (Held w a b) k is first e =
+    first q w a b is (some_taken k b (succs_of n q) (omega arith))
 all_published n s q Done k is first e = refl
 all_published n s q Refused k is first e = absurd (omega arith)
 
 -- a cell that a begun strand reads has its value
-read_value : (f : Flow) (ok : IsNet f.net) (flow : IsFlow f) (s : State) → IsKept f s → (k c : ℕ) → phase_of s k ≢ Waiting → IsIn c (reads_of f.net k) → (x : ℕ) × (cell_of s c ≡ Some x) × HasValue f c x
+read_value : (f : Flow) (ok : IsNet f.net) (flow : IsFlow f) (s : State) → IsKept f s → (k c : ℕ)
+    → phase_of s k ≢ Waiting → IsIn c (reads_of f.net k) → (x : ℕ) × (cell_of s c ≡ Some x)
+    × HasValue f c x
 read_value f ok flow s h k c begun reads = elim (cases_start (start_of f c)) [
   | inl no-start ↦ (
       let w = flow.written_or_start c (ok.reads_near k c reads) no-start in let q : ℕ = w.0 in
       let is-pred : IsIn q (preds_of f.net k) = (ok.preds_feed q k).1 (c, w.1, reads) in
-      let all : releases f.net s k q ≡ 1 = total_full (releases f.net s k) q (preds_of f.net k) (release_le f.net ok s k) (h.sound.begun_released k begun) is-pred in
+      let all : releases f.net s k q ≡ 1 = total_full (releases f.net s k) q (preds_of f.net k)
+      (release_le f.net ok s k) (h.sound.begun_released k begun) is-pred in
       let place = place_of c (writes_of f.net q) w.1 in
-      let full : published_at f.net q (phase_of s q) ≡ length (writes_of f.net q) = all_published f.net s q (phase_of s q) k refl h.sound.fills_first.published_first all in
-      let filled = h.sound.fills_first.filled q place.0 place.1 ∙ lt-ltb place.0 (published_at f.net q (phase_of s q)) (let p = place.1 in omega arith) in
-      let P : ℕ → Type 0 = λ (d : ℕ). is_some (cell_of s d) ≡ true in let v = filled_some (cell_of s c) (subst P place.2 filled) in
+      let full : published_at f.net q (phase_of s q) ≡ length (writes_of f.net q) =
+      all_published f.net s q (phase_of s q) k refl h.sound.fills_first.published_first all in
+      let filled = h.sound.fills_first.filled q place.0 place.1
+      ∙ lt-ltb place.0 (published_at f.net q (phase_of s q)) (let p = place.1 in omega arith) in
+      let P : ℕ → Type 0 = λ (d : ℕ). is_some (cell_of s d) ≡ true in
+      let v = filled_some (cell_of s c) (subst P place.2 filled) in
       (v.0, v.1, h.holds_values.values c v.0 v.1))
-  | inr some-start ↦ (some-start.0, h.holds_values.starts c some-start.0 some-start.1, inl some-start.1)
+  | inr some-start ↦ (
+    some-start.0,
+    h.holds_values.starts c some-start.0 some-start.1,
+    inl some-start.1,
+  )
 ]
 
 pub none_some : (h : Hold) → None ≡ Some h → ⊥
 none_some h e = cc
 
 -- what the word `least` says of the answers
-pub least_told : (f : Flow) (s : State) → IsKept f s → (o : Option ℕ) → s.least ≡ o → (least_word f o ≤ f.net.strands) × (least_word f o < f.net.strands → answer_of f (least_word f o) ≡ Refuses)
+pub least_told : (f : Flow) (s : State) → IsKept f s → (o : Option ℕ) → s.least ≡ o
+    → (least_word f o ≤ f.net.strands) × (least_word f o < f.net.strands
+    → answer_of f (least_word f o) ≡ Refuses)
 least_told f s h None e = (omega arith, λ less. absurd (omega arith))
 least_told f s h (Some l) e =
-    let P : Option ℕ → Type 0 = λ o. MatchOption o ((k : ℕ) → phase_of s k ≢ Refused) (λ l. (phase_of s l ≡ Refused) × ((k : ℕ) → phase_of s k ≡ Refused → l ≤ k)) in
-    let is : phase_of s l ≡ Refused = (subst P e h.sound.least_refused).0 in
-    ((let near = strand_near f s h l (λ w. cc) in omega arith), λ _. h.answers_kept.refused_refuses l is)
+    let P : Option ℕ → Type 0 = λ o. MatchOption o ((k : ℕ) → phase_of s k ≢ Refused)
+    (λ l. (phase_of s l ≡ Refused) × ((k : ℕ) → phase_of s k ≡ Refused → l ≤ k)) in
+    let is : phase_of s l ≡ Refused = (subst P e h.sound.least_refused).0 in (
+      (let near = strand_near f s h l (λ w. cc) in omega arith),
+      λ _. h.answers_kept.refused_refuses l is,
+    )
 
 module _ (f : Flow) (slots id : ℕ) (m : Sat) (live : 0 < m.0.share) where
   flow_is : (t : Board) (r : Ruled f t) → get_elem? t.views id ≡ some m.0 → m.0.flow ≡ f
@@ -179,7 +207,8 @@ module _ (f : Flow) (slots id : ℕ) (m : Sat) (live : 0 < m.0.share) where
       let mark : done_mark (phase_of r.core k) ≡ 0 = ap done_mark is in
       let mark' : refused_mark (phase_of r.core k) ≡ 0 = ap refused_mark is in
       let w : View = record (one_more m.0) { holding = Some (hold k a' b'); told = n } in
-      moves f t r id m.0 at k (Held id a' b') w cs ms r.core.least ws near kept numbers shows (omega arith)
+      moves f t r id m.0 at k (Held id a' b') w cs ms r.core.least ws near kept numbers shows
+      (omega arith)
       (not_others r.core k a b is)
       (λ h e. (same_hold (hold k a b) h (sym holds ∙ e)).0)
       (λ j x y e. held_parts id a' b' j x y k e)
@@ -230,7 +259,8 @@ module _ (f : Flow) (slots id : ℕ) (m : Sat) (live : 0 < m.0.share) where
       let shows : Shows f (S c) (set t.words (cell_at c) (x + 1)) =
       shows_cell f r.core t.words r.shows k (Held id (a + 1) b) near.1 c x in-net (omega arith)
       (same_word t r k a b is) in
-      let e : Some (hold k (a + 1) b) ≡ one_published m.0.holding = ap one_published (sym p.holds) in
+      let e : Some (hold k (a + 1) b) ≡ one_published m.0.holding =
+      ap one_published (sym p.holds) in
       let numbers = one_filled r.core.cells c x (omega arith) small r.numbers in
       let next = holds_on t r at k a b (a + 1) b m.0.told p.holds (set r.core.cells c (Some x))
       r.core.missing (set t.words (cell_at c) (x + 1)) near.1 made.kept numbers shows in (
@@ -249,7 +279,8 @@ module _ (f : Flow) (slots id : ℕ) (m : Sat) (live : 0 < m.0.share) where
       let k : ℕ = p.held.strand in let a : ℕ = p.held.published in let b : ℕ = p.held.released in
       let is = o.held p.held p.holds in
       let near = strand_within t r k a b is in
-      let next' = next_waits f.net r.net r.core (steady f.net r.core r.kept.sound) k id a b is p.left in
+      let next' = next_waits f.net r.net r.core (steady f.net r.core r.kept.sound) k id a b is
+      p.left in
       let N : ℕ → Type 0 = λ d. Next f.net r.core k d in
       let next : N j = subst N (sym j-is) next' in
       let each = r.kept.sound.fits.missing_each in let in-list = next.near in
@@ -258,7 +289,8 @@ module _ (f : Flow) (slots id : ℕ) (m : Sat) (live : 0 < m.0.share) where
       (set r.core.phase k (Held id a (b + 1))) r.core.least in
       let K : ℕ → Type 0 = λ d. Makes f r.core (Release id) (S d) in
       let made : Makes f r.core (Release id) (S j) = subst K (sym j-is)
-      (release_made f r.net r.flow r.core r.kept id k a b p.values is p.gives p.all_published p.left) in
+      (release_made f r.net r.flow r.core r.kept id k a b p.values is p.gives p.all_published
+      p.left) in
       let n : ℕ = get_or t.words (counter_at f j) 0 in
       let ws : List ℕ = set t.words (counter_at f j) ((n + (2 ^ 64 - 1)) % 2 ^ 64) in
       let shows : Shows f (S j) ws =
@@ -278,20 +310,34 @@ module _ (f : Flow) (slots id : ℕ) (m : Sat) (live : 0 < m.0.share) where
       → (k a b : ℕ) (p : Phase) (ds rs : List ℕ) (seen : ℕ) (l : Option ℕ) (ws : List ℕ)
       → m.0.holding ≡ Some (hold k a b)
       → let s : State = state r.core.cells r.core.missing (set r.core.phase k p) l in
-      let w : View = record (one_more m.0) { holding = None; done = ds; refused = rs; seen = seen } in
+      let w : View = record (one_more m.0) {
+        holding = None;
+        done = ds;
+        refused = rs;
+        seen =
+            seen;
+      } in
       k < length r.core.phase → IsKept f s → Shows f s ws
       → least_word f l ≤ least_word f r.core.least → least_word f l ≤ seen
       → ((j x y : ℕ) → p ≢ Held j x y)
-      → ((i : ℕ) → i ≢ k → times i ds ≡ times i m.0.done) → times k ds ≡ times k m.0.done + done_mark p
+      → ((i : ℕ) → i ≢ k → times i ds ≡ times i m.0.done)
+      → times k ds ≡ times k m.0.done + done_mark p
       → ((i : ℕ) → i ≢ k → times i rs ≡ times i m.0.refused)
       → times k rs ≡ times k m.0.refused + refused_mark p
       → Shown f record { words = ws; homes = t.homes; views = set t.views id w } s
-  puts_down t r at k a b p ds rs seen l ws holds near kept shows less below unheld d-else d-k r-else r-k =
+  puts_down t r at k a b p ds rs seen l ws holds near kept shows less below unheld d-else d-k
+      r-else r-k =
       let o = r.seats id m.0 at in
       let is = o.held (hold k a b) holds in
       let mark : done_mark (phase_of r.core k) ≡ 0 = ap done_mark is in
       let mark' : refused_mark (phase_of r.core k) ≡ 0 = ap refused_mark is in
-      let w : View = record (one_more m.0) { holding = None; done = ds; refused = rs; seen = seen } in
+      let w : View = record (one_more m.0) {
+        holding = None;
+        done = ds;
+        refused = rs;
+        seen =
+            seen;
+      } in
       moves f t r id m.0 at k p w r.core.cells r.core.missing l ws near kept r.numbers shows less
       (not_others r.core k a b is)
       (λ h e. (same_hold (hold k a b) h (sym holds ∙ e)).0)
@@ -317,7 +363,8 @@ module _ (f : Flow) (slots id : ℕ) (m : Sat) (live : 0 < m.0.share) where
       (shows_turn f r.core t.words r.shows k Done near.1 (same_word t r k a b is)) in
       let e : (k ∷ m.0.done) ≡ with_held m.0.holding m.0.done =
       ap (λ (x : Option Hold). with_held x m.0.done) (sym p.holds) in
-      let next = puts_down t r at k a b Done (k ∷ m.0.done) m.0.refused found r.core.least ws p.holds
+      let next = puts_down t r at k a b Done (k ∷ m.0.done) m.0.refused found r.core.least ws
+      p.holds
       near.1 made.kept shows (omega arith) (omega arith) (λ j x y e. cc)
       (λ i ne. let z = same_no i k ne in omega arith) (let y = same_yes k k refl in omega arith)
       (λ i _. refl) (omega arith) in (
@@ -331,7 +378,8 @@ module _ (f : Flow) (slots id : ℕ) (m : Sat) (live : 0 < m.0.share) where
       )
 
   pub refuses : (k : ℕ) (p : CanRefuse f m.0.holding) → k ≡ p.held.strand
-      → Evolves f id m 0 (λ n. min n k) (λ _. Some (Refuse id)) (refuse_play (step slots 0 k 0 none) m)
+      → Evolves f id m 0 (λ n. min n k) (λ _. Some (Refuse id))
+      (refuse_play (step slots 0 k 0 none) m)
   refuses k p k-is t r at _ =
       let o = r.seats id m.0 at in
       let a : ℕ = p.held.published in let b : ℕ = p.held.released in
@@ -348,24 +396,30 @@ module _ (f : Flow) (slots id : ℕ) (m : Sat) (live : 0 < m.0.share) where
             let le = few.1 in absurd (omega arith))
         | inr ge ↦ omega arith
       ] in
-      let is-fresh : phase_of r.core k ≡ Held id 0 0 = is ∙ (λ i. Held id (none-out i) (none-released i)) in
+      let is-fresh : phase_of r.core k ≡ Held id 0 0 = is
+      ∙ (λ i. Held id (none-out i) (none-released i)) in
       let A : ℕ → Type 0 = λ i. answer_of f i ≡ Refuses in
-      let made = refuse_made f r.net r.flow r.core r.kept id k is-fresh (subst A (sym k-is) p.refuses) in
+      let made = refuse_made f r.net r.flow r.core r.kept id k is-fresh
+      (subst A (sym k-is) p.refuses) in
       let found : ℕ = get_or t.words 0 0 in
       let found-is : found ≡ least_word f r.core.least = r.shows.least_is in
       let lower : ℕ = option_map_or (λ l. min l k) r.core.least k in
       let l : Option ℕ = Some lower in
       let ws : List ℕ = set t.words 0 (min found k) in
-      let shows = shows_least f r.core t.words r.shows k Refused near.1 near.0 (same_word t r k a b is) in
+      let shows = shows_least f r.core t.words r.shows k Refused near.1 near.0
+      (same_word t r k a b is) in
       let lower-is : min found k ≡ lower =
       ap (λ (n : ℕ). min n k) found-is ∙ lesser f r.core.least k near.0 in
-      let holds-k : m.0.holding ≡ Some (hold k a b) = p.holds ∙ (λ i. Some (hold (sym k-is i) a b)) in
+      let holds-k : m.0.holding ≡ Some (hold k a b) = p.holds
+      ∙ (λ i. Some (hold (sym k-is i) a b)) in
       let e : (k ∷ m.0.refused) ≡ with_held m.0.holding m.0.refused =
       ap (λ (x : Option Hold). with_held x m.0.refused) (sym holds-k) in
-      let next = puts_down t r at k a b Refused m.0.done (k ∷ m.0.refused) (min found k) l ws holds-k
+      let next = puts_down t r at k a b Refused m.0.done (k ∷ m.0.refused)
+      (min found k) l ws holds-k
       near.1 made.kept shows (omega arith) (omega arith) (λ j x y e. cc)
       (λ i _. refl) (omega arith)
-      (λ i ne. let z = same_no i k ne in omega arith) (let y = same_yes k k refl in omega arith) in (
+      (λ i ne. let z = same_no i k ne in omega arith) (let y = same_yes k k refl in
+      omega arith) in (
         record (one_more m.0) { holding = None; refused = k ∷ m.0.refused; seen = min found k },
         next.0,
         (made.enabled, made.honest, next.1 ∙ made.is),
@@ -377,7 +431,8 @@ module _ (f : Flow) (slots id : ℕ) (m : Sat) (live : 0 < m.0.share) where
 
   abbrev Goes : (t : Board) → Ruled f t → ℕ → Option Event → (ℕ → Sat → Type 0) → ℕ → Type 0
   Goes t r i event then n =
-      (w : View) × (next : Ruled f (stepped t i n id m.1 w keeps)) × Becomes f r.core event next.core
+      (w : View) × (next : Ruled f (stepped t i n id m.1 w keeps))
+      × Becomes f r.core event next.core
       × then (get_or t.words i 0) (w, m.1)
 
   pub takes : (k : ℕ) → m.0.holding ≡ None → k < f.net.strands
@@ -395,12 +450,14 @@ module _ (f : Flow) (slots id : ℕ) (m : Sat) (live : 0 < m.0.share) where
       (λ hit.
       let test = sym (eq-eqb n 0 hit) in
       let open-strand =
-      counter_free (phase_of r.core k) (missing_of r.core k) (sym (r.shows.counter_is k near) ∙ hit) in
+      counter_free (phase_of r.core k) (missing_of r.core k) (sym (r.shows.counter_is k near)
+      ∙ hit) in
       let nobody : (j a b : ℕ) → phase_of r.core j ≢ Held id a b = λ j a b e.
       let x = r.holder j id a b e in
       let same-view : x.0 ≡ m.0 = some-injective _ _ (sym x.1 ∙ at) in
       none_some (hold j a b) (sym free ∙ ap (λ (u : View). u.holding) (sym same-view) ∙ x.2) in
-      let made = take_made f r.net r.flow r.core r.kept id k nobody near open-strand.0 open-strand.1 in
+      let made = take_made f r.net r.flow r.core r.kept id k nobody near open-strand.0
+      open-strand.1 in
       let shows = shows_take f r.core t.words r.shows k (Held id 0 0) (omega arith) near refl in
       let is = open-strand.0 in
       let mark : done_mark (phase_of r.core k) ≡ 0 = ap done_mark is in

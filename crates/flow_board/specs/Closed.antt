@@ -1,5 +1,6 @@
 -- What the words of a closed board show, and how they are read
-use Rattle.std.specs.Prelude.{◌≡◌, ◌≢◌, ℕ, ◌+◌, ◌-◌, ◌^◌, ◌<◌, ◌≤◌, ◌==◌, Bool, cond, List, length, slice_index, Option, Some, None}
+use Rattle.std.specs.Prelude.{◌≡◌, ◌≢◌, ℕ, ◌+◌, ◌-◌, ◌^◌, ◌<◌, ◌≤◌, ◌==◌, Bool, cond, List, length}
+use Rattle.std.specs.Prelude.{slice_index, Option, Some, None}
 use Rattle.gold_field.specs.declared.gold.TheConstants.{P}
 use Rattle.flow_core.specs.declared.Phase.TheVariants.{Held}
 use Rattle.flow_core.specs.declared.State.{State}
@@ -11,7 +12,8 @@ use Rattle.flow_board.specs.declared.rule.TheConstants.{TAKEN}
 use Rattle.flow_board.specs.Shows.{cell_at, Shows}
 use Rattle.flow_board.specs.Rule.{done_mark, refused_mark, HasNumbers}
 
--- the words show a state that keeps the core's invariant, in which no strand is held, and the done and refused strands are the two lists
+-- the words show a state that keeps the core's invariant, in which no strand is held, and the done
+-- and refused strands are the two lists
 pub record Closes (f : Flow) (done refused ws : List ℕ) : Type 0 where
   pub core : State
   pub narrow : f.net.strands < 2 ^ 32
@@ -42,7 +44,8 @@ pub record IsClosing (w : Closing) : Type 0 where
 
 -- a cell's value, a strand that is taken, and the least refused strand
 abbrev pub cell_in : Closing → ℕ → Option ℕ
-cell_in w c = cond (slice_index w.words (cell_at c) == 0) None (Some (slice_index w.words (cell_at c) - 1))
+cell_in w c = cond (slice_index w.words (cell_at c) == 0) None
+    (Some (slice_index w.words (cell_at c) - 1))
 
 abbrev pub done_in : Closing → ℕ → Bool
 done_in w k = slice_index w.words (1 + w.cells + k) == TAKEN
@@ -56,7 +59,8 @@ pub record IsClosed (f : Flow) (done refused : List ℕ) (w : Closing) : Type 0 
   pub cells_are : w.cells ≡ f.net.cells
   pub strands_are : w.strands ≡ f.net.strands
 
--- a strand below the least refused one whose word is TAKEN is done, so its answer is a list, and each cell that it writes has its value of that
+-- a strand below the least refused one whose word is TAKEN is done, so its answer is a list, and
+-- each cell that it writes has its value of that
 pub record IsDoneBelow (f : Flow) (done : List ℕ) (w : Closing) (k : ℕ) : Type 0 where
   pub listed : IsIn k done
   pub values : List ℕ
@@ -64,7 +68,8 @@ pub record IsDoneBelow (f : Flow) (done : List ℕ) (w : Closing) (k : ℕ) : Ty
   pub filled : (i : ℕ) → i < length (writes_of f.net k)
       → cell_in w (slice_index (writes_of f.net k) i) ≡ Some (slice_index values i)
 
--- a start cell has its value, a cell that has one has the flow's, and the least refused strand is one whose answer is a refusal
+-- a start cell has its value, a cell that has one has the flow's, and the least refused strand is
+-- one whose answer is a refusal
 pub record HasOnlyAnswers (f : Flow) (w : Closing) : Type 0 where
   pub starts : (c x : ℕ) → start_of f c ≡ Some x → cell_in w c ≡ Some x
   pub values : (c x : ℕ) → c < f.net.cells → cell_in w c ≡ Some x → HasValue f c x

@@ -1,5 +1,6 @@
 -- What a step of each kind does to the state that the words and views show
-use Rattle.std.specs.Prelude.{◌≡◌, ◌≢◌, ℕ, ◌+◌, ◌-◌, ◌%◌, ◌^◌, ◌<◌, ◌≤◌, ◌==◌, ◌++◌, min, cond, IsTrue, [], ◌∷◌, slice_index, slice_set, Option, Some, None}
+use Rattle.std.specs.Prelude.{◌≡◌, ◌≢◌, ℕ, ◌+◌, ◌-◌, ◌%◌, ◌^◌, ◌<◌, ◌≤◌, ◌==◌, ◌++◌, min, cond}
+use Rattle.std.specs.Prelude.{IsTrue, [], ◌∷◌, slice_index, slice_set, Option, Some, None}
 use mathlib.Core.Option.{some, none}
 use lib.ListN.{get_elem?}
 use prog.Atomic.{either}
@@ -11,14 +12,14 @@ use Rattle.flow_core.specs.declared.Event.TheVariants.{Take, Publish, Release, F
 use Rattle.flow_core.specs.declared.State.{State}
 use Rattle.flow_core.specs.Net.{writes_of, succs_of}
 use Rattle.flow_core.specs.Flow.{Flow}
-use Rattle.flow_core.specs.Core.{missing_of}
 use Rattle.flow_core.specs.Events.{is_enabled, after, IsHonest}
 use Rattle.flow_board.specs.declared.view.View.{View}
 use Rattle.flow_board.specs.declared.rule.TheConstants.{TAKEN}
 use Rattle.flow_board.specs.Shows.{cell_at, counter_at}
 use Rattle.flow_board.specs.Rule.{Ruled, left, right, both, spent}
-use Rattle.flow_board.specs.Plays.{Sat, Reads, CanPublish, CanRelease, CanFinish, CanRefuse}
-use Rattle.flow_board.specs.Plays.{read_play, publish_play, release_play, take_play, finish_play, refuse_play, look_play}
+use Rattle.flow_board.specs.Plays.{Sat, CanPublish, CanRelease, CanFinish, CanRefuse}
+use Rattle.flow_board.specs.Plays.{read_play, publish_play, release_play, take_play, finish_play}
+use Rattle.flow_board.specs.Plays.{refuse_play, look_play}
 
 -- one event, which is enabled and honest, or none
 abbrev pub Becomes : Flow → State → Option Event → State → Type 0
@@ -29,13 +30,16 @@ Becomes f s (Some e) s' = IsTrue (is_enabled f.net s e) × IsHonest f s e × (s'
 abbrev pub Shown : Flow → table.State ℕ View → State → Type 0
 Shown f t s = (r : Ruled f t) × (r.core ≡ s)
 
--- Whatever the table is when the word i becomes g of the number that the seat finds there: the words and views show the state before, or that after the event of this number, and the seat is told what is promised
+-- Whatever the table is when the word i becomes g of the number that the seat finds there: the
+-- words and views show the state before, or that after the event of this number, and the seat is
+-- told what is promised
 abbrev pub Evolves : Flow → ℕ → Sat → ℕ → (ℕ → ℕ) → (ℕ → Option Event) → (ℕ → Sat → Type 0) → Type 0
 Evolves f id m i g event told =
     (t : table.State ℕ View) (r : Ruled f t) → get_elem? t.views id ≡ some m.0
     → slice_index t.words i < 18446744073709551616
     → (w : View) × (next : Ruled f (stepped t i (g (slice_index t.words i)) id m.1 w keeps))
-    × Becomes f r.core (event (slice_index t.words i)) next.core × told (slice_index t.words i) (w, m.1)
+    × Becomes f r.core (event (slice_index t.words i)) next.core
+    × told (slice_index t.words i) (w, m.1)
 
 -- a worker's number is its seat's place among the views
 abbrev pub taking : ℕ → ℕ → ℕ → Option Event
@@ -64,9 +68,11 @@ pub record WordSteps (f : Flow) (slots id : ℕ) (m : Sat) : Type 0 where
       (refuse_play (step slots 0 k 0 none) m)
 
 -- two steps that change two views and no word
-pub record SeatSteps (f : Flow) (t : table.State ℕ View) (r : Ruled f t) (id : ℕ) (v : View) : Type 0 where
+pub record SeatSteps (f : Flow) (t : table.State ℕ View) (r : Ruled f t) (id : ℕ)
+    (v : View) : Type 0 where
   pub split : v.holding ≡ None → 2 ≤ v.share
       → Shown f (record t { views = slice_set t.views id (left v) ++ right v ∷ [] }) r.core
   pub join : (other : ℕ) (w : View) → v.holding ≡ None → w.holding ≡ None → 0 < w.share → other ≢ id
       → get_elem? t.views other ≡ some w
-      → Shown f (record t { views = slice_set (slice_set t.views id (both v w)) other spent }) r.core
+      → Shown f (record t { views = slice_set (slice_set t.views id (both v w)) other spent })
+      r.core

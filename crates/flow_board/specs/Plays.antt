@@ -1,5 +1,6 @@
 -- What each step tells its caller: of the step, the seat before, the word found and the seat after
-use Rattle.std.specs.Prelude.{◌≡◌, ℕ, ◌+◌, ◌<◌, ◌≤◌, ◌==◌, min, cond, List, ◌∷◌, length, slice_index, Option, Some, None}
+use Rattle.std.specs.Prelude.{◌≡◌, ℕ, ◌+◌, ◌<◌, ◌≤◌, ◌==◌, min, cond, List, ◌∷◌, length}
+use Rattle.std.specs.Prelude.{slice_index, Option, Some, None}
 use mathlib.Core.Option.{some}
 use Rattle.atomic_table.specs.Table.{Me, Step}
 use Rattle.gold_field.specs.declared.gold.TheConstants.{P}
@@ -79,7 +80,12 @@ Finds f c r = (x : ℕ) × (r ≡ x + 1) × HasValue f c x × (x < P)
 -- a view after a try of the strand k, whose word was r
 abbrev pub tries : View → ℕ → ℕ → View
 tries v k r =
-    record (one_more v) { holding = cond (r == 0) (Some (hold k 0 0)) v.holding; tried = k; took = r }
+    record (one_more v) {
+      holding = cond (r == 0) (Some (hold k 0 0)) v.holding;
+      tried = k;
+      took =
+          r;
+    }
 
 -- a view after its strand was given up as done or as refused, where `least` was seen to be l
 abbrev pub finishes_seeing : View → ℕ → View

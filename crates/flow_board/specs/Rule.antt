@@ -1,5 +1,6 @@
 -- The rule that holds between any two steps on a board, whoever makes them
-use Rattle.std.specs.Prelude.{◌≡◌, ℕ, ◌+◌, ◌-◌, ◌^◌, ◌<◌, ◌≤◌, min, [], ◌++◌, Some, None, Option, List, slice_index, slice_index_or, length}
+use Rattle.std.specs.Prelude.{◌≡◌, ℕ, ◌+◌, ◌-◌, ◌^◌, ◌<◌, ◌≤◌, min, [], ◌++◌, Some, None, Option}
+use Rattle.std.specs.Prelude.{List, slice_index, slice_index_or, length}
 use mathlib.Core.Option.{some}
 use lib.ListN.{get_elem?}
 use Rattle.atomic_table.specs.Table as table
@@ -34,7 +35,8 @@ first f = record {
 
 -- the view of a seat that was joined into another
 abbrev pub spent : View
-spent = record (first (record { net = net 0 0 [] [] [] []; start = []; answers = [] })) { share = 0 }
+spent = record (first (record { net = net 0 0 [] [] [] []; start = []; answers = [] }))
+    { share = 0 }
 
 -- a seat is cut in two, and one of its parts goes to the new one
 abbrev pub left : View → View
@@ -87,7 +89,8 @@ pub record Ruled (f : Flow) (t : table.State ℕ View) : Type 0 where
   pub shows : Shows f core t.words
   pub seats : (j : ℕ) (v : View) → get_elem? t.views j ≡ some v → SeatFits f core j v
   -- a strand is held, done or refused as the one view that names it says
-  pub holder : (k j a b : ℕ) → phase_of core k ≡ Held j a b → (v : View) × (get_elem? t.views j ≡ some v) × (v.holding ≡ Some (hold k a b))
+  pub holder : (k j a b : ℕ) → phase_of core k ≡ Held j a b
+      → (v : View) × (get_elem? t.views j ≡ some v) × (v.holding ≡ Some (hold k a b))
   pub done_is : (k : ℕ) → total (λ v. times k v.done) t.views ≡ done_mark (phase_of core k)
   pub refused_is : (k : ℕ) → total (λ v. times k v.refused) t.views ≡ refused_mark (phase_of core k)
   pub shares : total (λ v. v.share) t.views ≡ 65
@@ -100,9 +103,13 @@ hold_mark k (Some h) = same k h.strand
 abbrev pub names : ℕ → View → ℕ
 names k v = hold_mark k v.holding + times k v.done + times k v.refused
 
--- Where a strand's word is 0 no seat names it, where it is TAKEN just one does, and the next cell of a held strand is empty
+-- Where a strand's word is 0 no seat names it, where it is TAKEN just one does, and the next cell
+-- of a held strand is empty
 pub record SaysWho (f : Flow) (t : table.State ℕ View) : Type 0 where
-  pub free : (k : ℕ) → k < f.net.strands → slice_index t.words (counter_at f k) ≡ 0 → total (names k) t.views ≡ 0
-  pub taken : (k : ℕ) → k < f.net.strands → slice_index t.words (counter_at f k) ≡ TAKEN → total (names k) t.views ≡ 1
-  pub next_empty : (j : ℕ) (v : View) (h : Hold) → get_elem? t.views j ≡ some v → v.holding ≡ Some h → h.published < length (writes_of f.net h.strand)
+  pub free : (k : ℕ) → k < f.net.strands → slice_index t.words (counter_at f k) ≡ 0
+      → total (names k) t.views ≡ 0
+  pub taken : (k : ℕ) → k < f.net.strands → slice_index t.words (counter_at f k) ≡ TAKEN
+      → total (names k) t.views ≡ 1
+  pub next_empty : (j : ℕ) (v : View) (h : Hold) → get_elem? t.views j ≡ some v
+      → v.holding ≡ Some h → h.published < length (writes_of f.net h.strand)
       → slice_index t.words (cell_at (slice_index (writes_of f.net h.strand) h.published)) ≡ 0

@@ -1,5 +1,6 @@
 -- What contracts see of a board and of a seat
-use Rattle.std.specs.Prelude.{◌≡◌, ℕ, ◌+◌, ◌-◌, ◌<◌, ◌++◌, Bool, cond, min, IfSome, ◌==◌, slice_index, List, [], slice_get, Option, Some, None}
+use Rattle.std.specs.Prelude.{◌≡◌, ℕ, ◌+◌, ◌-◌, ◌<◌, ◌++◌, Bool, cond, min, IfSome, ◌==◌}
+use Rattle.std.specs.Prelude.{slice_index, List, [], slice_get, Option, Some, None}
 use Rattle.atomic_table.specs.Seated.{TableId}
 use Rattle.flow_core.specs.declared.Hold.{Hold}
 use Rattle.flow_core.specs.Net.{Net, IsNet, succs_of}
@@ -62,7 +63,12 @@ after_step w = record w { steps = w.steps + 1 }
 
 -- it has tried the strand k, and found n as its word
 abbrev pub after_take : Worker → ℕ → Bool → ℕ → Worker
-after_take w k got n = record (after_step w) { holding = cond got (Some (hold k 0 0)) None; tried = k; took = n }
+after_take w k got n = record (after_step w) {
+  holding = cond got (Some (hold k 0 0)) None;
+  tried =
+      k;
+  took = n;
+}
 
 abbrev pub after_publish : Worker → Worker
 after_publish w = record (after_step w) { holding = one_published w.holding }
@@ -79,7 +85,11 @@ abbrev pub after_finish : Worker → ℕ → Worker
 after_finish w l = record (after_look w l) { holding = None; done = with_held w.holding w.done }
 
 abbrev pub after_refuse : Worker → ℕ → Worker
-after_refuse w l = record (after_look w l) { holding = None; refused = with_held w.holding w.refused }
+after_refuse w l = record (after_look w l) {
+  holding = None;
+  refused =
+      with_held w.holding w.refused;
+}
 
 -- a part of it went to a new seat
 abbrev pub after_split : Worker → Worker

@@ -1,5 +1,6 @@
 -- The words of a board, and the state of the core that they show
-use Rattle.std.specs.Prelude.{◌≡◌, ℕ, ◌+◌, ◌<◌, List, length, slice_index, Option, Some, None, unwrap_or}
+use Rattle.std.specs.Prelude.{◌≡◌, ℕ, ◌+◌, ◌<◌, List, length, slice_index, Option, Some, None}
+use Rattle.std.specs.Prelude.{unwrap_or}
 use Rattle.flow_core.specs.declared.Phase.{Phase}
 use Rattle.flow_core.specs.declared.Phase.TheVariants.{Waiting, Held, Done, Refused}
 use Rattle.flow_core.specs.declared.State.{State}
@@ -32,4 +33,5 @@ pub record Shows (f : Flow) (s : State) (ws : List ℕ) : Type 0 where
   pub wide : length ws ≡ 1 + f.net.cells + f.net.strands
   pub least_is : slice_index ws 0 ≡ least_word f s.least
   pub cell_is : (c : ℕ) → c < f.net.cells → slice_index ws (cell_at c) ≡ cell_word (cell_of s c)
-  pub counter_is : (k : ℕ) → k < f.net.strands → slice_index ws (counter_at f k) ≡ counter_word (phase_of s k) (missing_of s k)
+  pub counter_is : (k : ℕ) → k < f.net.strands
+      → slice_index ws (counter_at f k) ≡ counter_word (phase_of s k) (missing_of s k)

@@ -1,7 +1,8 @@
 ghost use Rattle.std.specs.Prelude.{◌≡◌, ◌<◌, ◌≤◌, ◌↔◌, None, IsTrue, IfSome};
 ghost use Rattle.flow_core.specs.Flow.{Refuses, answer_of, HasValue};
 ghost use Rattle.flow_board.specs.Plays.{Reads, CanPublish, CanRelease, CanFinish, CanRefuse};
-ghost use Rattle.flow_board.specs.Seats.{TellsNext, least_of, cut_from, joined_with, after_step, after_take};
+ghost use Rattle.flow_board.specs.Seats.{TellsNext, least_of, cut_from, joined_with, after_step};
+ghost use Rattle.flow_board.specs.Seats.{after_take};
 ghost use Rattle.flow_board.specs.Seats.{after_publish, after_release, after_look, after_finish};
 ghost use Rattle.flow_board.specs.Seats.{after_refuse, after_split};
 
@@ -16,8 +17,8 @@ use std::alloc::Global;
 use std::marker::Model;
 use std::snapshot::Snapshot;
 
-/// A graph's cells and counters as words that threads share. No call between `make` and `close` takes
-/// memory, a lock or a handle.
+/// A graph's cells and counters as words that threads share. No call between `make` and `close`
+/// takes memory, a lock or a handle.
 #[derive(Drop)]
 pub struct Board<'g, A: Answers> {
     pub(crate) table: Table<u32, View, Snapshot<A>, Order<A>, Global>,
@@ -40,12 +41,13 @@ impl<'g, A: Answers> Model for Board<'g, A> {
 
     ghost view = { λ b. place b.table.shared.table_id (A.flow b.table.shared.key.value) };
 
-    ghost invariant = { λ b. Stands (A.flow b.table.shared.key.value) b.graph.now b.cells b.strands b.table.shared.table_id };
+    ghost invariant = { λ b. Stands (A.flow b.table.shared.key.value) b.graph.now b.cells
+        b.strands b.table.shared.table_id };
 }
 
 impl<'g, A: Answers> Board<'g, A> {
-    /// Takes a strand, where its word is 0: one compare-exchange on that word, whose answer is false
-    /// exactly where it found another.
+    /// Takes a strand, where its word is 0: one compare-exchange on that word, whose answer is
+    /// false exactly where it found another.
     pub fn take(&self, seat: &mut WorkSeat, strand: u32) -> bool
         requires own { seat.old.place ≡ self.now }
         requires free { seat.old.holding ≡ None }
@@ -147,8 +149,8 @@ impl<'g, A: Answers> Board<'g, A> {
         seat.held = None;
     }
 
-    /// Gives up the seat's strand as refused: one step by which the word of the least refused strand
-    /// becomes the lesser of itself and this one.
+    /// Gives up the seat's strand as refused: one step by which the word of the least refused
+    /// strand becomes the lesser of itself and this one.
     pub fn refuse(&self, seat: &mut WorkSeat)
         requires own { seat.old.place ≡ self.now }
         requires none { CanRefuse self.now.flow seat.old.holding }

@@ -18,8 +18,8 @@ pub fn the_rule_says_who_has_a_strand()
     ensures { (f : Flow) (t : TableState ℕ AView) → Ruled f t → SaysWho f t }
 {}
 
-/// In the words of a closed board a strand below the least refused one whose word is TAKEN is done, and
-/// the cells that it writes have its answer's values.
+/// In the words of a closed board a strand below the least refused one whose word is TAKEN is done,
+/// and the cells that it writes have its answer's values.
 pub fn a_taken_strand_below_the_least_is_done()
     ensures { (f : Flow) (done refused : List ℕ) (w : Closing) (k : ℕ)
         → IsClosed f done refused w → k < f.net.strands
@@ -32,8 +32,8 @@ pub fn closed_words_have_only_answers()
         → IsClosed f done refused w → HasOnlyAnswers f w }
 {}
 
-/// Each step on a word that a board's calls make is one event of the core, or leaves its state as it was:
-/// the calls make no other steps, for the table asks of each just what stands here.
+/// Each step on a word that a board's calls make is one event of the core, or leaves its state as
+/// it was: the calls make no other steps, for the table asks of each just what stands here.
 pub fn each_step_is_one_event_or_none()
     ensures { (f : Flow) (slots id : ℕ) (m : Sat) → 0 < m.0.share → WordSteps f slots id m }
 {}

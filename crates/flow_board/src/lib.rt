@@ -1,5 +1,5 @@
-//! The witness engine's core as a table of words that threads change in single atomic steps, with no
-//! lock: each step is one event of the core, or leaves its state as it was.
+//! The witness engine's core as a table of words that threads change in single atomic steps, with
+//! no lock: each step is one event of the core, or leaves its state as it was.
 #![tactic(auto)]
 
 mod answers;

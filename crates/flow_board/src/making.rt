@@ -18,8 +18,8 @@ use std::alloc::{AllocError, Global};
 use std::snapshot::Snapshot;
 
 impl<'g, A: Answers + Drop> Board<'g, A> {
-    /// A board over a graph, and the seat that has all of it. `start` has the start cells with their
-    /// values, in any order.
+    /// A board over a graph, and the seat that has all of it. `start` has the start cells with
+    /// their values, in any order.
     pub fn make(
         alloc: Global,
         graph: &'g Graph,

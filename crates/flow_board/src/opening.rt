@@ -15,8 +15,10 @@ use std::alloc::{AllocError, Global};
 /// Each counter word becomes the number of its strand's predecessors.
 fn write_counters(graph: &Graph, words: &mut [u64])
     requires { length words.old ≡ 1 + graph.now.cells + graph.now.strands }
-    ensures counters { (k : ℕ) → k < graph.now.strands → slice_index words.new (1 + graph.now.cells + k) ≡ length (preds_of graph.now k) }
-    ensures others { (i : ℕ) → i < 1 + graph.now.cells → slice_index words.new i ≡ slice_index words.old i }
+    ensures counters { (k : ℕ) → k < graph.now.strands
+        → slice_index words.new (1 + graph.now.cells + k) ≡ length (preds_of graph.now k) }
+    ensures others { (i : ℕ) → i < 1 + graph.now.cells
+        → slice_index words.new i ≡ slice_index words.old i }
 {
     let base = 1 + graph.cells as usize;
     for strand in 0..graph.strands {
@@ -31,10 +33,12 @@ fn write_starts<A: Answers>(graph: &Graph, start: &[(u32, Gold)], answers: &A, w
     requires starts { ListsStarts (A.flow answers.now) start.now }
     requires wide { length words.old ≡ 1 + graph.now.cells + graph.now.strands }
     requires blank { (c : ℕ) → c < graph.now.cells → slice_index words.old (1 + c) ≡ 0 }
-    ensures cells { (c : ℕ) → c < graph.now.cells → slice_index words.new (1 + c) ≡ cell_word (start_of (A.flow answers.now) c) }
+    ensures cells { (c : ℕ) → c < graph.now.cells
+        → slice_index words.new (1 + c) ≡ cell_word (start_of (A.flow answers.now) c) }
     ensures numbers { HasNumbers (A.flow answers.now).start }
     ensures least { slice_index words.new 0 ≡ slice_index words.old 0 }
-    ensures counters { (i : ℕ) → 1 + graph.now.cells ≤ i → slice_index words.new i ≡ slice_index words.old i }
+    ensures counters { (i : ℕ) → 1 + graph.now.cells ≤ i
+        → slice_index words.new i ≡ slice_index words.old i }
 {
     for pair in start {
         let (cell, value) = *pair;
@@ -52,7 +56,8 @@ pub fn opening_words<A: Answers>(
     requires net { (A.flow answers.now).net ≡ graph.now }
     requires flow { IsFlow (A.flow answers.now) }
     requires starts { ListsStarts (A.flow answers.now) start.now }
-    ensures shows { IfOk result (λ ws. Shows (A.flow answers.now) (opening (A.flow answers.now)) ws.items) }
+    ensures shows { IfOk result (λ ws. Shows (A.flow answers.now)
+        (opening (A.flow answers.now)) ws.items) }
     ensures numbers { IfOk result (λ _. HasNumbers (A.flow answers.now).start) }
 {
     let count = 1 + graph.cells as usize + graph.strands as usize;

@@ -1,5 +1,6 @@
 ghost use Rattle.flow_board.specs.Rule.{Ruled, first, left, right, both, spent};
-ghost use Rattle.flow_board.specs.Plays.{read_play, publish_play, release_play, take_play, finish_play, refuse_play, look_play};
+ghost use Rattle.flow_board.specs.Plays.{read_play, publish_play, release_play, take_play};
+ghost use Rattle.flow_board.specs.Plays.{finish_play, refuse_play, look_play};
 
 use crate::answers::Answers;
 use crate::view::View;

@@ -21,7 +21,8 @@ impl Model for WorkSeat {
 
     ghost view = { λ s. worker s.seat.table_id s.seat.me.0 };
 
-    ghost invariant = { λ s. (s.seat.me.0.holding ≡ s.held) × (0 < s.seat.me.0.share) × (s.seat.me.1 ≡ []) };
+    ghost invariant = { λ s. (s.seat.me.0.holding ≡ s.held) × (0 < s.seat.me.0.share)
+        × (s.seat.me.1 ≡ []) };
 }
 
 impl WorkSeat {

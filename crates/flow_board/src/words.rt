@@ -34,8 +34,8 @@ impl Words {
         if word == 0 { None } else { Gold::new(word - 1) }
     }
 
-    /// Whether a strand's word is that of a strand which was taken: below the least refused strand it
-    /// is done.
+    /// Whether a strand's word is that of a strand which was taken: below the least refused strand
+    /// it is done.
     pub fn done(&self, strand: u32) -> bool
         requires { strand < self.now.strands }
         ensures { result ≡ done_in self.now strand }

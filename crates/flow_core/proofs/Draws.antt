@@ -4,8 +4,11 @@ use Rattle.flow_core.specs.Net.{net, IsNet}
 use Rattle.flow_core.specs.Drawn.{NamesOnce, IsDrawn, IsClaimed, AreLinked, IsLate}
 use Rattle.flow_core.proofs.Nets.{in_range}
 
-pub net_is : (n cells : ℕ) (reads writes preds succs : List (List ℕ)) (marks : List ℕ) → n ≡ length reads → length reads ≡ length writes → NamesOnce cells reads → IsClaimed marks writes → length marks ≡ cells
-    → AreLinked marks reads preds succs (length reads) → length succs ≡ length reads → IsNet (net n cells reads writes preds succs)
+pub net_is : (n cells : ℕ) (reads writes preds succs : List (List ℕ)) (marks : List ℕ)
+    → n ≡ length reads → length reads ≡ length writes → NamesOnce cells reads
+    → IsClaimed marks writes → length marks ≡ cells
+    → AreLinked marks reads preds succs (length reads) → length succs ≡ length reads
+    → IsNet (net n cells reads writes preds succs)
 net_is n cells reads writes preds succs marks n-is each once claimed long linked wide = record {
   reads_each = sym n-is;
   writes_each = omega arith;
@@ -26,5 +29,8 @@ net_is n cells reads writes preds succs marks n-is each once claimed long linked
   succs_rise = linked.rises;
 }
 
-pub late_no : (cells : ℕ) (reads writes : List (List ℕ)) (marks : List ℕ) → IsClaimed marks writes → IsLate marks reads → IsDrawn cells reads writes → ⊥
-late_no cells reads writes marks claimed late drawn = let k = late.0 in let l = late.1 in let less = drawn.reads_earlier l.1 k l.0 (claimed.marks_writers.says l.0 l.1 l.3) l.2 in let le = l.4 in omega arith
+pub late_no : (cells : ℕ) (reads writes : List (List ℕ)) (marks : List ℕ) → IsClaimed marks writes
+    → IsLate marks reads → IsDrawn cells reads writes → ⊥
+late_no cells reads writes marks claimed late drawn = let k = late.0 in let l = late.1 in
+    let less = drawn.reads_earlier l.1 k l.0 (claimed.marks_writers.says l.0 l.1 l.3) l.2 in
+    let le = l.4 in omega arith

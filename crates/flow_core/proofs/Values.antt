@@ -1,8 +1,10 @@
 -- A cell has at most one value
-use Rattle.std.proofs.Common.{◌≡◌, ℕ, ◌<◌, ◌⊎◌, List, [], length, get_or, refl, sym, ◌∙◌, ap, subst, inl, inr, arith, Option, Some, None, unwrap_or}
+use Rattle.std.proofs.Common.{◌≡◌, ℕ, List, [], get_or, sym, ◌∙◌, ap, subst}
+use Rattle.std.proofs.Common.{inl, inr, Option, Some, None, unwrap_or}
 use Rattle.flow_core.specs.Counts.{IsIn}
-use Rattle.flow_core.specs.Net.{Net, IsNet, writes_of}
-use Rattle.flow_core.specs.Flow.{Flow, IsFlow, Answer, Unreached, Refuses, Gives, Writes, HasValue, start_of, answer_of}
+use Rattle.flow_core.specs.Net.{IsNet, writes_of}
+use Rattle.flow_core.specs.Flow.{Flow, IsFlow, Answer, Unreached, Refuses, Gives, Writes, HasValue}
+use Rattle.flow_core.specs.Flow.{start_of}
 use Rattle.flow_core.proofs.Totals.{is_in_at, place_once}
 
 abbrev given : Answer → List ℕ
@@ -22,7 +24,7 @@ module _ (f : Flow) (ok : IsNet f.net) (flow : IsFlow f) (c : ℕ) where
   by_one x y k v w =
       let ws : List ℕ = writes_of f.net k in
       let at : v.place ≡ w.place = place_once ws v.place w.place
-          (ok.writes_once k (get_or ws v.place 0)) v.near w.near (v.cell ∙ sym w.cell) in
+      (ok.writes_once k (get_or ws v.place 0)) v.near w.near (v.cell ∙ sym w.cell) in
       let list : v.values ≡ w.values = ap given (sym v.gives ∙ w.gives) in
       sym v.value ∙ (λ i. get_or (list i) (at i) 0) ∙ w.value
 
@@ -30,12 +32,15 @@ module _ (f : Flow) (ok : IsNet f.net) (flow : IsFlow f) (c : ℕ) where
   one_value x y h g = elim h [
     | inl a ↦ elim g [
       | inl b ↦ ap (λ (o : Option ℕ). unwrap_or o x) (sym a ∙ b)
-      | inr w ↦ absurd (no_start (start_of f c) x a (flow.written_no_start w.0 c (writes_in f c y w.0 w.1)))
+      | inr w ↦ absurd (no_start (start_of f c) x a
+          (flow.written_no_start w.0 c (writes_in f c y w.0 w.1)))
     ]
     | inr v ↦ elim g [
-      | inl b ↦ absurd (no_start (start_of f c) y b (flow.written_no_start v.0 c (writes_in f c x v.0 v.1)))
+      | inl b ↦ absurd (no_start (start_of f c) y b
+          (flow.written_no_start v.0 c (writes_in f c x v.0 v.1)))
       | inr w ↦ (
-          let e : v.0 ≡ w.0 = ok.one_writer v.0 w.0 c (writes_in f c x v.0 v.1) (writes_in f c y w.0 w.1) in
+          let e : v.0 ≡ w.0 = ok.one_writer v.0 w.0 c (writes_in f c x v.0 v.1)
+          (writes_in f c y w.0 w.1) in
           let P : ℕ → Type 0 = Writes f c x in by_one x y w.0 (subst P e v.1) w.1)
     ]
   ]

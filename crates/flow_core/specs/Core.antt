@@ -1,5 +1,6 @@
 -- What a state keeps, whatever events come
-use Rattle.std.specs.Prelude.{◌≡◌, ◌≢◌, ℕ, ◌+◌, ◌<◌, ◌≤◌, List, length, take, slice_index, slice_index_or, Option, Some, None, is_some, nat_lt, MatchOption}
+use Rattle.std.specs.Prelude.{◌≡◌, ◌≢◌, ℕ, ◌+◌, ◌<◌, ◌≤◌, List, length, take, slice_index}
+use Rattle.std.specs.Prelude.{slice_index_or, Option, Some, None, is_some, nat_lt, MatchOption}
 use Rattle.flow_core.specs.declared.state.Phase.{Phase}
 use Rattle.flow_core.specs.declared.state.Phase.TheVariants.{Waiting, Held, Done, Refused}
 use Rattle.flow_core.specs.declared.state.State.{State}
@@ -54,17 +55,23 @@ HoldsOne s = (w j k a b a' b' : ℕ) → phase_of s j ≡ Held w a b → phase_o
 
 -- 3. a waiting strand's missing count is the number of its predecessors that haven't released it
 abbrev pub CountsMissing : Net → State → Type 0
-CountsMissing n s = (k : ℕ) → phase_of s k ≡ Waiting → missing_of s k + received n s k ≡ length (preds_of n k)
+CountsMissing n s = (k : ℕ) → phase_of s k ≡ Waiting
+    → missing_of s k + received n s k ≡ length (preds_of n k)
 
 -- 4. a strand that isn't waiting has been released by all its predecessors
 abbrev pub BegunReleased : Net → State → Type 0
 BegunReleased n s = (k : ℕ) → phase_of s k ≢ Waiting → received n s k ≡ length (preds_of n k)
 
--- 5. of the cells that a strand writes exactly the first `published_at` are filled, which are all of them once it releases
+-- 5. of the cells that a strand writes exactly the first `published_at` are filled, which are all
+-- of them once it releases
 pub record FillsFirst (n : Net) (s : State) : Type 0 where
-  pub filled : (k i : ℕ) → i < length (writes_of n k) → is_some (cell_of s (slice_index (writes_of n k) i)) ≡ nat_lt i (published_at n k (phase_of s k))
-  pub few : (k w a b : ℕ) → phase_of s k ≡ Held w a b → (a ≤ length (writes_of n k)) × (b ≤ length (succs_of n k))
-  pub published_first : (k w a b : ℕ) → phase_of s k ≡ Held w a b → 0 < b → a ≡ length (writes_of n k)
+  pub filled : (k i : ℕ) → i < length (writes_of n k)
+      → is_some (cell_of s (slice_index (writes_of n k) i))
+      ≡ nat_lt i (published_at n k (phase_of s k))
+  pub few : (k w a b : ℕ) → phase_of s k ≡ Held w a b → (a ≤ length (writes_of n k))
+      × (b ≤ length (succs_of n k))
+  pub published_first : (k w a b : ℕ) → phase_of s k ≡ Held w a b → 0 < b
+      → a ≡ length (writes_of n k)
 
 -- 6. a done strand's answer is a list, and a refused strand's is a refusal
 pub record AnswersKept (f : Flow) (s : State) : Type 0 where
@@ -73,7 +80,8 @@ pub record AnswersKept (f : Flow) (s : State) : Type 0 where
 
 -- 7. `least` is the least of the refused strands, or None
 abbrev pub IsLeastRefused : State → Type 0
-IsLeastRefused s = MatchOption s.least ((k : ℕ) → phase_of s k ≢ Refused) (λ l. (phase_of s l ≡ Refused) × ((k : ℕ) → phase_of s k ≡ Refused → l ≤ k))
+IsLeastRefused s = MatchOption s.least ((k : ℕ) → phase_of s k ≢ Refused)
+    (λ l. (phase_of s l ≡ Refused) × ((k : ℕ) → phase_of s k ≡ Refused → l ≤ k))
 
 -- parts 2 to 5 and 7, which every event keeps
 pub record IsSound (n : Net) (s : State) : Type 0 where

@@ -1,5 +1,6 @@
 -- Which reads and writes are those of a graph
-use Rattle.std.specs.Prelude.{◌≡◌, ℕ, ◌+◌, ◌^◌, ◌<◌, ◌≤◌, List, [], length, slice_index, slice_index_or}
+use Rattle.std.specs.Prelude.{◌≡◌, ℕ, ◌+◌, ◌^◌, ◌<◌, ◌≤◌, List, [], length, slice_index}
+use Rattle.std.specs.Prelude.{slice_index_or}
 use Rattle.std.specs.List.Sorted.{IsStrictlyIncreasing}
 use Rattle.flow_core.specs.Counts.{times, IsIn}
 
@@ -50,8 +51,10 @@ pub record IsClaimed (marks : List ℕ) (writes : List (List ℕ)) : Type 0 wher
   pub one_writer : OneWriter writes
   pub marks_writers : MarksWriters marks writes
 
--- The strand k is added to the successors of the strands that write what it reads, which are its predecessors
-pub record Links (marks : List ℕ) (k : ℕ) (cells : List ℕ) (old new : List (List ℕ)) (preds : List ℕ) : Type 0 where
+-- The strand k is added to the successors of the strands that write what it reads, which are its
+-- predecessors
+pub record Links (marks : List ℕ) (k : ℕ) (cells : List ℕ) (old new : List (List ℕ))
+    (preds : List ℕ) : Type 0 where
   pub inverse : (q : ℕ) → times k (row new q) ≡ times q preds
   pub others : (q j : ℕ) → (j ≡ k → ⊥) → times j (row new q) ≡ times j (row old q)
   pub wide : length new ≡ length old
@@ -70,8 +73,10 @@ pub record AreLinked (marks : List ℕ) (reads preds succs : List (List ℕ)) (n
   pub bounded : (q j : ℕ) → IsIn j (row succs q) → j < n
   pub once : (q j : ℕ) → times q (row preds j) ≤ 1
   pub below : (q j : ℕ) → IsIn q (row preds j) → q < j
-  pub feeds : (q j : ℕ) → IsIn q (row preds j) → (c : ℕ) × IsIn c (row reads j) × (slice_index marks c ≡ q + 1)
-  pub fed : (j c q : ℕ) → j < n → IsIn c (row reads j) → slice_index marks c ≡ q + 1 → IsIn q (row preds j)
+  pub feeds : (q j : ℕ) → IsIn q (row preds j) → (c : ℕ) × IsIn c (row reads j)
+      × (slice_index marks c ≡ q + 1)
+  pub fed : (j c q : ℕ) → j < n → IsIn c (row reads j) → slice_index marks c ≡ q + 1
+      → IsIn q (row preds j)
 
 -- a cell of the list is written by the strand k or a later one
 abbrev pub LinksLate : List ℕ → ℕ → List ℕ → Type 0

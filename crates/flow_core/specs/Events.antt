@@ -1,5 +1,7 @@
 -- The five events: where each is enabled, and what it does
-use Rattle.std.specs.Prelude.{◌≡◌, ℕ, ◌+◌, ◌-◌, ◌<◌, ◌≤◌, Bool, true, false, cond, ◌&&◌, IsTrue, nat_lt, ◌==◌, min, List, [], ◌∷◌, map, length, replicate, slice_index, slice_index_or, slice_set, Option, Some, None, is_none, ⊤}
+use Rattle.std.specs.Prelude.{◌≡◌, ℕ, ◌+◌, ◌-◌, ◌<◌, ◌≤◌, Bool, true, false, cond, ◌&&◌, IsTrue}
+use Rattle.std.specs.Prelude.{nat_lt, ◌==◌, min, List, [], ◌∷◌, map, length, replicate, slice_index}
+use Rattle.std.specs.Prelude.{slice_index_or, slice_set, Option, Some, None, is_none, ⊤}
 use Rattle.std.specs.Option.{option_map_or}
 use Rattle.flow_core.specs.declared.state.Phase.{Phase}
 use Rattle.flow_core.specs.declared.state.Phase.TheVariants.{Waiting, Held, Done, Refused}
@@ -51,10 +53,12 @@ abbrev pub can_publish : Net → Hold → Bool
 can_publish n h = nat_lt h.published (length (writes_of n h.strand))
 
 abbrev pub can_release : Net → Hold → Bool
-can_release n h = (h.published == length (writes_of n h.strand)) && nat_lt h.released (length (succs_of n h.strand))
+can_release n h = (h.published == length (writes_of n h.strand)) && nat_lt h.released
+    (length (succs_of n h.strand))
 
 abbrev pub can_finish : Net → Hold → Bool
-can_finish n h = (h.published == length (writes_of n h.strand)) && (h.released == length (succs_of n h.strand))
+can_finish n h = (h.published == length (writes_of n h.strand)) &&
+    (h.released == length (succs_of n h.strand))
 
 abbrev pub can_refuse : Hold → Bool
 can_refuse h = (h.published == 0) && (h.released == 0)
@@ -88,7 +92,11 @@ released n s w h =
 
 -- `least` becomes the lesser of itself and the strand
 abbrev pub refused : State → Hold → State
-refused s h = record s { phase = slice_set s.phase h.strand Refused; least = Some (option_map_or (λ l. min l h.strand) s.least h.strand) }
+refused s h = record s {
+  phase = slice_set s.phase h.strand Refused;
+  least =
+      Some (option_map_or (λ l. min l h.strand) s.least h.strand);
+}
 
 abbrev pub effect : Net → State → Event → State
 effect n s (Take w k) = turned s k (Held w 0 0)
@@ -107,7 +115,13 @@ after_all n s (e ∷ es) = after_all n (after n s e) es
 
 -- the start cells are filled, each strand waits for all its predecessors, and none is refused
 abbrev pub opening_of : Net → List (Option ℕ) → State
-opening_of n start = record { cells = start; missing = map length n.preds; phase = replicate n.strands Waiting; least = None }
+opening_of n start = record {
+  cells = start;
+  missing = map length n.preds;
+  phase =
+      replicate n.strands Waiting;
+  least = None;
+}
 
 abbrev pub opening : Flow → State
 opening f = opening_of f.net f.start
@@ -117,10 +131,13 @@ pub record CanStart (n : Net) (start : List (Option ℕ)) : Type 0 where
   pub each : length start ≡ n.cells
   pub free : (k c : ℕ) → IsIn c (writes_of n k) → slice_index_or start c None ≡ None
 
--- An event is honest for the answers where a published value is the answer's next one, a refused strand's answer is a refusal, and the answer of a strand that publishes, releases or finishes is a list
+-- An event is honest for the answers where a published value is the answer's next one, a refused
+-- strand's answer is a refusal, and the answer of a strand that publishes, releases or finishes is
+-- a list
 abbrev pub IsHonestOf : Flow → Event → Hold → Type 0
 IsHonestOf f (Take w k) h = ⊤
-IsHonestOf f (Publish w x) h = (xs : List ℕ) × (answer_of f h.strand ≡ Gives xs) × (slice_index xs h.published ≡ x)
+IsHonestOf f (Publish w x) h = (xs : List ℕ) × (answer_of f h.strand ≡ Gives xs)
+    × (slice_index xs h.published ≡ x)
 IsHonestOf f (Release w) h = (xs : List ℕ) × (answer_of f h.strand ≡ Gives xs)
 IsHonestOf f (Finish w) h = (xs : List ℕ) × (answer_of f h.strand ≡ Gives xs)
 IsHonestOf f (Refuse w) h = answer_of f h.strand ≡ Refuses
@@ -134,7 +151,8 @@ worker_of (Refuse w) = w
 
 -- so far as the event is enabled at all
 abbrev pub IsHonest : Flow → State → Event → Type 0
-IsHonest f s e = (h : Hold) → holding s (worker_of e) ≡ Some h → IsTrue (is_enabled f.net s e) → IsHonestOf f e h
+IsHonest f s e = (h : Hold) → holding s (worker_of e) ≡ Some h → IsTrue (is_enabled f.net s e)
+    → IsHonestOf f e h
 
 abbrev pub AreHonest : Flow → State → List Event → Type 0
 AreHonest f s [] = ⊤

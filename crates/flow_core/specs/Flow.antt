@@ -1,5 +1,6 @@
 -- What each strand of a graph answers
-use Rattle.std.specs.Prelude.{◌≡◌, ℕ, ◌<◌, ◌↔◌, ◌⊎◌, List, length, slice_index, slice_index_or, Option, Some, None}
+use Rattle.std.specs.Prelude.{◌≡◌, ℕ, ◌<◌, ◌↔◌, ◌⊎◌, List, length, slice_index, slice_index_or}
+use Rattle.std.specs.Prelude.{Option, Some, None}
 use Rattle.flow_core.specs.Counts.{IsIn}
 use Rattle.flow_core.specs.Net.{Net, reads_of, writes_of}
 
@@ -42,9 +43,11 @@ pub record IsFlow (f : Flow) : Type 0 where
   pub answer_each : length f.answers ≡ f.net.strands
   pub start_each : length f.start ≡ f.net.cells
   -- each cell is a start cell or is written by a strand, and not both
-  pub written_or_start : (c : ℕ) → c < f.net.cells → start_of f c ≡ None → (k : ℕ) × IsIn c (writes_of f.net k)
+  pub written_or_start : (c : ℕ) → c < f.net.cells → start_of f c ≡ None
+      → (k : ℕ) × IsIn c (writes_of f.net k)
   pub written_no_start : (k c : ℕ) → IsIn c (writes_of f.net k) → start_of f c ≡ None
   -- a list has one value for each cell that its strand writes
-  pub values_each : (k : ℕ) (xs : List ℕ) → answer_of f k ≡ Gives xs → length xs ≡ length (writes_of f.net k)
+  pub values_each : (k : ℕ) (xs : List ℕ) → answer_of f k ≡ Gives xs
+      → length xs ≡ length (writes_of f.net k)
   -- a strand is Unreached exactly where a cell that it reads has no value
   pub unreached : (k : ℕ) → k < f.net.strands → (answer_of f k ≡ Unreached) ↔ LacksRead f k

@@ -12,7 +12,15 @@ pub record Net : Type 0 where
   pub succs : List (List ℕ)
 
 abbrev pub net : ℕ → ℕ → List (List ℕ) → List (List ℕ) → List (List ℕ) → List (List ℕ) → Net
-net n c rs ws ps ss = record { strands = n; cells = c; reads = rs; writes = ws; preds = ps; succs = ss }
+net n c rs ws ps ss = record {
+  strands = n;
+  cells = c;
+  reads = rs;
+  writes = ws;
+  preds = ps;
+  succs =
+      ss;
+}
 
 -- the list of one strand, which is empty past the last strand
 abbrev pub reads_of : Net → ℕ → List ℕ

@@ -28,10 +28,12 @@ pub record IsSettled (n : Net) (s : State) : Type 0 where
 
 -- the least strand whose answer is a refusal, or None where there is none
 abbrev pub IsFirstRefusal : Flow → Option ℕ → Type 0
-IsFirstRefusal f o = MatchOption o ((k : ℕ) → k < f.net.strands → answer_of f k ≢ Refuses) (λ l. (answer_of f l ≡ Refuses) × ((k : ℕ) → k < l → answer_of f k ≢ Refuses))
+IsFirstRefusal f o = MatchOption o ((k : ℕ) → k < f.net.strands → answer_of f k ≢ Refuses)
+    (λ l. (answer_of f l ≡ Refuses) × ((k : ℕ) → k < l → answer_of f k ≢ Refuses))
 
 -- `least` is the first refusal, and each cell of a strand below it has its value
 pub record IsAnswered (f : Flow) (s : State) : Type 0 where
   pub first_refusal : IsFirstRefusal f s.least
   pub values : (k i : ℕ) → k < f.net.strands → IsBelow s.least k → i < length (writes_of f.net k)
-      → (x : ℕ) × (cell_of s (slice_index (writes_of f.net k) i) ≡ Some x) × HasValue f (slice_index (writes_of f.net k) i) x
+      → (x : ℕ) × (cell_of s (slice_index (writes_of f.net k) i) ≡ Some x)
+      × HasValue f (slice_index (writes_of f.net k) i) x

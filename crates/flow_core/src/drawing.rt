@@ -1,7 +1,9 @@
 // A graph from what its strands read and write.
-ghost use Rattle.std.specs.Prelude.{◌≡◌, ℕ, ◌<◌, ◌≤◌, ◌↔◌, length, IfOk, IfSome, IsTrue, slice_index, Err, MatchOption, ⊤};
+ghost use Rattle.std.specs.Prelude.{◌≡◌, ℕ, ◌<◌, ◌≤◌, ◌↔◌, length, IfOk, IfSome, IsTrue};
+ghost use Rattle.std.specs.Prelude.{slice_index, Err, MatchOption, ⊤};
 ghost use Rattle.std.specs.Bool.{MatchBool};
-ghost use Rattle.flow_core.specs.Drawn.{NamesOnce, OneWriter, IsDrawn, CanMark, IsMarked, IsClaimed};
+ghost use Rattle.flow_core.specs.Drawn.{NamesOnce, OneWriter, IsDrawn, CanMark, IsMarked};
+ghost use Rattle.flow_core.specs.Drawn.{IsClaimed};
 
 use crate::graph::Graph;
 use crate::linking::{Linked, link_all};
@@ -11,8 +13,8 @@ use std::alloc::{AllocError, Global};
 /// Why there is no graph.
 #[derive(Clone, Copy, Debug, PartialEq, Eq)]
 pub enum GraphFault {
-    /// A list names a cell twice or out of range, a cell is written twice, a strand reads what it or a
-    /// later one writes, or there is not one list of each kind for each strand.
+    /// A list names a cell twice or out of range, a cell is written twice, a strand reads what it
+    /// or a later one writes, or there is not one list of each kind for each strand.
     Unfit,
     OutOfMemory,
 }
@@ -31,7 +33,8 @@ impl From<AllocError> for GraphFault {
 /// Gives each cell of a list a tag, if each has a mark below the bound and stands in the list once.
 fn mark(marks: &mut [u32], cells: &[u32], tag: u32, bound: u32) -> bool
     requires { bound ≤ tag }
-    ensures { MatchBool result (IsMarked marks.old marks.new cells.now tag bound) (CanMark marks.old cells.now bound → ⊥) }
+    ensures { MatchBool result (IsMarked marks.old marks.new cells.now tag bound)
+        (CanMark marks.old cells.now bound → ⊥) }
 {
     for cell in cells {
         let at = *cell as usize;
@@ -63,7 +66,8 @@ fn names_once(marks: &mut [u32], lists: &[Items<u32>]) -> bool
 fn claim(marks: &mut [u32], writes: &[Items<u32>]) -> bool
     requires blank { (c : ℕ) → slice_index marks.old c ≡ 0 }
     requires narrow { length writes.now < 4294967296 }
-    ensures { MatchBool result (IsClaimed marks.new writes.now) (NamesOnce (length marks.old) writes.now → OneWriter writes.now → ⊥) }
+    ensures { MatchBool result (IsClaimed marks.new writes.now)
+        (NamesOnce (length marks.old) writes.now → OneWriter writes.now → ⊥) }
 {
     for (strand, list) in writes.iter().enumerate() {
         if !mark(marks, list.as_slice(), strand as u32 + 1, 1) {
@@ -86,8 +90,10 @@ fn reads_once(alloc: Global, cells: u32, reads: &[Items<u32>]) -> Result<bool, A
 /// The marks of the strands that write the cells, if they can be had.
 fn claimed(alloc: Global, cells: u32, writes: &[Items<u32>]) -> Result<Option<Vec<u32>>, AllocError>
     requires { length writes.now < 4294967296 }
-    ensures some { IfOk result (λ o. IfSome o (λ marks. IsClaimed marks.items writes.now × (length marks.items ≡ cells))) }
-    ensures none { IfOk result (λ o. MatchOption o (NamesOnce cells writes.now → OneWriter writes.now → ⊥) (λ _. ⊤)) }
+    ensures some { IfOk result (λ o. IfSome o (λ marks. IsClaimed marks.items writes.now
+        × (length marks.items ≡ cells))) }
+    ensures none { IfOk result (λ o. MatchOption o (NamesOnce cells writes.now
+        → OneWriter writes.now → ⊥) (λ _. ⊤)) }
 {
     let mut marks = vec![in alloc; 0u32; cells as usize]?;
     if claim(&mut marks, writes) {

@@ -1,5 +1,7 @@
 // The predecessors and successors of strands, from what they read and who writes it.
-ghost use Rattle.std.specs.Prelude.{◌≡◌, ℕ, ◌+◌, ◌-◌, ◌<◌, ◌≤◌, ◌↔◌, ◌++◌, List, [], ◌∷◌, length, IfOk, IfSome, IsTrue, slice_index, slice_set, MatchOption, replicate, ⊤};
+ghost use Rattle.std.specs.Prelude.{◌≡◌, ℕ, ◌+◌, ◌-◌, ◌<◌, ◌≤◌, ◌↔◌, ◌++◌, List, [], ◌∷◌, length};
+ghost use Rattle.std.specs.Prelude.{IfOk, IfSome, IsTrue, slice_index, slice_set, MatchOption};
+ghost use Rattle.std.specs.Prelude.{replicate, ⊤};
 ghost use Rattle.std.specs.List.Sorted.{IsStrictlyIncreasing};
 ghost use Rattle.flow_core.specs.Counts.{IsIn, times};
 ghost use Rattle.flow_core.specs.Drawn.{row, Links, LinksLate, AreLinked, IsLate};
@@ -9,7 +11,8 @@ use std::alloc::{AllocError, Global};
 
 /// Whether a list ends in a number.
 fn ends_in(list: &[u32], strand: u32) -> bool
-    ensures { IsTrue result ↔ ((0 < length list.now) × (slice_index list.now (length list.now - 1) ≡ strand)) }
+    ensures { IsTrue result ↔ ((0 < length list.now)
+        × (slice_index list.now (length list.now - 1) ≡ strand)) }
 {
     if list.is_empty() {
         return false;
@@ -20,7 +23,8 @@ fn ends_in(list: &[u32], strand: u32) -> bool
 /// Puts a number behind one of the lists.
 fn push_at(lists: &mut [Items<u32>], at: u32, strand: u32) -> Result<(), AllocError>
     requires { at < length lists.old }
-    ensures { IfOk result (λ _. lists.new ≡ slice_set lists.old at (row lists.old at ++ strand ∷ [])) }
+    ensures { IfOk result (λ _. lists.new ≡ slice_set lists.old at
+        (row lists.old at ++ strand ∷ [])) }
 {
     let list = &mut lists[at as usize];
     list.push(strand)?;
@@ -40,8 +44,10 @@ fn link(
     requires narrow { strand < length succs.old }
     requires rises { (q : ℕ) → IsStrictlyIncreasing (row succs.old q) }
     requires bounded { (q j : ℕ) → IsIn j (row succs.old q) → j < strand }
-    ensures some { IfOk result (λ o. IfSome o (λ preds. Links marks.now strand cells.now succs.old succs.new preds)) }
-    ensures none { IfOk result (λ o. MatchOption o (LinksLate marks.now strand cells.now) (λ _. ⊤)) }
+    ensures some { IfOk result (λ o. IfSome o
+        (λ preds. Links marks.now strand cells.now succs.old succs.new preds)) }
+    ensures none { IfOk result (λ o. MatchOption o (LinksLate marks.now strand cells.now)
+        (λ _. ⊤)) }
 {
     let mut preds = Items::new(alloc);
     for cell in cells {
@@ -89,7 +95,8 @@ fn link_rows(
     requires near { (k c : ℕ) → IsIn c (row reads.now k) → c < length marks.now }
     requires narrow { length reads.now < 4294967296 }
     requires empty { succs.old ≡ replicate (length reads.now) [] }
-    ensures some { IfOk result (λ o. IfSome o (λ preds. AreLinked marks.now reads.now preds.items succs.new (length reads.now))) }
+    ensures some { IfOk result (λ o. IfSome o
+        (λ preds. AreLinked marks.now reads.now preds.items succs.new (length reads.now))) }
     ensures none { IfOk result (λ o. MatchOption o (IsLate marks.now reads.now) (λ _. ⊤)) }
 {
     let mut preds = Vec::with_capacity(alloc, reads.len())?;
@@ -111,7 +118,9 @@ pub fn link_all(
 ) -> Result<Option<Linked>, AllocError>
     requires near { (k c : ℕ) → IsIn c (row reads.now k) → c < length marks.now }
     requires narrow { length reads.now < 4294967296 }
-    ensures some { IfOk result (λ o. IfSome o (λ l. AreLinked marks.now reads.now l.preds.items l.succs.items (length reads.now) × (length l.succs.items ≡ length reads.now))) }
+    ensures some { IfOk result (λ o. IfSome o
+        (λ l. AreLinked marks.now reads.now l.preds.items l.succs.items (length reads.now)
+        × (length l.succs.items ≡ length reads.now))) }
     ensures none { IfOk result (λ o. MatchOption o (IsLate marks.now reads.now) (λ _. ⊤)) }
 {
     let mut succs = empty_lists(alloc, reads.len())?;

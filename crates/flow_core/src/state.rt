@@ -91,8 +91,8 @@ fn missing_counts(alloc: Global, graph: &Graph) -> Result<Vec<u32>, AllocError>
 }
 
 impl State {
-    /// The state before the first event. `start` has one place for each cell: its start value, or None
-    /// where a strand writes it. None where it has another length, or a value for such a cell.
+    /// The state before the first event. `start` has one place for each cell: its start value, or
+    /// None where a strand writes it. None where it has another length, or a value for such a cell.
     pub fn opening(
         alloc: Global,
         graph: &Graph,
@@ -100,7 +100,8 @@ impl State {
     ) -> Result<Option<State>, AllocError>
         ensures value { IfOk result (λ o. IfSome o (λ s. s ≡ opening_of graph.now start.now)) }
         ensures sound { IfOk result (λ o. IfSome o (IsSound graph.now)) }
-        ensures none { IfOk result (λ o. MatchOption o (CanStart graph.now start.now → ⊥) (λ _. ⊤)) }
+        ensures none { IfOk result (λ o. MatchOption o (CanStart graph.now start.now
+            → ⊥) (λ _. ⊤)) }
     {
         graph.facts();
         if start.len() != graph.cells as usize || !leaves_written(graph, start) {
@@ -117,8 +118,8 @@ impl State {
         }))
     }
 
-    /// The strand that a worker holds, found by a look at each strand in turn: a worker's number may
-    /// be any, and a step takes no memory in which an index could be kept.
+    /// The strand that a worker holds, found by a look at each strand in turn: a worker's number
+    /// may be any, and a step takes no memory in which an index could be kept.
     pub fn holding(&self, worker: u32) -> Option<Hold>
         requires { length self.now.phase < 2 ^ 32 }
         ensures { result ≡ holding self.now worker }

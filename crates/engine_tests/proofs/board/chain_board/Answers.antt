@@ -6,4 +6,5 @@ use Rattle.engine_tests.proofs.board.chain_board.Goals as goal
 
 pub make-requires-clause-flow : goal.make-requires-clause-flow
 make-requires-clause-flow c = λ _. subst (λ n. IsFlow (chain n)) (sym c.of.ensures)
-    (chain_is_flow c.args.graph.now (sym c.facts.ensures.net.reads_each ∙ ap length c.requires.reads) c.requires.cells c.requires.reads c.requires.writes)
+    (chain_is_flow c.args.graph.now (sym c.facts.ensures.net.reads_each
+    ∙ ap length c.requires.reads) c.requires.cells c.requires.reads c.requires.writes)

@@ -4,4 +4,5 @@ use Rattle.flow_core.specs.Quiet.{IsAtRest}
 use Rattle.flow_core.proofs.at_rest.quiet.Given as goal
 
 abbrev pub invariant-loop-strand : goal.invariant-loop-strand
-invariant-loop-strand l = (k : ℕ) → k < l.strand → IsAtRest (get_or l.state.phase k Waiting) (get_or l.state.missing k 0)
+invariant-loop-strand l = (k : ℕ) → k < l.strand
+    → IsAtRest (get_or l.state.phase k Waiting) (get_or l.state.missing k 0)

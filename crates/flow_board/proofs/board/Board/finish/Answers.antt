@@ -1,5 +1,7 @@
-use Rattle.flow_board.proofs.Calls.{finish_asks}
+use Rattle.flow_board.proofs.Calls.{sits, finish_asks}
 use Rattle.flow_board.proofs.board.Board.finish.Goals as goal
 
 pub load-least-requires : goal.load-least-requires
-load-least-requires g c = finish_asks (g.A.Answers.flow c.self.inside.table.shared.key.value) c.self.inside.graph.now c.self.inside.cells c.self.inside.strands c.self.inside.table.shared.table_id c.self.invariant c.seat.inside.seat.table_id c.seat.inside.seat.id c.seat.inside.seat.me c.seat.inside.held c.args.seat.now c.args.self.now record { seat_is = c.seat.view_is; board_is = c.self.view_is; own = c.requires.own; kept = c.seat.invariant } c.requires.last
+load-least-requires g c = finish_asks
+    (sits c.self.invariant c.seat.view_is c.self.view_is c.requires.own c.seat.invariant) _
+    c.requires.last

@@ -1,5 +1,6 @@
-use Rattle.flow_board.proofs.Calls.{look_asks}
+use Rattle.flow_board.proofs.Calls.{sits, look_asks}
 use Rattle.flow_board.proofs.board.Board.least.Goals as goal
 
 pub load-found-requires : goal.load-found-requires
-load-found-requires g c = look_asks (g.A.Answers.flow c.self.inside.table.shared.key.value) c.self.inside.graph.now c.self.inside.cells c.self.inside.strands c.self.inside.table.shared.table_id c.self.invariant c.seat.inside.seat.table_id c.seat.inside.seat.id c.seat.inside.seat.me c.seat.inside.held c.args.seat.now c.args.self.now record { seat_is = c.seat.view_is; board_is = c.self.view_is; own = c.requires.own; kept = c.seat.invariant }
+load-found-requires g c = look_asks
+    (sits c.self.invariant c.seat.view_is c.self.view_is c.requires.own c.seat.invariant) _

@@ -1,18 +1,30 @@
 use Rattle.std.proofs.Common.{◌≡◌, ℕ, refl, subst, arith}
 use Rattle.flow_core.specs.Flow.{HasValue}
-use Rattle.flow_board.proofs.Calls.{read_asks, read_gives}
+use Rattle.flow_board.proofs.Calls.{sits, read_asks, read_gives}
 use Rattle.flow_board.proofs.board.Board.read.Goals as goal
 
 pub load-word-requires : goal.load-word-requires
-load-word-requires g c = read_asks (g.A.Answers.flow c.self.inside.table.shared.key.value) c.self.inside.graph.now c.self.inside.cells c.self.inside.strands c.self.inside.table.shared.table_id c.self.invariant c.seat.inside.seat.table_id c.seat.inside.seat.id c.seat.inside.seat.me c.seat.inside.held c.args.seat.now c.args.self.now record { seat_is = c.seat.view_is; board_is = c.self.view_is; own = c.requires.own; kept = c.seat.invariant } c.args.cell c.requires.reads
+load-word-requires g c = read_asks
+    (sits c.self.invariant c.seat.view_is c.self.view_is c.requires.own c.seat.invariant) _
+    c.args.cell c.requires.reads
 
 pub overflow_sub-word : goal.overflow_sub-word
-overflow_sub-word g c = let v = read_gives (g.A.Answers.flow c.self.inside.table.shared.key.value) c.self.inside.graph.now c.self.inside.cells c.self.inside.strands c.self.inside.table.shared.table_id c.self.invariant c.seat.inside.seat.table_id c.seat.inside.seat.id c.seat.inside.seat.me c.seat.inside.held c.args.seat.now c.args.self.now record { seat_is = c.seat.view_is; board_is = c.self.view_is; own = c.requires.own; kept = c.seat.invariant } c.args.cell c.load-word.result c.load-word.new.seat.me c.requires.reads c.load-word.ensures.2 in let e = v.1 in omega arith
+overflow_sub-word g c = let v = read_gives
+    (sits c.self.invariant c.seat.view_is c.self.view_is c.requires.own c.seat.invariant)
+    c.args.cell c.load-word.result c.load-word.new.seat.me c.requires.reads
+    c.load-word.ensures.2 in let e = v.1 in omega arith
 
 pub unreachable-requires : goal.unreachable-requires
-unreachable-requires g c = let v = read_gives (g.A.Answers.flow c.self.inside.table.shared.key.value) c.self.inside.graph.now c.self.inside.cells c.self.inside.strands c.self.inside.table.shared.table_id c.self.invariant c.seat.inside.seat.table_id c.seat.inside.seat.id c.seat.inside.seat.me c.seat.inside.held c.args.seat.now c.args.self.now record { seat_is = c.seat.view_is; board_is = c.self.view_is; own = c.requires.own; kept = c.seat.invariant } c.args.cell c.load-word.result c.load-word.new.seat.me c.requires.reads c.load-word.ensures.2 in let e = v.1 in let less = v.3 in
+unreachable-requires g c = let v = read_gives
+    (sits c.self.invariant c.seat.view_is c.self.view_is c.requires.own c.seat.invariant)
+    c.args.cell c.load-word.result c.load-word.new.seat.me c.requires.reads
+    c.load-word.ensures.2 in let e = v.1 in let less = v.3 in
     let big = c.in_default.ensures.none.0 refl in absurd (omega arith)
 
 pub returns-clause-value : goal.returns-clause-value
-returns-clause-value g c = let v = read_gives (g.A.Answers.flow c.self.inside.table.shared.key.value) c.self.inside.graph.now c.self.inside.cells c.self.inside.strands c.self.inside.table.shared.table_id c.self.invariant c.seat.inside.seat.table_id c.seat.inside.seat.id c.seat.inside.seat.me c.seat.inside.held c.args.seat.now c.args.self.now record { seat_is = c.seat.view_is; board_is = c.self.view_is; own = c.requires.own; kept = c.seat.invariant } c.args.cell c.load-word.result c.load-word.new.seat.me c.requires.reads c.load-word.ensures.2 in let e = v.1 in let is = c.in-Some.ensures.value in
-    let same-value : v.0 ≡ c.in-Some.value = omega arith in let H : ℕ → Type 0 = λ x. HasValue c.args.self.now.flow c.args.cell x in subst H same-value v.2
+returns-clause-value g c = let v = read_gives
+    (sits c.self.invariant c.seat.view_is c.self.view_is c.requires.own c.seat.invariant)
+    c.args.cell c.load-word.result c.load-word.new.seat.me c.requires.reads
+    c.load-word.ensures.2 in let e = v.1 in let is = c.in-Some.ensures.value in
+    let same-value : v.0 ≡ c.in-Some.value = omega arith in
+    let H : ℕ → Type 0 = λ x. HasValue c.args.self.now.flow c.args.cell x in subst H same-value v.2
