@@ -1,3 +1,4 @@
+pub mod Answers
 pub mod Binomial
 pub mod Euclid
 pub mod FieldLaws

@@ -1,6 +1,9 @@
 //! Laws of the field, for proofs that cite a call: each function does nothing, and its contract is the law.
 
-ghost use Rattle.std.specs.Prelude.{◌≡◌, ◌≢◌, ℕ, ◌+◌, ◌-◌, ◌*◌, ◌%◌, ◌^◌, ◌<◌, ◌≤◌, ◌⊎◌};
+ghost use Rattle.std.specs.Prelude.{◌≡◌, ◌≢◌, ℕ, ◌+◌, ◌-◌, ◌*◌, ◌%◌, ◌^◌, ◌<◌, ◌≤◌, ◌⊎◌, Some};
+ghost use Rattle.gold_field.specs.declared.operators.Op1.{Op1};
+ghost use Rattle.gold_field.specs.declared.operators.Op2.{Op2};
+ghost use Rattle.gold_field.specs.Operators.{binary_of, unary_of};
 
 use crate::gold::P;
 
@@ -43,4 +46,10 @@ pub fn arithmetic()
 pub fn cancellation()
     ensures sum { (a b c : ℕ) → (a + b) % P ≡ (a + c) % P → b % P ≡ c % P }
     ensures product { (a b c : ℕ) → a % P ≢ 0 → (a * b) % P ≡ (a * c) % P → b % P ≡ c % P }
+{}
+
+/// What an operator answers on a number of the field is one again.
+pub fn answers_are_numbers()
+    ensures unary { (op : Op1) (a : ℕ) → unary_of op a < P }
+    ensures binary { (op : Op2) (a b v : ℕ) → a < P → binary_of op a b ≡ Some v → v < P }
 {}
