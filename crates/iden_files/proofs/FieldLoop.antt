@@ -2,16 +2,16 @@
 use Rattle.std.proofs.Common.{◌≡◌, ℕ, suc, ◌-◌, ◌+◌, ◌≤◌, ◌<◌, List, [], ◌∷◌, ◌++◌, length, Result, Ok, Err, refl, sym, ap, ◌∙◌, append_assoc, arith}
 use Rattle.std.proofs.lemmas.List.{append-nil}
 use Rattle.gold_field.specs.declared.form.Constraint.{Constraint}
-use Rattle.binary_format.specs.Reading.{◌>>=◌, repeated}
+use Rattle.binary_format.specs.Reading.{Fails, ◌>>=◌, repeated}
 use Rattle.binary_format.proofs.Loop.{with_front, fails}
 use Rattle.iden_files.specs.declared.fault.FileFault.{FileFault}
 use Rattle.iden_files.specs.declared.fault.FileFault.TheVariants as faults
-use Rattle.iden_files.specs.Refusal.{Refusal, refusal, Fails}
+use Rattle.iden_files.specs.Refusal.{Refusal, refusal, refused}
 use Rattle.iden_files.specs.Meaning.{meaning}
 use Rattle.iden_files.specs.ReadR1cs.{constraint_at, constraints_at, meant}
 
 pub field_fails : {A : Type 0} (field : List ℕ → Result (A × List ℕ) Refusal) (fault : FileFault) (front : List A) (count i : ℕ) (bytes : List ℕ) (total : Result (List A × List ℕ) Refusal)
-    → i < count → Fails fault (field bytes) → with_front front (repeated field (count - i) bytes) ≡ total → Fails fault total
+    → i < count → Fails (refused fault) (field bytes) → with_front front (repeated field (count - i) bytes) ≡ total → Fails (refused fault) total
 field_fails field (faults.At cause offset) front count i bytes total lt at so_far = fails field front count i bytes (refusal cause offset) total lt at so_far
 field_fails field faults.OutOfMemory front count i bytes total lt at so_far = tt
 
@@ -30,7 +30,7 @@ module _ (wires end count i room : ℕ) (front : List Constraint) (bytes : List 
       rw (n, at) (regroup wires front w (constraints_at wires end (room - length w.a - length w.b - length w.c) (count - (i + 1)) rest)) in
       rw (is, less) (sym one ∙ so_far)
 
-  pub constraint_fails : (fault : FileFault) → i < count → Fails fault (constraint_at wires end room bytes) → Fails fault total
+  pub constraint_fails : (fault : FileFault) → i < count → Fails (refused fault) (constraint_at wires end room bytes) → Fails (refused fault) total
   unfolding constraints_at
   constraint_fails (faults.At cause offset) lt at =
       let n : count - i ≡ suc (count - (i + 1)) = omega arith in

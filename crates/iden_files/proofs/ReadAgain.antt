@@ -18,7 +18,7 @@ use Rattle.iden_files.specs.declared.fault.FileCause.TheVariants.{Truncated, Wir
 use Rattle.iden_files.specs.declared.sections.Format.{Format}
 use Rattle.iden_files.specs.declared.sections.Format.TheVariants.{R1cs, Wtns}
 use Rattle.iden_files.specs.declared.sizes.Sizes.{Sizes}
-use Rattle.iden_files.specs.declared.limits.TheConstants.{MAX_WIRES, MAX_CONSTRAINTS, MAX_TERMS}
+use Rattle.iden_files.specs.Limits.{most_wires, most_constraints, most_terms}
 use Rattle.iden_files.specs.Refusal.{refusal}
 use Rattle.iden_files.specs.File.{File, InLimits, IsWhole, HasForms, term_count}
 use Rattle.iden_files.specs.Meaning.{IsTermOver, meaning}
@@ -181,12 +181,12 @@ field_reads size s long len width prime =
     rw (four, eight, whole, order) refl
 
 sizes_read : (s : Section) (z : Sizes) → field_of 40 s ≡ Ok tt → u32_at 12 s.body ≡ z.wires → u32_at 16 s.body ≡ z.outputs → u32_at 20 s.body ≡ z.public_inputs → u32_at 24 s.body ≡ z.private_inputs → u64_at 28 s.body ≡ z.label_count → u32_at 36 s.body ≡ z.constraints
-    → z.wires ≤ MAX_WIRES → 1 + z.outputs + z.public_inputs + z.private_inputs ≤ z.wires → z.constraints ≤ MAX_CONSTRAINTS → sizes_of s ≡ Ok z
+    → z.wires ≤ most_wires → 1 + z.outputs + z.public_inputs + z.private_inputs ≤ z.wires → z.constraints ≤ most_constraints → sizes_of s ≡ Ok z
 unfolding sizes_of
 sizes_read s z field e12 e16 e20 e24 e28 e36 wires numbered constraints =
-    let few : leb (u32_at 12 s.body) MAX_WIRES ≡ true = le-leb (u32_at 12 s.body) MAX_WIRES (omega (arith, e12, wires)) in
+    let few : leb (u32_at 12 s.body) most_wires ≡ true = le-leb (u32_at 12 s.body) most_wires (omega (arith, e12, wires)) in
     let room : leb (1 + u32_at 16 s.body + u32_at 20 s.body + u32_at 24 s.body) (u32_at 12 s.body) ≡ true = le-leb (1 + u32_at 16 s.body + u32_at 20 s.body + u32_at 24 s.body) (u32_at 12 s.body) (omega (arith, e12, e16, e20, e24, numbered)) in
-    let allowed : leb (u32_at 36 s.body) MAX_CONSTRAINTS ≡ true = le-leb (u32_at 36 s.body) MAX_CONSTRAINTS (omega (arith, e36, constraints)) in
+    let allowed : leb (u32_at 36 s.body) most_constraints ≡ true = le-leb (u32_at 36 s.body) most_constraints (omega (arith, e36, constraints)) in
     rw (field, few, room, allowed, e12, e16, e20, e24, e28, e36) refl
 
 sizes_again : (f : File) (end : ℕ) → IsWhole f → InLimits f
@@ -206,7 +206,7 @@ sizes_again f end whole limits =
 
 -- ---- sections 2 and 3
 
-constraints_read : (z : Sizes) (s : Section) (written meant_so : List Constraint) → constraints_at z.wires s.end MAX_TERMS z.constraints s.body ≡ Ok (written, []) → map (meaning z.wires) written ≡ meant_so → constraints_of z s ≡ Ok meant_so
+constraints_read : (z : Sizes) (s : Section) (written meant_so : List Constraint) → constraints_at z.wires s.end most_terms z.constraints s.body ≡ Ok (written, []) → map (meaning z.wires) written ≡ meant_so → constraints_of z s ≡ Ok meant_so
 unfolding constraints_of
 constraints_read z s written meant_so read means = rw (read, means) refl
 
@@ -262,7 +262,7 @@ file_again f whole limits =
     let found = sections_read R1cs bytes 3 (s1 ∷ s2 ∷ s3 ∷ []) (r1cs_header all) (three_sections end (end - length rest1) (end - length rest2) (end - 0) body1 body2 body3 all rest1 rest2 first second third) in
     let over = all_read f.wires f.constraints whole.file.wired whole.forms in
     let z : Sizes = record { wires = f.wires; outputs = f.outputs; public_inputs = f.public_inputs; private_inputs = f.private_inputs; label_count = f.label_count; constraints = length f.constraints } in
-    let written = ap (constraints_at f.wires s2.end MAX_TERMS (length f.constraints)) (sym (append-nil body2)) ∙ constraints_again f.wires s2.end MAX_TERMS f.constraints [] few (omega arith) limits.terms over in
+    let written = ap (constraints_at f.wires s2.end most_terms (length f.constraints)) (sym (append-nil body2)) ∙ constraints_again f.wires s2.end most_terms f.constraints [] few (omega arith) limits.terms over in
     let constraints = constraints_read z s2 f.constraints f.constraints written (meanings_again f.wires f.constraints whole.forms over) in
     let words = ap (repeated (label_at s3.end) f.wires) (sym (append-nil body3)) ∙ ap (λ n. repeated (label_at s3.end) n (body3 ++ [])) (sym whole.file.labelled)
     ∙ repeated_again (label_at s3.end) (to_le_bytes w64) (λ n. n < 2 ^ 64) (u64_again (refusal BadCount s3.end)) f.labels [] (Each-from_all (λ n. n < 2 ^ 64) f.labels whole.labels) in
@@ -271,10 +271,10 @@ file_again f whole limits =
 
 -- ---- values
 
-count_read : (s : Section) (n : ℕ) → field_of 16 s ≡ Ok tt → u32_at 12 s.body ≡ n → n ≤ MAX_WIRES → value_count s ≡ Ok n
+count_read : (s : Section) (n : ℕ) → field_of 16 s ≡ Ok tt → u32_at 12 s.body ≡ n → n ≤ most_wires → value_count s ≡ Ok n
 unfolding value_count
 count_read s n field e few =
-    let fits : leb (u32_at 12 s.body) MAX_WIRES ≡ true = le-leb (u32_at 12 s.body) MAX_WIRES (omega (arith, e, few)) in
+    let fits : leb (u32_at 12 s.body) most_wires ≡ true = le-leb (u32_at 12 s.body) most_wires (omega (arith, e, few)) in
     rw (field, fits, e) refl
 
 values_read : (n : ℕ) (s : Section) (values : List ℕ) → length s.body ≡ 8 * n → repeated (value_at s.end) n s.body ≡ Ok (values, []) → values_of n s ≡ Ok values
@@ -288,7 +288,7 @@ wtns_reads : (bytes : List ℕ) (n : ℕ) (values : List ℕ) (e1 e2 : ℕ) (y1 
 unfolding wtns_of needed
 wtns_reads bytes n values e1 e2 y1 y2 sections count read = rw (sections, count, read) refl
 
-pub values_again : (values : List ℕ) → length values ≤ MAX_WIRES → All (λ v. v < P) values → wtns_of (wtns_bytes values) ≡ Ok values
+pub values_again : (values : List ℕ) → length values ≤ most_wires → All (λ v. v < P) values → wtns_of (wtns_bytes values) ≡ Ok values
 unfolding wtns_bytes
 values_again values few below =
     let n = length values in

@@ -1,10 +1,11 @@
 -- Reading sections one after another, as a loop does.
 use Rattle.std.proofs.Common.{◌≡◌, ℕ, suc, ◌-◌, ◌+◌, ◌≤◌, ◌<◌, true, false, eqb, List, length, Result, Ok, Err, refl, sym, ◌∙◌, arith}
+use Rattle.binary_format.specs.Reading.{Fails}
 use Rattle.iden_files.specs.declared.fault.FileFault.{FileFault}
 use Rattle.iden_files.specs.declared.fault.FileFault.TheVariants as faults
 use Rattle.iden_files.specs.declared.fault.FileCause.TheVariants.{BadCount}
 use Rattle.iden_files.specs.declared.sections.Format.{Format}
-use Rattle.iden_files.specs.Refusal.{Refusal, refusal, Fails}
+use Rattle.iden_files.specs.Refusal.{Refusal, refusal, refused}
 use Rattle.iden_files.specs.Sections.{Section, section_at, with_section, sections_after}
 
 module _ (format : Format) (end count i : ℕ) (before : List Section) (bytes : List ℕ) (total : Result (List Section) Refusal) (so_far : sections_after format end (count - i) before bytes ≡ total) where
@@ -16,7 +17,7 @@ module _ (format : Format) (end count i : ℕ) (before : List Section) (bytes : 
       let one : sections_after format end (count - i) before bytes ≡ sections_after format end (count - (i + 1)) after rest = rw (k, at, kept) refl in
       sym one ∙ so_far
 
-  pub no_section : (fault : FileFault) → i < count → Fails fault (section_at end bytes) → Fails fault total
+  pub no_section : (fault : FileFault) → i < count → Fails (refused fault) (section_at end bytes) → Fails (refused fault) total
   unfolding sections_after
   no_section (faults.At cause offset) lt at =
       let k : count - i ≡ suc (count - (i + 1)) = omega arith in
@@ -24,7 +25,7 @@ module _ (format : Format) (end count i : ℕ) (before : List Section) (bytes : 
       sym so_far ∙ one
   no_section faults.OutOfMemory lt at = tt
 
-  pub not_kept : (s : Section) (rest : List ℕ) (fault : FileFault) → i < count → section_at end bytes ≡ Ok (s, rest) → Fails fault (with_section format before s (end - length bytes)) → Fails fault total
+  pub not_kept : (s : Section) (rest : List ℕ) (fault : FileFault) → i < count → section_at end bytes ≡ Ok (s, rest) → Fails (refused fault) (with_section format before s (end - length bytes)) → Fails (refused fault) total
   unfolding sections_after
   not_kept s rest (faults.At cause offset) lt at kept =
       let k : count - i ≡ suc (count - (i + 1)) = omega arith in

@@ -5,7 +5,7 @@ use Rattle.gold_field.specs.Rises.{RisesFrom}
 use Rattle.gold_field.specs.declared.form.Term.{Term}
 use Rattle.gold_field.specs.declared.form.Constraint.{Constraint}
 use Rattle.gold_field.specs.declared.gold.TheConstants.{P}
-use Rattle.iden_files.specs.declared.limits.TheConstants.{MAX_WIRES, MAX_CONSTRAINTS, MAX_TERMS}
+use Rattle.iden_files.specs.Limits.{most_wires, most_constraints, most_terms}
 
 pub record File : Type 0 where
   pub wires : ℕ
@@ -26,9 +26,9 @@ abbrev pub term_count : Constraint → ℕ
 term_count k = length k.a + (length k.b + length k.c)
 
 pub record InLimits (f : File) : Type 0 where
-  pub wires : f.wires ≤ MAX_WIRES
-  pub constraints : length f.constraints ≤ MAX_CONSTRAINTS
-  pub terms : sum_by term_count f.constraints ≤ MAX_TERMS
+  pub wires : f.wires ≤ most_wires
+  pub constraints : length f.constraints ≤ most_constraints
+  pub terms : sum_by term_count f.constraints ≤ most_terms
 
 -- the one form of a linear combination
 pub record IsForm (terms : List Term) : Type 0 where

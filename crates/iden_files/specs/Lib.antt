@@ -1,3 +1,4 @@
+pub mod Limits
 pub mod File
 pub mod Refusal
 pub mod Sections

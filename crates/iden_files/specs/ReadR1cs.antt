@@ -9,7 +9,7 @@ use Rattle.binary_format.specs.Reading.{◌>>=◌, number_of, or_short, required
 use Rattle.iden_files.specs.declared.fault.FileCause.TheVariants.{WrongPrime, WireOutOfRange, BadCount, Limit}
 use Rattle.iden_files.specs.declared.sections.Format.TheVariants.{R1cs}
 use Rattle.iden_files.specs.declared.sizes.Sizes.{Sizes}
-use Rattle.iden_files.specs.declared.limits.TheConstants.{MAX_WIRES, MAX_CONSTRAINTS, MAX_TERMS}
+use Rattle.iden_files.specs.Limits.{most_wires, most_constraints, most_terms}
 use Rattle.iden_files.specs.Refusal.{Refusal, refusal}
 use Rattle.iden_files.specs.File.{File}
 use Rattle.iden_files.specs.Meaning.{meaning}
@@ -31,9 +31,9 @@ sizes_of s = do
   let body = s.body
   let place = s.end - length s.body
   field ← field_of 40 s
-  wires ← required (nat_le (u32_at 12 body) MAX_WIRES) (refusal Limit (place + 12))
+  wires ← required (nat_le (u32_at 12 body) most_wires) (refusal Limit (place + 12))
   inputs ← required (nat_le (1 + u32_at 16 body + u32_at 20 body + u32_at 24 body) (u32_at 12 body)) (refusal BadCount (place + 12))
-  constraints ← required (nat_le (u32_at 36 body) MAX_CONSTRAINTS) (refusal Limit (place + 36))
+  constraints ← required (nat_le (u32_at 36 body) most_constraints) (refusal Limit (place + 36))
   Ok (record { wires = u32_at 12 body; outputs = u32_at 16 body; public_inputs = u32_at 20 body; private_inputs = u32_at 24 body; label_count = u64_at 28 body; constraints = u32_at 36 body })
 
 -- a term as it is written: a wire and a value
@@ -73,7 +73,7 @@ meant wires reading = do
 -- check 5
 unfoldable pub constraints_of : Sizes → Section → Result (List Constraint) Refusal
 constraints_of sizes s = do
-  found ← meant sizes.wires (constraints_at sizes.wires s.end MAX_TERMS sizes.constraints s.body)
+  found ← meant sizes.wires (constraints_at sizes.wires s.end most_terms sizes.constraints s.body)
   all ← required (length found.1 == 0) (refusal BadCount (s.end - length found.1))
   Ok found.0
 

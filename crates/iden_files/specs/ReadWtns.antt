@@ -3,7 +3,7 @@ use Rattle.std.specs.Prelude.{◌==◌, ℕ, ◌-◌, ◌+◌, ◌*◌, List, le
 use Rattle.binary_format.specs.Reading.{◌>>=◌, required, repeated}
 use Rattle.iden_files.specs.declared.fault.FileCause.TheVariants.{BadCount, Limit}
 use Rattle.iden_files.specs.declared.sections.Format.TheVariants.{Wtns}
-use Rattle.iden_files.specs.declared.limits.TheConstants.{MAX_WIRES}
+use Rattle.iden_files.specs.Limits.{most_wires}
 use Rattle.iden_files.specs.Refusal.{Refusal, refusal}
 use Rattle.iden_files.specs.Sections.{Section, u32_at, sections_of, needed}
 use Rattle.iden_files.specs.Values.{value_at}
@@ -13,7 +13,7 @@ use Rattle.iden_files.specs.ReadR1cs.{field_of}
 unfoldable pub value_count : Section → Result ℕ Refusal
 value_count s = do
   field ← field_of 16 s
-  few ← required (nat_le (u32_at 12 s.body) MAX_WIRES) (refusal Limit (s.end - length s.body + 12))
+  few ← required (nat_le (u32_at 12 s.body) most_wires) (refusal Limit (s.end - length s.body + 12))
   Ok (u32_at 12 s.body)
 
 -- section 2

@@ -1,8 +1,25 @@
 -- Why a file is refused, and at which of its bytes.
-use Rattle.std.specs.Prelude.{◌≡◌, ℕ, List, Result, Ok, Err}
+use Rattle.std.specs.Prelude.{ℕ, Option, Some, None}
 use Rattle.iden_files.specs.declared.fault.FileCause.{FileCause}
+use Rattle.iden_files.specs.declared.fault.FileCause.TheVariants.{Magic, Version, Truncated, SectionMissing}
+use Rattle.iden_files.specs.declared.fault.FileCause.TheVariants.{SectionTwice, WrongPrime, ValueTooLarge}
+use Rattle.iden_files.specs.declared.fault.FileCause.TheVariants.{WireOutOfRange, BadCount, CustomGates, Limit}
 use Rattle.iden_files.specs.declared.fault.FileFault.{FileFault}
 use Rattle.iden_files.specs.declared.fault.FileFault.TheVariants.{At, OutOfMemory}
+
+-- the numbers of the causes
+abbrev pub cause_number : FileCause → ℕ
+cause_number Magic = 1
+cause_number Version = 2
+cause_number Truncated = 3
+cause_number SectionMissing = 4
+cause_number SectionTwice = 5
+cause_number WrongPrime = 6
+cause_number ValueTooLarge = 7
+cause_number WireOutOfRange = 8
+cause_number BadCount = 9
+cause_number CustomGates = 10
+cause_number Limit = 11
 
 pub record Refusal : Type 0 where
   pub cause : FileCause
@@ -11,16 +28,7 @@ pub record Refusal : Type 0 where
 abbrev pub refusal : FileCause → ℕ → Refusal
 refusal cause offset = record { cause = cause; offset = offset }
 
--- What a call answered, seen by view, is what the definition gives, unless memory ran out.
-abbrev pub Fails : {Y : Type 0} → FileFault → Result Y Refusal → Type 0
-Fails (At cause offset) reading = reading ≡ Err (refusal cause offset)
-Fails OutOfMemory reading = Unit {0}
-
-abbrev pub Gives : {X Y : Type 0} → (X → Y) → Result X FileFault → Result Y Refusal → Type 0
-Gives view (Ok x) reading = reading ≡ Ok (view x)
-Gives view (Err fault) reading = Fails fault reading
-
--- The same for a call that leaves these bytes to be read.
-abbrev pub Reads : {X Y : Type 0} → (X → Y) → List ℕ → Result X FileFault → Result (Y × List ℕ) Refusal → Type 0
-Reads view rest (Ok x) reading = reading ≡ Ok (view x, rest)
-Reads view rest (Err fault) reading = Fails fault reading
+-- what a fault says of the file: nothing where memory ran out
+abbrev pub refused : FileFault → Option Refusal
+refused (At cause offset) = Some (refusal cause offset)
+refused OutOfMemory = None

@@ -1,7 +1,8 @@
 ghost use Rattle.std.specs.Prelude.{◌≡◌, ◌≤◌, ◌+◌, ◌<◌, ◌^◌, ◌-◌, length, IfOk, All, sum_by, vec_len};
-ghost use Rattle.binary_format.specs.Reading.{repeated};
+ghost use Rattle.binary_format.specs.Reading.{Gives, Reads, repeated};
 ghost use Rattle.gold_field.specs.Form.{ConstraintBelow};
-ghost use Rattle.iden_files.specs.Refusal.{Gives, Reads};
+ghost use Rattle.iden_files.specs.Limits.{most_terms};
+ghost use Rattle.iden_files.specs.Refusal.{refused};
 ghost use Rattle.iden_files.specs.File.{term_count};
 ghost use Rattle.iden_files.specs.Meaning.{IsTermOver, IsOver, meaning};
 ghost use Rattle.iden_files.specs.ReadR1cs.{term_at, terms_at, constraint_at, constraints_at, meant, constraints_of};
@@ -33,10 +34,11 @@ pub fn constraints_of(
     sizes: &Sizes,
     found: FoundSection<'_>,
 ) -> Result<Vec<Constraint>, FileFault>
-    ensures read { Gives (λ v. v.items) result (constraints_of sizes.now (section found.entry)) }
+    ensures read { Gives refused (λ v. v.items) result
+        (constraints_of sizes.now (section found.entry)) }
     ensures wired { IfOk result (λ v. All (ConstraintBelow sizes.now.wires) v.items) }
     ensures count { IfOk result (λ v. length v.items ≡ sizes.now.constraints) }
-    ensures terms { IfOk result (λ v. sum_by term_count v.items ≤ MAX_TERMS) }
+    ensures terms { IfOk result (λ v. sum_by term_count v.items ≤ most_terms) }
 {
     let mut fields = found.body;
     let all = constraints(alloc, &mut fields, sizes.wires, sizes.constraints)?;
@@ -55,11 +57,12 @@ fn constraints(
     wires: u32,
     count: u32,
 ) -> Result<Vec<Constraint>, FileFault>
-    ensures read { Reads (λ v. v.items) fields.new.rest.now result (meant wires (constraints_at wires fields.old.end MAX_TERMS count fields.old.rest.now)) }
+    ensures read { Reads refused (λ v. v.items) fields.new.rest.now result
+        (meant wires (constraints_at wires fields.old.end most_terms count fields.old.rest.now)) }
     ensures end { fields.new.end ≡ fields.old.end }
     ensures wired { IfOk result (λ v. All (ConstraintBelow wires) v.items) }
     ensures count { IfOk result (λ v. length v.items ≡ count) }
-    ensures terms { IfOk result (λ v. sum_by term_count v.items ≤ MAX_TERMS) }
+    ensures terms { IfOk result (λ v. sum_by term_count v.items ≤ most_terms) }
 {
     let mut all = Vec::new(alloc);
     let mut room = MAX_TERMS;
@@ -90,7 +93,8 @@ fn next_written(
     wires: u32,
     room: u32,
 ) -> Result<Written, FileFault>
-    ensures read { Reads written fields.new.rest.now result (constraint_at wires fields.old.end room fields.old.rest.now) }
+    ensures read { Reads refused written fields.new.rest.now result
+        (constraint_at wires fields.old.end room fields.old.rest.now) }
     ensures end { fields.new.end ≡ fields.old.end }
     ensures over { IfOk result (λ w. IsOver wires (written w)) }
     ensures few { IfOk result (λ w. vec_len w.a + vec_len w.b + vec_len w.c ≤ room) }
@@ -110,7 +114,8 @@ fn terms(
     wires: u32,
     room: u32,
 ) -> Result<Vec<Term>, FileFault>
-    ensures read { Reads (λ v. v.items) fields.new.rest.now result (terms_at wires fields.old.end room fields.old.rest.now) }
+    ensures read { Reads refused (λ v. v.items) fields.new.rest.now result
+        (terms_at wires fields.old.end room fields.old.rest.now) }
     ensures end { fields.new.end ≡ fields.old.end }
     ensures over { IfOk result (λ v. All (IsTermOver wires) v.items) }
     ensures few { IfOk result (λ v. vec_len v ≤ room) }
@@ -133,7 +138,8 @@ fn repeated_terms(
     wires: u32,
     count: u32,
 ) -> Result<Vec<Term>, FileFault>
-    ensures read { Reads (λ v. v.items) fields.new.rest.now result (repeated (term_at wires fields.old.end) count fields.old.rest.now) }
+    ensures read { Reads refused (λ v. v.items) fields.new.rest.now result
+        (repeated (term_at wires fields.old.end) count fields.old.rest.now) }
     ensures end { fields.new.end ≡ fields.old.end }
     ensures over { IfOk result (λ v. All (IsTermOver wires) v.items) }
     ensures count { IfOk result (λ v. vec_len v ≡ count) }
@@ -149,7 +155,8 @@ fn repeated_terms(
 
 #[tactic(auto, unfolding(crate::specs::ReadR1cs::term_at))]
 fn term(fields: &mut Reader<'_>, wires: u32) -> Result<Term, FileFault>
-    ensures read { Reads (λ t. t) fields.new.rest.now result (term_at wires fields.old.end fields.old.rest.now) }
+    ensures read { Reads refused (λ t. t) fields.new.rest.now result
+        (term_at wires fields.old.end fields.old.rest.now) }
     ensures end { fields.new.end ≡ fields.old.end }
     ensures over { IfOk result (IsTermOver wires) }
 {

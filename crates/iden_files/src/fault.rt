@@ -25,6 +25,17 @@ pub enum FileCause {
     Limit = 11,
 }
 
+impl FileCause {
+    ghost use Rattle.iden_files.specs.Refusal.{cause_number};
+
+    /// The number by which a refusal names the cause, from 1 to 11.
+    pub fn number(self) -> u32
+        ensures { result ≡ cause_number self }
+    {
+        self as u32
+    }
+}
+
 #[derive(Clone, Copy, Debug, PartialEq, Eq)]
 pub enum FileFault {
     /// The first thing that is wrong, and the place of the byte where it is, counted from 0.

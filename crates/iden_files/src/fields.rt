@@ -1,7 +1,7 @@
 ghost use Rattle.std.specs.Prelude.{◌≡◌, ◌+◌, ◌≤◌, length};
 ghost use Rattle.std.specs.Int.{w32, w64};
-ghost use Rattle.binary_format.specs.Reading.{number_of, or_short};
-ghost use Rattle.iden_files.specs.Refusal.{Reads, refusal};
+ghost use Rattle.binary_format.specs.Reading.{Reads, number_of, or_short};
+ghost use Rattle.iden_files.specs.Refusal.{refusal, refused};
 ghost use Rattle.iden_files.specs.Sections.{u32_at, u64_at};
 
 use crate::fault::{FileCause, FileFault};
@@ -9,7 +9,8 @@ use binary_format::Reader;
 
 /// The next number, or this cause where the bytes end.
 pub fn next_u32(fields: &mut Reader<'_>, short: FileCause) -> Result<u32, FileFault>
-    ensures taken { Reads (λ x. x) fields.new.rest.now result (or_short (number_of w32 fields.old.rest.now) (refusal short fields.old.end)) }
+    ensures taken { Reads refused (λ x. x) fields.new.rest.now result
+        (or_short (number_of w32 fields.old.rest.now) (refusal short fields.old.end)) }
     ensures end { fields.new.end ≡ fields.old.end }
 {
     let offset = fields.end;
@@ -23,7 +24,8 @@ pub fn next_u32(fields: &mut Reader<'_>, short: FileCause) -> Result<u32, FileFa
 }
 
 pub fn next_u64(fields: &mut Reader<'_>, short: FileCause) -> Result<u64, FileFault>
-    ensures taken { Reads (λ x. x) fields.new.rest.now result (or_short (number_of w64 fields.old.rest.now) (refusal short fields.old.end)) }
+    ensures taken { Reads refused (λ x. x) fields.new.rest.now result
+        (or_short (number_of w64 fields.old.rest.now) (refusal short fields.old.end)) }
     ensures end { fields.new.end ≡ fields.old.end }
 {
     let offset = fields.end;

@@ -1,8 +1,8 @@
 ghost use Rattle.std.specs.Prelude.{◌≡◌, length, IfOk};
 ghost use Rattle.std.specs.List.{range_with_len};
 ghost use Rattle.std.specs.Option.{option_map};
-ghost use Rattle.binary_format.specs.Reading.{repeated};
-ghost use Rattle.iden_files.specs.Refusal.{Gives, Reads};
+ghost use Rattle.binary_format.specs.Reading.{Gives, Reads, repeated};
+ghost use Rattle.iden_files.specs.Refusal.{refused};
 ghost use Rattle.iden_files.specs.ReadR1cs.{label_at, labels_of};
 ghost use Rattle.iden_files.specs.Views.{section};
 
@@ -19,7 +19,8 @@ pub fn labels_of(
     wires: u32,
     found: Option<FoundSection<'_>>,
 ) -> Result<Vec<u64>, FileFault>
-    ensures read { Gives (λ v. v.items) result (labels_of wires (option_map section found.entry)) }
+    ensures read { Gives refused (λ v. v.items) result
+        (labels_of wires (option_map section found.entry)) }
     ensures len { IfOk result (λ v. length v.items ≡ wires) }
 {
     match found {
@@ -52,7 +53,8 @@ fn repeated_labels(
     fields: &mut Reader<'_>,
     count: u32,
 ) -> Result<Vec<u64>, FileFault>
-    ensures read { Reads (λ v. v.items) fields.new.rest.now result (repeated (label_at fields.old.end) count fields.old.rest.now) }
+    ensures read { Reads refused (λ v. v.items) fields.new.rest.now result
+        (repeated (label_at fields.old.end) count fields.old.rest.now) }
     ensures len { IfOk result (λ v. length v.items ≡ count) }
 {
     let mut labels = Vec::with_capacity(alloc, (count as usize).min(fields.rest.len() / 8))?;

@@ -9,7 +9,7 @@ ghost use Rattle.iden_files.specs.Meaning.{form_of};
 ghost use Rattle.iden_files.specs.ReadR1cs.{r1cs_of};
 ghost use Rattle.iden_files.specs.ReadWtns.{wtns_of};
 ghost use Rattle.iden_files.specs.Spelling.{r1cs_bytes, wtns_bytes};
-ghost use Rattle.iden_files.specs.declared.limits.TheConstants.{MAX_WIRES};
+ghost use Rattle.iden_files.specs.Limits.{most_wires};
 
 /// The spelling of a file means that file.
 pub fn spelled_file_is_read()
@@ -18,10 +18,12 @@ pub fn spelled_file_is_read()
 
 /// The spelling of values means those values.
 pub fn spelled_values_are_read()
-    ensures { (values : List ℕ) → length values ≤ MAX_WIRES → All (λ v. v < P) values → wtns_of (wtns_bytes values) ≡ Ok values }
+    ensures { (values : List ℕ) → length values ≤ most_wires → All (λ v. v < P) values →
+        wtns_of (wtns_bytes values) ≡ Ok values }
 {}
 
 /// The linear combination that terms mean has the sum of all these terms, at every assignment.
 pub fn meaning_has_the_value()
-    ensures { (s : Assignment) (wires : ℕ) (terms : List Term) → SignalsBelow wires terms → value_at s (form_of wires terms) ≡ value_at s terms }
+    ensures { (s : Assignment) (wires : ℕ) (terms : List Term) → SignalsBelow wires terms →
+        value_at s (form_of wires terms) ≡ value_at s terms }
 {}

@@ -1,6 +1,7 @@
 ghost use Rattle.std.specs.Prelude.{IfOk};
+ghost use Rattle.binary_format.specs.Reading.{Gives};
 ghost use Rattle.iden_files.specs.File.{InLimits};
-ghost use Rattle.iden_files.specs.Refusal.{Gives};
+ghost use Rattle.iden_files.specs.Refusal.{refused};
 ghost use Rattle.iden_files.specs.ReadR1cs.{r1cs_of};
 
 use crate::constraints::constraints_of;
@@ -15,7 +16,7 @@ use std::alloc::Global;
 /// Reads a file of any tool, within the limits: sections in any order, terms in any order.
 #[tactic(auto, unfolding(crate::specs::ReadR1cs::r1cs_of))]
 pub fn read_r1cs(alloc: Global, bytes: &[u8]) -> Result<R1cs, FileFault>
-    ensures exact { Gives (λ f. f) result (r1cs_of bytes.now) }
+    ensures exact { Gives refused (λ f. f) result (r1cs_of bytes.now) }
     ensures limits { IfOk result InLimits }
 {
     let length = bytes.len() as u64;

@@ -1,7 +1,8 @@
 ghost use Rattle.std.specs.Prelude.{◌≡◌, ◌==◌, ◌≤◌, [], length, OnOk};
 ghost use Rattle.std.specs.Option.{option_map};
 ghost use Rattle.std.specs.Int.{w32, from_le_bytes};
-ghost use Rattle.iden_files.specs.Refusal.{Gives, Reads};
+ghost use Rattle.binary_format.specs.Reading.{Gives, Reads};
+ghost use Rattle.iden_files.specs.Refusal.{refused};
 ghost use Rattle.iden_files.specs.Sections.{magic, version, section_count, section_at, section_of, with_section, sections_after, sections_of, needed, is_read, is_gates};
 ghost use Rattle.iden_files.specs.Views.{section, sections};
 
@@ -64,7 +65,7 @@ pub struct FoundSection<'a> {
 
 #[tactic(auto, unfolding(crate::specs::Sections::section_count))]
 fn section_count(format: Format, bytes: &[u8]) -> Result<u32, FileFault>
-    ensures count { Gives (λ n. n) result (section_count format bytes.now) }
+    ensures count { Gives refused (λ n. n) result (section_count format bytes.now) }
     ensures long { OnOk result (12 ≤ length bytes.now) }
 {
     if bytes.len() < 12 {
@@ -90,7 +91,8 @@ fn section_count(format: Format, bytes: &[u8]) -> Result<u32, FileFault>
 
 #[tactic(auto, unfolding(crate::specs::Sections::section_at))]
 fn next_section<'a>(file: &mut Reader<'a>) -> Result<FoundSection<'a>, FileFault>
-    ensures taken { Reads section file.new.rest.now result (section_at file.old.end file.old.rest.now) }
+    ensures taken { Reads refused section file.new.rest.now result
+        (section_at file.old.end file.old.rest.now) }
     ensures end { file.new.end ≡ file.old.end }
 {
     let offset = file.end;
@@ -124,7 +126,7 @@ pub fn needed<'a>(
     length: u64,
     found: &[FoundSection<'a>],
 ) -> Result<FoundSection<'a>, FileFault>
-    ensures { Gives section result (needed kind length (sections found.now)) }
+    ensures { Gives refused section result (needed kind length (sections found.now)) }
 {
     match section_of(kind, found) {
         Some(s) => Ok(s),
@@ -143,7 +145,8 @@ fn keep<'a>(
     s: FoundSection<'a>,
     place: u64,
 ) -> Result<(), FileFault>
-    ensures { Gives (λ _. sections found.new.items) result (with_section format (sections found.old.items) (section s.entry) place) }
+    ensures { Gives refused (λ _. sections found.new.items) result
+        (with_section format (sections found.old.items) (section s.entry) place) }
 {
     if format.is_gates(s.kind) {
         return Err(FileFault::At {
@@ -170,7 +173,8 @@ fn sections_after<'a>(
     count: u32,
     file: &mut Reader<'a>,
 ) -> Result<Vec<FoundSection<'a>>, FileFault>
-    ensures { Gives (λ v. sections v.items) result (sections_after format file.old.end count [] file.old.rest.now) }
+    ensures { Gives refused (λ v. sections v.items) result
+        (sections_after format file.old.end count [] file.old.rest.now) }
 {
     let mut found = Vec::new(alloc);
     for _ in 0..count {
@@ -194,7 +198,7 @@ pub fn sections_of<'a>(
     format: Format,
     bytes: &'a [u8],
 ) -> Result<Vec<FoundSection<'a>>, FileFault>
-    ensures { Gives (λ v. sections v.items) result (sections_of format bytes.now) }
+    ensures { Gives refused (λ v. sections v.items) result (sections_of format bytes.now) }
 {
     let count = section_count(format, bytes)?;
     let mut file = Reader::new(bytes);

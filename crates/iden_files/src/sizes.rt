@@ -1,5 +1,6 @@
 ghost use Rattle.std.specs.Prelude.{◌≡◌, ◌≤◌, length, OnOk, IfOk};
-ghost use Rattle.iden_files.specs.Refusal.{Gives};
+ghost use Rattle.binary_format.specs.Reading.{Gives};
+ghost use Rattle.iden_files.specs.Refusal.{refused};
 ghost use Rattle.iden_files.specs.ReadR1cs.{field_of, sizes_of};
 ghost use Rattle.iden_files.specs.Sizes.{AreAllowed};
 ghost use Rattle.iden_files.specs.Views.{section};
@@ -25,7 +26,7 @@ pub struct Sizes {
 #[tactic(auto, unfolding(crate::specs::ReadR1cs::field_of))]
 pub fn field_of(size: usize, found: &FoundSection<'_>) -> Result<(), FileFault>
     requires { 12 ≤ size }
-    ensures field { Gives (λ _. tt) result (field_of size (section found.now)) }
+    ensures field { Gives refused (λ _. tt) result (field_of size (section found.now)) }
     ensures whole { OnOk result (length found.now.body.rest.now ≡ size) }
 {
     let body = found.body.rest;
@@ -59,7 +60,7 @@ pub fn field_of(size: usize, found: &FoundSection<'_>) -> Result<(), FileFault>
 
 #[tactic(auto, unfolding(crate::specs::ReadR1cs::sizes_of))]
 pub fn sizes_of(found: &FoundSection<'_>) -> Result<Sizes, FileFault>
-    ensures sizes { Gives (λ s. s) result (sizes_of (section found.now)) }
+    ensures sizes { Gives refused (λ s. s) result (sizes_of (section found.now)) }
     ensures allowed { IfOk result AreAllowed }
 {
     field_of(40, found)?;

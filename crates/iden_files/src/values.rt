@@ -1,5 +1,6 @@
 ghost use Rattle.std.specs.Prelude.{◌≡◌, ◌<◌, IfOk};
-ghost use Rattle.iden_files.specs.Refusal.{Reads};
+ghost use Rattle.binary_format.specs.Reading.{Reads};
+ghost use Rattle.iden_files.specs.Refusal.{refused};
 ghost use Rattle.iden_files.specs.Values.{value_at};
 
 use crate::fault::{FileCause, FileFault};
@@ -10,7 +11,8 @@ use gold_field::{Gold, P};
 /// The next number of the field.
 #[tactic(auto, unfolding(crate::specs::Values::value_at))]
 pub fn next_value(fields: &mut Reader<'_>) -> Result<Gold, FileFault>
-    ensures read { Reads (λ v. v) fields.new.rest.now result (value_at fields.old.end fields.old.rest.now) }
+    ensures read { Reads refused (λ v. v) fields.new.rest.now result
+        (value_at fields.old.end fields.old.rest.now) }
     ensures end { fields.new.end ≡ fields.old.end }
     ensures below { IfOk result (λ v. v < P) }
 {

@@ -1,6 +1,7 @@
 ghost use Rattle.std.specs.Prelude.{◌≡◌, ◌≤◌, ◌<◌, ◌^◌, ◌++◌, length, sum_by, IfOk, OnOk, All, Ok};
 ghost use Rattle.std.specs.List.{flat_map};
 ghost use Rattle.std.specs.Int.{w32, w64, to_le_bytes};
+ghost use Rattle.iden_files.specs.Limits.{most_constraints, most_terms, most_wires};
 ghost use Rattle.iden_files.specs.File.{InLimits, IsForm, HasForms, term_count};
 ghost use Rattle.iden_files.specs.ReadR1cs.{r1cs_of};
 ghost use Rattle.iden_files.specs.ReadWtns.{wtns_of};
@@ -28,7 +29,7 @@ pub fn write_r1cs(alloc: Global, file: &R1cs) -> Result<Vec<u8>, AllocError>
 
 /// The one spelling of the values.
 pub fn write_wtns(alloc: Global, values: &[Gold]) -> Result<Vec<u8>, AllocError>
-    requires { length values.now ≤ MAX_WIRES }
+    requires { length values.now ≤ most_wires }
     ensures bytes { IfOk result (λ v. v.items ≡ wtns_bytes values.now) }
     ensures read_back { IfOk result (λ v. wtns_of v.items ≡ Ok values.now) }
 {
@@ -45,7 +46,8 @@ fn put_header(
     version: u32,
     sections: u32,
 ) -> Result<(), AllocError>
-    ensures { OnOk result (out.new.items ≡ out.old.items ++ header_bytes magic.now version sections) }
+    ensures { OnOk result
+        (out.new.items ≡ out.old.items ++ header_bytes magic.now version sections) }
 {
     out.extend_from_slice(magic)?;
     put_u32(out, version)?;
@@ -68,7 +70,8 @@ fn put_field(out: &mut Vec<u8>) -> Result<(), AllocError>
 
 fn put_sizes(out: &mut Vec<u8>, file: &R1cs) -> Result<(), AllocError>
     requires { InLimits file.now }
-    ensures bytes { OnOk result (out.new.items ≡ out.old.items ++ section 1 (sizes_bytes file.now)) }
+    ensures bytes { OnOk result
+        (out.new.items ≡ out.old.items ++ section 1 (sizes_bytes file.now)) }
     ensures fits { OnOk result (file.now.label_count < 2 ^ 64) }
 {
     put_section_head(out, 1, 40)?;
@@ -82,7 +85,8 @@ fn put_sizes(out: &mut Vec<u8>, file: &R1cs) -> Result<(), AllocError>
 }
 
 fn put_value_count(out: &mut Vec<u8>, count: u32) -> Result<(), AllocError>
-    ensures { OnOk result (out.new.items ≡ out.old.items ++ section 1 (field_bytes ++ to_le_bytes w32 count)) }
+    ensures { OnOk result
+        (out.new.items ≡ out.old.items ++ section 1 (field_bytes ++ to_le_bytes w32 count)) }
 {
     put_section_head(out, 1, 16)?;
     put_field(out)?;
@@ -90,9 +94,10 @@ fn put_value_count(out: &mut Vec<u8>, count: u32) -> Result<(), AllocError>
 }
 
 fn put_constraint_section(out: &mut Vec<u8>, constraints: &[Constraint]) -> Result<(), AllocError>
-    requires few { length constraints.now ≤ MAX_CONSTRAINTS }
-    requires terms { sum_by term_count constraints.now ≤ MAX_TERMS }
-    ensures bytes { OnOk result (out.new.items ≡ out.old.items ++ section 2 (flat_map constraint_bytes constraints.now)) }
+    requires few { length constraints.now ≤ most_constraints }
+    requires terms { sum_by term_count constraints.now ≤ most_terms }
+    ensures bytes { OnOk result
+        (out.new.items ≡ out.old.items ++ section 2 (flat_map constraint_bytes constraints.now)) }
     ensures forms { OnOk result (All HasForms constraints.now) }
 {
     let counts = 3 * constraints.len() as u64;
@@ -103,7 +108,7 @@ fn put_constraint_section(out: &mut Vec<u8>, constraints: &[Constraint]) -> Resu
 
 /// How many terms the constraints have.
 fn term_total(constraints: &[Constraint]) -> u64
-    requires { sum_by term_count constraints.now ≤ MAX_TERMS }
+    requires { sum_by term_count constraints.now ≤ most_terms }
     ensures { result ≡ sum_by term_count constraints.now }
 {
     let mut total = 0u64;
@@ -114,8 +119,9 @@ fn term_total(constraints: &[Constraint]) -> u64
 }
 
 fn put_constraints(out: &mut Vec<u8>, constraints: &[Constraint]) -> Result<(), AllocError>
-    requires { sum_by term_count constraints.now ≤ MAX_TERMS }
-    ensures bytes { OnOk result (out.new.items ≡ out.old.items ++ flat_map constraint_bytes constraints.now) }
+    requires { sum_by term_count constraints.now ≤ most_terms }
+    ensures bytes { OnOk result
+        (out.new.items ≡ out.old.items ++ flat_map constraint_bytes constraints.now) }
     ensures forms { OnOk result (All HasForms constraints.now) }
 {
     for k in constraints {
@@ -163,8 +169,9 @@ fn put_term(out: &mut Vec<u8>, t: Term) -> Result<(), AllocError>
 }
 
 fn put_label_section(out: &mut Vec<u8>, labels: &[u64]) -> Result<(), AllocError>
-    requires { length labels.now ≤ MAX_WIRES }
-    ensures bytes { OnOk result (out.new.items ≡ out.old.items ++ section 3 (flat_map (to_le_bytes w64) labels.now)) }
+    requires { length labels.now ≤ most_wires }
+    ensures bytes { OnOk result
+        (out.new.items ≡ out.old.items ++ section 3 (flat_map (to_le_bytes w64) labels.now)) }
     ensures fits { All (λ n. n < 2 ^ 64) labels.now }
 {
     put_section_head(out, 3, 8 * labels.len() as u64)?;
@@ -181,8 +188,9 @@ fn put_labels(out: &mut Vec<u8>, labels: &[u64]) -> Result<(), AllocError>
 }
 
 fn put_value_section(out: &mut Vec<u8>, values: &[Gold]) -> Result<(), AllocError>
-    requires { length values.now ≤ MAX_WIRES }
-    ensures bytes { OnOk result (out.new.items ≡ out.old.items ++ section 2 (flat_map (to_le_bytes w64) values.now)) }
+    requires { length values.now ≤ most_wires }
+    ensures bytes { OnOk result
+        (out.new.items ≡ out.old.items ++ section 2 (flat_map (to_le_bytes w64) values.now)) }
     ensures below { OnOk result (All (λ v. v < P) values.now) }
 {
     put_section_head(out, 2, 8 * values.len() as u64)?;
@@ -190,7 +198,8 @@ fn put_value_section(out: &mut Vec<u8>, values: &[Gold]) -> Result<(), AllocErro
 }
 
 fn put_values(out: &mut Vec<u8>, values: &[Gold]) -> Result<(), AllocError>
-    ensures bytes { OnOk result (out.new.items ≡ out.old.items ++ flat_map (to_le_bytes w64) values.now) }
+    ensures bytes { OnOk result
+        (out.new.items ≡ out.old.items ++ flat_map (to_le_bytes w64) values.now) }
     ensures below { OnOk result (All (λ v. v < P) values.now) }
 {
     for v in values {

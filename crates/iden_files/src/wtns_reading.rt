@@ -1,6 +1,7 @@
 ghost use Rattle.std.specs.Prelude.{◌≡◌, ◌≤◌, length, IfOk};
-ghost use Rattle.binary_format.specs.Reading.{repeated};
-ghost use Rattle.iden_files.specs.Refusal.{Gives, Reads};
+ghost use Rattle.binary_format.specs.Reading.{Gives, Reads, repeated};
+ghost use Rattle.iden_files.specs.Limits.{most_wires};
+ghost use Rattle.iden_files.specs.Refusal.{refused};
 ghost use Rattle.iden_files.specs.Values.{value_at};
 ghost use Rattle.iden_files.specs.ReadWtns.{value_count, values_of, wtns_of};
 ghost use Rattle.iden_files.specs.Views.{section};
@@ -18,8 +19,8 @@ use std::alloc::Global;
 /// Reads the values of a file of any tool, within the limits.
 #[tactic(auto, unfolding(crate::specs::ReadWtns::wtns_of))]
 pub fn read_wtns(alloc: Global, bytes: &[u8]) -> Result<Vec<Gold>, FileFault>
-    ensures exact { Gives (λ v. v.items) result (wtns_of bytes.now) }
-    ensures limits { IfOk result (λ v. length v.items ≤ MAX_WIRES) }
+    ensures exact { Gives refused (λ v. v.items) result (wtns_of bytes.now) }
+    ensures limits { IfOk result (λ v. length v.items ≤ most_wires) }
 {
     let length = bytes.len() as u64;
     let found = sections_of(alloc, Format::Wtns, bytes)?;
@@ -31,8 +32,8 @@ pub fn read_wtns(alloc: Global, bytes: &[u8]) -> Result<Vec<Gold>, FileFault>
 
 #[tactic(auto, unfolding(crate::specs::ReadWtns::value_count))]
 fn value_count(found: &FoundSection<'_>) -> Result<u32, FileFault>
-    ensures count { Gives (λ n. n) result (value_count (section found.now)) }
-    ensures few { IfOk result (λ n. n ≤ MAX_WIRES) }
+    ensures count { Gives refused (λ n. n) result (value_count (section found.now)) }
+    ensures few { IfOk result (λ n. n ≤ most_wires) }
 {
     field_of(16, found)?;
     let count = u32_at(found.body.rest, 12);
@@ -47,7 +48,7 @@ fn value_count(found: &FoundSection<'_>) -> Result<u32, FileFault>
 
 #[tactic(auto, unfolding(crate::specs::ReadWtns::values_of))]
 fn values_of(alloc: Global, count: u32, found: FoundSection<'_>) -> Result<Vec<Gold>, FileFault>
-    ensures read { Gives (λ v. v.items) result (values_of count (section found.entry)) }
+    ensures read { Gives refused (λ v. v.items) result (values_of count (section found.entry)) }
     ensures len { IfOk result (λ v. length v.items ≡ count) }
 {
     let mut fields = found.body;
@@ -65,7 +66,8 @@ fn repeated_values(
     fields: &mut Reader<'_>,
     count: u32,
 ) -> Result<Vec<Gold>, FileFault>
-    ensures read { Reads (λ v. v.items) fields.new.rest.now result (repeated (value_at fields.old.end) count fields.old.rest.now) }
+    ensures read { Reads refused (λ v. v.items) fields.new.rest.now result
+        (repeated (value_at fields.old.end) count fields.old.rest.now) }
     ensures len { IfOk result (λ v. length v.items ≡ count) }
 {
     let mut values = Vec::with_capacity(alloc, (count as usize).min(fields.rest.len() / 8))?;

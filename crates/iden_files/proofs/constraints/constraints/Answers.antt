@@ -5,7 +5,7 @@ use Rattle.std.proofs.lemmas.List.Elements.{All-push}
 use Rattle.std.proofs.lemmas.List.Sums.{sum_by_push}
 use Rattle.gold_field.specs.Form.{ConstraintBelow}
 use Rattle.gold_field.specs.declared.form.Constraint.{Constraint}
-use Rattle.iden_files.specs.declared.limits.TheConstants.{MAX_TERMS}
+use Rattle.iden_files.specs.Limits.{most_terms}
 use Rattle.iden_files.specs.File.{term_count}
 use Rattle.iden_files.specs.ReadR1cs.{constraints_at, meant}
 use Rattle.iden_files.specs.Views.{written}
@@ -16,7 +16,7 @@ use Rattle.iden_files.proofs.constraints.constraints.Goals as goal
 pub returns-in_err-w-clause-read : goal.returns-in_err-w-clause-read
 returns-in_err-w-clause-read c =
     let p = err_from_is_err_and c.from_residual.result c.from_residual.ensures.1 in
-    let total = meant c.args.wires (constraints_at c.args.wires c.args.fields.now.end MAX_TERMS c.args.count c.args.fields.now.rest.now) in
+    let total = meant c.args.wires (constraints_at c.args.wires c.args.fields.now.end most_terms c.args.count c.args.fields.now.rest.now) in
     let read = rw c.loop.invariant.ends at c.in_err-w.ensures.read in
     rw (p.1, p.2) (constraint_fails c.args.wires c.args.fields.now.end c.args.count c.loop.counter c.loop.room c.loop.all.items c.loop.fields.rest.now total c.loop.invariant.so_far c.in_err-w.field-0.0 c.loop-test.true read)
 
@@ -25,7 +25,7 @@ loop-preserved c =
     let inv = c.loop.invariant in
     let w = c.in_ok-w.w in
     let k = c.in_ok-k.k in
-    let total = meant c.args.wires (constraints_at c.args.wires c.args.fields.now.end MAX_TERMS c.args.count c.args.fields.now.rest.now) in
+    let total = meant c.args.wires (constraints_at c.args.wires c.args.fields.now.end most_terms c.args.count c.args.fields.now.rest.now) in
     let read = rw inv.ends at c.in_ok-w.ensures.read in
     let less : c.loop.room - (c.len.result + c.len-in-loop.result + c.len-in-loop-2.result) ≡ c.loop.room - length w.a.items - length w.b.items - length w.c.items = omega (arith, c.len.ensures, c.len-in-loop.ensures, c.len-in-loop-2.ensures, w.a.ok.0, w.b.ok.0, w.c.ok.0) in
     let below : ConstraintBelow c.args.wires k = let P : Constraint → Type 0 = ConstraintBelow c.args.wires in subst P (sym c.in_ok-k.ensures) (meaning_below c.args.wires (written w)) in
@@ -40,5 +40,5 @@ loop-preserved c =
 
 pub returns-clause-read : goal.returns-clause-read
 returns-clause-read c =
-    let total = meant c.args.wires (constraints_at c.args.wires c.args.fields.now.end MAX_TERMS c.args.count c.args.fields.now.rest.now) in
+    let total = meant c.args.wires (constraints_at c.args.wires c.args.fields.now.end most_terms c.args.count c.args.fields.now.rest.now) in
     all_read c.args.wires c.args.fields.now.end c.args.count c.loop.counter c.loop.room c.loop.all.items c.loop.fields.rest.now total c.loop.invariant.so_far c.loop-test.false
