@@ -1,5 +1,7 @@
--- Which code is well formed: it names nothing that isn't there, and goes back only to a Turn.
+-- Which code is well formed: it names nothing that isn't there, its constants are numbers of the field, and
+-- it goes back only to a Turn.
 use Rattle.std.specs.Prelude.{◌≡◌, ℕ, ◌+◌, ◌<◌, ◌≤◌, List, Some, slice_get, length}
+use Rattle.gold_field.specs.declared.gold.TheConstants.{P}
 use Rattle.wit_code.specs.declared.code.Op.{Op}
 use Rattle.wit_code.specs.declared.code.Op.TheVariants.{Const, Move, Read, Un, Bin, Bound, Load, Store, Jump, JumpZero, Turn, Call, Return, Check, Assert, Write}
 use Rattle.wit_code.specs.declared.code.Proc.{Proc}
@@ -30,7 +32,7 @@ pub record MayCall (procs : List Proc) (slots f first : ℕ) : Type 0 where
 
 -- what an instruction names is there, where so many slots are
 abbrev pub Names : List Proc → Stands → ℕ → Op → Type 0
-Names procs stands slots (Const d v) = d < slots
+Names procs stands slots (Const d v) = (d < slots) × (v < P)
 Names procs stands slots (Move d s) = (d < slots) × (s < slots)
 Names procs stands slots (Read d i) = (d < slots) × MayRead stands i
 Names procs stands slots (Un op d a) = (d < slots) × (a < slots)

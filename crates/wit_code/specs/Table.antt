@@ -5,7 +5,8 @@ use Rattle.wit_code.specs.declared.code.Op.{Op}
 use Rattle.wit_code.specs.declared.code.Op.TheVariants.{Const, Move, Read, Un, Bin, Bound, Load, Store, Jump, JumpZero, Turn, Call, Return, Check, Assert, Write}
 use Rattle.wit_code.specs.declared.code.Proc.{Proc}
 use Rattle.wit_code.specs.declared.code.Stop.{Stop}
-use Rattle.wit_code.specs.declared.code.Stop.TheVariants.{ConstraintFails, AssertFails, ZeroDivisor, IndexOut, FuelSpent, TooDeep}
+use Rattle.wit_code.specs.declared.code.Stop.TheVariants.{ConstraintFails, AssertFails, ZeroDivisor}
+use Rattle.wit_code.specs.declared.code.Stop.TheVariants.{IndexOut, FuelSpent, TooDeep, OutOfMemory}
 use Rattle.wit_code.specs.declared.frames.Running.{Running}
 use Rattle.wit_code.specs.declared.frames.Running.TheVariants.{Own, Called}
 use Rattle.wit_code.specs.Frames.{Open, Frames}
@@ -17,6 +18,16 @@ pub record State : Type 0 where
   pub frames : Frames
   pub units : ℕ
   pub written : List ℕ
+
+-- the numbers of the stops; want of memory is none of them
+abbrev pub stop_number : Stop → Option ℕ
+stop_number ConstraintFails = Some 1
+stop_number AssertFails = Some 2
+stop_number ZeroDivisor = Some 3
+stop_number IndexOut = Some 4
+stop_number FuelSpent = Some 5
+stop_number TooDeep = Some 6
+stop_number OutOfMemory = None
 
 -- how a run ends
 pub data Outcome : Type 0 where

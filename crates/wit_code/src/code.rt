@@ -74,5 +74,20 @@ pub enum Stop {
     IndexOut = 4,
     FuelSpent = 5,
     TooDeep = 6,
-    OutOfMemory = 7,
+    OutOfMemory,
+}
+
+impl Stop {
+    ghost use Rattle.std.specs.Prelude.{◌≡◌};
+    ghost use Rattle.wit_code.specs.Table.{stop_number};
+
+    /// The number by which a refusal names the stop, from 1 to 6.
+    pub fn number(self) -> Option<u32>
+        ensures { result ≡ stop_number self }
+    {
+        match self {
+            Stop::OutOfMemory => None,
+            stop => Some(stop as u32),
+        }
+    }
 }

@@ -2,6 +2,7 @@ ghost use Rattle.std.specs.Prelude.{◌≡◌, ◌+◌, ◌<◌, ◌≤◌, ◌�
 ghost use Rattle.wit_code.specs.Code.{AreProcs, EachFits, Fits, IsCode, IsWellFormed, Leads, MayCall, MayJump, MayRead, Names, StandsInProc, StandsInStep};
 
 use crate::code::{Op, Proc, Stands};
+use gold_field::P;
 
 /// Whether the code of a step that reads `reads` numbers is well formed, with the procedures that it
 /// calls. In time linear in all the code.
@@ -53,7 +54,10 @@ fn names(procs: &[Proc], stands: Stands, slots: u32, op: &Op) -> bool
     ensures { IsTrue result ↔ Names procs.now stands slots op.now }
 {
     match *op {
-        Op::Const(d, _) => d < slots,
+        Op::Const(d, v) => {
+            prove!(v.get() < P);
+            d < slots
+        }
         Op::Move(d, a) => d < slots && a < slots,
         Op::Read(d, i) => d < slots && may_read(stands, i),
         Op::Un(_, d, a) => d < slots && a < slots,
