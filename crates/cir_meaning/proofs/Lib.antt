@@ -4,3 +4,5 @@ pub mod Difference
 pub mod Holding
 pub mod OneSource
 pub mod TermCount
+pub mod ValueLaws
+pub mod LazyLaws

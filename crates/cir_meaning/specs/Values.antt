@@ -173,6 +173,12 @@ truth_of (Linear f) = Opaque
 truth_of (Quadratic a b c) = Opaque
 truth_of Opaque = Opaque
 
+-- the value of a lazy operator, of what its left side tells and of its right side
+abbrev pub lazy_result : Lazy → Value → Value
+lazy_result (Decided n) y = Known n
+lazy_result Right y = truth_of y
+lazy_result Shaded y = Opaque
+
 -- which side of `?:` a condition chooses, if that is known; else both are shaded, and the value is opaque
 pub data Side : Type 0 where
   First : Side
@@ -184,6 +190,25 @@ side_of (Known k) = if k == 0 then Second else First
 side_of (Linear f) = Both
 side_of (Quadratic a b c) = Both
 side_of Opaque = Both
+
+-- the value of `?:`
+abbrev pub chosen : Side → Value → Value → Value
+chosen First x y = x
+chosen Second x y = y
+chosen Both x y = Opaque
+
+-- `&&`, `||` and `?:` on numbers. Truth is "not 0".
+abbrev pub truth_number : ℕ → ℕ
+truth_number n = if n == 0 then 0 else 1
+
+abbrev pub and_number : ℕ → ℕ → ℕ
+and_number m n = if m == 0 then 0 else truth_number n
+
+abbrev pub or_number : ℕ → ℕ → ℕ
+or_number m n = if m == 0 then truth_number n else 1
+
+abbrev pub choice_number : ℕ → ℕ → ℕ → ℕ
+choice_number c m n = if c == 0 then n else m
 
 -- the number of a value; an opaque one has none that anybody asks for
 abbrev pub number_of : Value → Number

@@ -11,6 +11,8 @@ ghost use Rattle.cir_lc.specs.Number.{Assignment};
 ghost use Rattle.cir_meaning.specs.declared.class.Class.{Class};
 ghost use Rattle.cir_meaning.specs.Classes.{class_by, unary_class};
 ghost use Rattle.cir_meaning.specs.Values.{IsValue, Parts, Value, class_of, difference_of, known_number, number_of, parts_of, result_of, unary_result};
+ghost use Rattle.cir_meaning.specs.Values.{Known as KnownValue, Decided, Shaded, Both, and_left, or_left, lazy_result, side_of, chosen};
+ghost use Rattle.cir_meaning.specs.Values.{and_number, or_number, choice_number};
 ghost use Rattle.cir_meaning.specs.Source.{Equation, IsDifference, IsEqualAt, IsSource, all_terms};
 
 /// The class of an operator's result is the table's, whatever the numbers are.
@@ -31,6 +33,44 @@ pub fn unary_operators()
     ensures class { (op : Op1) (x : Value) → class_of (unary_result op x) ≡ unary_class op (class_of x) }
     ensures number { (op : Op1) (x : Value) (s : Assignment) → IsValue x →
         class_of (unary_result op x) ≢ Class.Opaque → unary_of op (number_of x s) ≡ number_of (unary_result op x) s }
+{}
+
+/// The operators give values of the field, so a law on values holds of nested expressions too.
+pub fn results_are_values()
+    ensures binary { (op : Op2) (x y v : Value) → IsValue x → IsValue y → result_of op x y ≡ Some v →
+        IsValue v }
+    ensures unary { (op : Op1) (x : Value) → IsValue x → IsValue (unary_result op x) }
+    ensures and { (x y : Value) → IsValue (lazy_result (and_left x) y) }
+    ensures or { (x y : Value) → IsValue (lazy_result (or_left x) y) }
+    ensures choice { (c x y : Value) → IsValue x → IsValue y → IsValue (chosen (side_of c) x y) }
+{}
+
+/// `&&`: a result that isn't opaque is the operator's on the numbers of its sides, at each assignment. Known
+/// sides have a known one. A known left side of 0 decides, and one that isn't known shades the right side.
+pub fn conjunctions()
+    ensures number { (x y : Value) (s : Assignment) → class_of (lazy_result (and_left x) y) ≢ Class.Opaque →
+        number_of (lazy_result (and_left x) y) s ≡ and_number (number_of x s) (number_of y s) }
+    ensures known { (x y : Value) → class_of x ≡ Class.Known → class_of y ≡ Class.Known →
+        class_of (lazy_result (and_left x) y) ≡ Class.Known }
+    ensures decided { and_left (KnownValue 0) ≡ Decided 0 }
+    ensures shaded { (x : Value) → class_of x ≢ Class.Known → and_left x ≡ Shaded }
+{}
+
+/// The same of `||`, which a known left side that isn't 0 decides.
+pub fn disjunctions()
+    ensures number { (x y : Value) (s : Assignment) → class_of (lazy_result (or_left x) y) ≢ Class.Opaque →
+        number_of (lazy_result (or_left x) y) s ≡ or_number (number_of x s) (number_of y s) }
+    ensures known { (x y : Value) → class_of x ≡ Class.Known → class_of y ≡ Class.Known →
+        class_of (lazy_result (or_left x) y) ≡ Class.Known }
+    ensures decided { (k : ℕ) → k ≢ 0 → or_left (KnownValue k) ≡ Decided 1 }
+    ensures shaded { (x : Value) → class_of x ≢ Class.Known → or_left x ≡ Shaded }
+{}
+
+/// `?:`: a known condition chooses one side, by the condition's number; one that isn't known shades both.
+pub fn choices()
+    ensures number { (c x y : Value) (s : Assignment) → class_of c ≡ Class.Known →
+        number_of (chosen (side_of c) x y) s ≡ choice_number (number_of c s) (number_of x s) (number_of y s) }
+    ensures shaded { (c : Value) → class_of c ≢ Class.Known → side_of c ≡ Both }
 {}
 
 /// Where the difference of two values is `a * b + c`, this is left minus right at each assignment.

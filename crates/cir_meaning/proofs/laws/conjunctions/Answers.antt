@@ -1,0 +1,11 @@
+use Rattle.std.proofs.Common.{refl}
+use Rattle.cir_meaning.proofs.LazyLaws.{and_is, and_class, and_shaded}
+use Rattle.cir_meaning.proofs.laws.conjunctions.Goals as goal
+
+pub returns : goal.returns
+returns c = record {
+  number = λ x y s. and_is s x y;
+  known = and_class;
+  decided = refl;
+  shaded = and_shaded;
+}
