@@ -8,7 +8,8 @@ abbrev pub chain : Net → Flow
 chain n = record {
   net = n;
   start = Some 3 ∷ None ∷ None ∷ [];
-  answers = Gives (33 ∷ []) ∷ Gives (34 ∷ []) ∷ [];
+  answers =
+      Gives (33 ∷ []) ∷ Gives (34 ∷ []) ∷ [];
 }
 
 -- strand 0 refuses, and strand 1 gives 7

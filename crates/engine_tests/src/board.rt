@@ -80,8 +80,8 @@ fn read_taken<A: Answers>(board: &Board<'_, A>, seat: &mut WorkSeat, strand: u32
     board.read(seat, cell)
 }
 
-/// Tells the successors of a strand that is published whole, and ends it. The answer is the last one
-/// that became ready.
+/// Tells the successors of a strand that is published whole, and ends it. The answer is the last
+/// one that became ready.
 fn hand_over<A: Answers>(
     board: &Board<'_, A>,
     graph: &Graph,
