@@ -53,10 +53,6 @@ worker z v = record {
 abbrev pub TellsNext : Flow → Option Hold → ℕ → Type 0
 TellsNext f o k = IfSome o (λ h. k ≡ slice_index (succs_of f.net h.strand) h.released)
 
--- the least refused strand, where the number of strands stands for None
-abbrev pub least_of : Flow → ℕ → Option ℕ
-least_of f l = cond (l == f.net.strands) None (Some l)
-
 -- A seat after one step of each kind. It has made one more.
 abbrev pub after_step : Worker → Worker
 after_step w = record w { steps = w.steps + 1 }

@@ -1,7 +1,7 @@
-ghost use Rattle.std.specs.Prelude.{◌≡◌, ◌<◌, ◌≤◌, ◌↔◌, None, IsTrue, IfSome};
+ghost use Rattle.std.specs.Prelude.{◌≡◌, ◌<◌, ◌≤◌, ◌↔◌, None, IsTrue, IfSome, MatchOption};
 ghost use Rattle.flow_core.specs.Flow.{Refuses, answer_of, HasValue};
 ghost use Rattle.flow_board.specs.Plays.{Reads, CanPublish, CanRelease, CanFinish, CanRefuse};
-ghost use Rattle.flow_board.specs.Seats.{TellsNext, least_of, cut_from, joined_with, after_step};
+ghost use Rattle.flow_board.specs.Seats.{TellsNext, cut_from, joined_with, after_step};
 ghost use Rattle.flow_board.specs.Seats.{after_take};
 ghost use Rattle.flow_board.specs.Seats.{after_publish, after_release, after_look, after_finish};
 ghost use Rattle.flow_board.specs.Seats.{after_refuse, after_split};
@@ -171,8 +171,8 @@ impl<'g, A: Answers> Board<'g, A> {
     /// The least strand that has been refused so far: one load.
     pub fn least(&self, seat: &mut WorkSeat) -> Option<u32>
         requires own { seat.old.place ≡ self.now }
-        ensures value { result ≡ least_of self.now.flow seat.new.seen }
-        ensures near { seat.new.seen ≤ self.now.flow.net.strands }
+        ensures value { MatchOption result (seat.new.seen ≡ self.now.flow.net.strands)
+            (λ l. (l ≡ seat.new.seen) × (l < self.now.flow.net.strands)) }
         ensures refuses { IfSome result (λ l. answer_of self.now.flow l ≡ Refuses) }
         ensures seen { seat.new.seen ≤ seat.old.seen }
         ensures seat { seat.new ≡ after_look seat.old seat.new.seen }
