@@ -1,5 +1,6 @@
 -- What the values of a written file mean.
-use Rattle.std.proofs.Common.{◌≡◌, ℕ, suc, ◌+◌, ◌*◌, ◌%◌, ◌<◌, List, [], ◌∷◌, Result, Ok, Err, refl, ap, sym, ◌∙◌, subst, arith, inl, inr}
+use Rattle.std.proofs.Common.{◌≡◌, ℕ, zero, suc, ◌+◌, ◌*◌, ◌%◌, ◌<◌, List, [], ◌∷◌, Result, Ok, Err, refl, ap, sym, ◌∙◌, subst, arith, inl, inr}
+use Rattle.std.specs.List.{range_with_len}
 use Rattle.std.specs.Prelude.{All, IsErrAnd, Option, Some, None, sum_by, slice_index, slice_index_or, ◌↔◌}
 use Rattle.std.proofs.lemmas.List.Sums.{sum_by-cons}
 use Rattle.gold_field.specs.Form.{Holds, value_at, SignalsBelow, ConstraintBelow}
@@ -11,7 +12,7 @@ use Rattle.out_io.specs.Contents.{Contents}
 use Rattle.cir_ast.specs.declared.plain_program.Program.{Program as PlainProgram}
 use Rattle.cir_ast.specs.declared.program.Program.{Program}
 use Rattle.cir_lc.specs.Number.{Assignment}
-use Rattle.cir_sources.specs.Loading.{Told}
+use Rattle.out_io.specs.Calls.{Told}
 use Rattle.cir_sources.specs.declared.fault.LoadFault.{LoadFault}
 use Rattle.cir_sources.specs.declared.fault.LoadFault.TheVariants as load
 use Rattle.cir_names.specs.Loading.{Loads, IsLoaded, IsLoadFault}
@@ -23,36 +24,62 @@ use Rattle.cir_compile.specs.Compiled.{Compiles, Writes, IsWritten, IsCompiled, 
 use Rattle.cir_compile.specs.Faults.{of_load}
 use Rattle.cir_compile.specs.Written.{file_of, Means}
 
+-- the two give the same number to each signal below n
+abbrev Same : ℕ → (ℕ → ℕ) → (ℕ → ℕ) → Type 0
+Same n s t = (k : ℕ) → k < n → s k ≡ t k
+
+abbrev times : (ℕ → ℕ) → Term → ℕ
+times s x = x.coef * s x.signal
+
 -- a value depends on the numbers of its own signals alone
-sum_agrees : (n : ℕ) (s t : ℕ → ℕ) → ((k : ℕ) → k < n → s k ≡ t k) → (terms : List Term) → SignalsBelow n terms
-    → sum_by (λ x. x.coef * s x.signal) terms ≡ sum_by (λ x. x.coef * t x.signal) terms
+sum_agrees : (n : ℕ) (s t : ℕ → ℕ) → Same n s t → (terms : List Term) → SignalsBelow n terms
+    → sum_by (times s) terms ≡ sum_by (times t) terms
 sum_agrees n s t same [] below = refl
 sum_agrees n s t same (x ∷ terms) below =
-    sum_by-cons (λ x. x.coef * s x.signal) x terms
-    ∙ ap (λ (v : ℕ). x.coef * v + sum_by (λ x. x.coef * s x.signal) terms) (same x.signal (below 0 x (omega arith)))
-    ∙ ap (λ (v : ℕ). x.coef * t x.signal + v) (sum_agrees n s t same terms (λ k d h. below (suc k) d (omega arith)))
-    ∙ sym (sum_by-cons (λ x. x.coef * t x.signal) x terms)
+    sum_by-cons (times s) x terms
+    ∙ ap (λ (v : ℕ). x.coef * v + sum_by (times s) terms) (same x.signal (below 0 x (omega arith)))
+    ∙ ap (λ (v : ℕ). x.coef * t x.signal + v)
+    (sum_agrees n s t same terms (λ k d h. below (suc k) d (omega arith)))
+    ∙ sym (sum_by-cons (times t) x terms)
 
-value_agrees : (n : ℕ) (s t : ℕ → ℕ) → ((k : ℕ) → k < n → s k ≡ t k) → (terms : List Term) → SignalsBelow n terms → value_at s terms ≡ value_at t terms
-value_agrees n s t same terms below = ap (λ (v : ℕ). v % P) (sum_agrees n s t same terms below)
+value_agrees : (n : ℕ) (s t : ℕ → ℕ) → Same n s t → (terms : List Term) → SignalsBelow n terms
+    → value_at s terms ≡ value_at t terms
+value_agrees n s t same terms below =
+    ap (λ (v : ℕ). v % P) (sum_agrees n s t same terms below)
 
-holds_agrees : (n : ℕ) (s t : ℕ → ℕ) → ((k : ℕ) → k < n → s k ≡ t k) → (k : Constraint) → ConstraintBelow n k → Holds s k → Holds t k
+holds_agrees : (n : ℕ) (s t : ℕ → ℕ) → Same n s t → (k : Constraint) → ConstraintBelow n k
+    → Holds s k → Holds t k
 holds_agrees n s t same k below h =
     let a = value_agrees n s t same k.a below.a in
     let b = value_agrees n s t same k.b below.b in
     let c = value_agrees n s t same k.c below.c in
-    ap (λ (v : ℕ). (v * value_at t k.b) % P) (sym a) ∙ ap (λ (v : ℕ). (value_at s k.a * v) % P) (sym b) ∙ h ∙ c
+    ap (λ (v : ℕ). (v * value_at t k.b) % P) (sym a)
+    ∙ ap (λ (v : ℕ). (value_at s k.a * v) % P) (sym b) ∙ h ∙ c
+
+-- the label of each wire of a circuit's file is its number
+label_from : (a n k : ℕ) → k < n → slice_index (range_with_len a n) k ≡ a + k
+label_from a zero k h = absurd (omega arith)
+label_from a (suc n) zero h = omega arith
+label_from a (suc n) (suc k) h =
+    let next : slice_index (range_with_len (a + 1) n) k ≡ a + 1 + k =
+    label_from (a + 1) n k (omega arith) in
+    next ∙ omega arith
+
+label : (n k : ℕ) → k < n → slice_index (range_with_len 0 n) k ≡ k
+label n k h = label_from 0 n k h ∙ omega arith
 
 pub means : (p : PlainProgram) (c : Circuit) → All (ConstraintBelow (1 + c.signals)) c.constraints
     → ((s : Assignment) → Satisfies p s ↔ All (Holds s.at) c.constraints) → Means p (file_of c)
 means p c below satisfied w values = (
   λ holds. (
     record { at = slice_index w; one = values.one; below = values.below },
-    record { agrees = λ k h. refl },
+    record { agrees = λ k h. ap (λ (n : ℕ). slice_index w n) (label (1 + c.signals) k h) },
     (satisfied (record { at = slice_index w; one = values.one; below = values.below })).1 holds,
   ),
-  λ found. λ k d h. holds_agrees (1 + c.signals) found.0.at (slice_index w) found.1.agrees (slice_index_or c.constraints k d) (below k d h)
-      ((satisfied found.0).0 found.2 k d h),
+  λ found. λ k d h.
+      holds_agrees (1 + c.signals) found.0.at (slice_index w)
+      (λ n l. ap found.0.at (sym (label (1 + c.signals) n l)) ∙ found.1.agrees n l)
+      (slice_index_or c.constraints k d) (below k d h) ((satisfied found.0).0 found.2 k d h),
 )
 
 told_map : (contents : Option Contents) (P Q : Contents → Type 0) → ((files : Contents) → P files → Q files) → Told contents P → Told contents Q

@@ -9,7 +9,7 @@ use Rattle.cir_ast.specs.declared.refusal.Kind.TheVariants.{NotInProfile}
 use Rattle.cir_ast.specs.declared.refusal.Form.TheVariants.{Unbuilt}
 use Rattle.cir_ast.specs.Placed.{seen_program}
 use Rattle.cir_sources.specs.Faults.{refusal_at}
-use Rattle.cir_sources.specs.Loading.{Told}
+use Rattle.out_io.specs.Calls.{Told}
 use Rattle.cir_names.specs.Loading.{IsLoaded, IsLoadFault}
 use Rattle.cir_subset.specs.declared.site.Site.{Site}
 use Rattle.cir_subset.specs.Unbuilt.{first_unbuilt}
@@ -37,7 +37,9 @@ pub record IsWritten (program : Program) (f : File) : Type 0 where
 
 -- a form that isn't built, at its place among the program's files
 abbrev pub unbuilt_at : Program → Site → Refusal
-unbuilt_at program site = refusal_at (unwrap_or (slice_get program.files site.file) []) (NotInProfile Unbuilt) record { line = site.line; column = site.column }
+unbuilt_at program site =
+    refusal_at (unwrap_or (slice_get program.files site.file) []) (NotInProfile Unbuilt)
+    record { line = site.line; column = site.column }
 
 -- the program has a form that isn't built, at the first of them
 pub record IsUnbuilt (program : Program) (r : Refusal) : Type 0 where
@@ -60,7 +62,8 @@ Writes program (Err fault.Fault) = ⊥
 Writes program (Err fault.OutOfMemory) = ⊤
 
 -- the source of this name loads as a program that is written as the file
-pub record IsCompiled (files : Contents) (name : List ℕ) (library : Option (List ℕ)) (f : File) : Type 0 where
+pub record IsCompiled (files : Contents) (name : List ℕ) (library : Option (List ℕ)) (f : File)
+    : Type 0 where
   pub program : Program
   pub loaded : IsLoaded files name library program
   pub written : IsWritten program f
@@ -68,12 +71,19 @@ pub record IsCompiled (files : Contents) (name : List ℕ) (library : Option (Li
 -- the source doesn't load, or its program is refused
 abbrev pub IsRefused : Contents → List ℕ → Option (List ℕ) → Refusal → Type 0
 IsRefused files name library r =
-    IsLoadFault files name library r ⊎ ((program : Program) × IsLoaded files name library program × (IsUnbuilt program r ⊎ IsMeaningless program r))
+    IsLoadFault files name library r
+    ⊎ ((program : Program) × IsLoaded files name library program
+    × (IsUnbuilt program r ⊎ IsMeaningless program r))
 
--- over the contents of a store, where it tells them; it fails only where the store did, and want of memory is free
-abbrev pub Compiles : Option Contents → List ℕ → Option (List ℕ) → Type 0 → Result File CompileFault → Type 0
-Compiles contents name library failed (Ok f) = Told contents (λ files. IsCompiled files name library f)
-Compiles contents name library failed (Err (fault.Refused r)) = Told contents (λ files. IsRefused files name library r)
-Compiles contents name library failed (Err fault.Missing) = Told contents (λ files. files name ≡ None)
+-- over the contents of a store, where it tells them; it fails only where the store did, and want of
+-- memory is free
+abbrev pub Compiles
+    : Option Contents → List ℕ → Option (List ℕ) → Type 0 → Result File CompileFault → Type 0
+Compiles contents name library failed (Ok f) =
+    Told contents (λ files. IsCompiled files name library f)
+Compiles contents name library failed (Err (fault.Refused r)) =
+    Told contents (λ files. IsRefused files name library r)
+Compiles contents name library failed (Err fault.Missing) =
+    Told contents (λ files. files name ≡ None)
 Compiles contents name library failed (Err fault.Fault) = failed
 Compiles contents name library failed (Err fault.OutOfMemory) = ⊤

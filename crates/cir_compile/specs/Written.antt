@@ -27,10 +27,13 @@ pub record AreValues (f : File) (w : List ℕ) : Type 0 where
   pub one : slice_index w 0 ≡ 1
   pub below : (k : ℕ) → slice_index w k < P
 
--- an assignment of numbers to the signals that has these values at the wires
+-- the assignment has these values at the wires: the value of each wire is that of the signal that
+-- its label names
 pub record Extends (f : File) (w : List ℕ) (s : Assignment) : Type 0 where
-  pub agrees : (k : ℕ) → k < f.wires → s.at k ≡ slice_index w k
+  pub agrees : (wire : ℕ) → wire < f.wires → s.at (slice_index f.labels wire) ≡ slice_index w wire
 
--- values of the wires satisfy the file exactly when they extend to an assignment that satisfies the program
+-- values of the wires satisfy the file exactly when they extend to an assignment that satisfies the
+-- program
 abbrev pub Means : Program → File → Type 0
-Means p f = (w : List ℕ) → AreValues f w → All (Holds (slice_index w)) f.constraints ↔ ((s : Assignment) × Extends f w s × Satisfies p s)
+Means p f = (w : List ℕ) → AreValues f w
+    → All (Holds (slice_index w)) f.constraints ↔ ((s : Assignment) × Extends f w s × Satisfies p s)

@@ -2,7 +2,7 @@ ghost use Rattle.std.specs.Prelude.{◌≡◌, IfOk};
 ghost use Rattle.std.specs.Option.{option_copied};
 ghost use Rattle.out_io.specs.Faults.{Rose};
 ghost use Rattle.iden_files.specs.File.{InLimits};
-ghost use Rattle.cir_sources.specs.Loading.{OnlyReads};
+ghost use Rattle.out_io.specs.Calls.{OnlyReads};
 ghost use Rattle.cir_compile.specs.Compiled.{Compiles, Writes, unbuilt_at};
 
 use crate::fault::CompileFault;
@@ -16,20 +16,22 @@ use iden_files::R1cs;
 use out_io::Store;
 use std::alloc::{AllocError, Global};
 
-/// The file of the constraints of the source of this name with all that it includes, beside it or in the folder
-/// of libraries; or its first refusal.
+/// The file of the constraints of the source of this name with all that it includes, beside it or in
+/// the folder of libraries; or its first refusal.
 pub fn compile<S: Store>(
     alloc: Global,
     store: &mut S,
     name: &str,
     library: Option<&str>,
 ) -> Result<R1cs, CompileFault>
-    // The file is that of the program that the source means. Values satisfy it exactly when they extend to
-    // an assignment that satisfies the program.
-    ensures compiles { Compiles (S.contents store.old) name.now (option_copied library.entry) (Rose (S.faults store.old) (S.faults store.new)) result }
+    // The file is that of the program that the source means. Values satisfy it exactly when they
+    // extend, by the labels of its wires, to an assignment that satisfies the program.
+    ensures compiles { Compiles (S.contents store.old) name.now (option_copied library.entry)
+        (Rose (S.faults store.old) (S.faults store.new)) result }
     ensures limits { IfOk result InLimits }
     ensures store { OnlyReads (S.contents store.old) (S.contents store.new)
-        (S.faults store.old) (S.faults store.new) (S.never_fails store.old) (S.never_fails store.new) }
+        (S.faults store.old) (S.faults store.new)
+        (S.never_fails store.old) (S.never_fails store.new) }
 {
     let program = load(alloc, store, name, library)?;
     let file = written(alloc, program)?;
