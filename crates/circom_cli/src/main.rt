@@ -1,6 +1,8 @@
 //! The program `circom_gold`: its words, files and standard output, given to the library.
 #![tactic(auto)]
 
+ghost use Rattle.std.specs.Prelude.{◌≡◌, IfOk, IsErr};
+
 use circom_gold::run;
 use out_io::{RealSink, RealStore};
 use std::alloc::AllocError;
@@ -13,16 +15,25 @@ use std::rt::Env;
 const WANT_OF_MEMORY: u8 = 4;
 
 fn main(rt: HostRuntime) -> ExitCode {
-    match exit_status(&rt) {
-        Ok(status) => ExitCode::from(status),
-        Err(AllocError) => {
-            let _ = eprintln!(rt; "want of memory");
-            ExitCode::from(WANT_OF_MEMORY)
-        }
+    let outcome = outcome(&rt);
+    if outcome.is_err() {
+        let _ = eprintln!(rt; "want of memory");
+    }
+    ExitCode::from(exit_status(outcome))
+}
+
+// The exit status: the answer, or 4 for want of memory.
+fn exit_status(outcome: Result<u8, AllocError>) -> u8
+    ensures answer { IfOk outcome (λ status. result ≡ status) }
+    ensures want_of_memory { IsErr outcome → result ≡ 4 }
+{
+    match outcome {
+        Ok(status) => status,
+        Err(AllocError) => WANT_OF_MEMORY,
     }
 }
 
-fn exit_status(rt: &HostRuntime) -> Result<u8, AllocError> {
+fn outcome(rt: &HostRuntime) -> Result<u8, AllocError> {
     let words = words(rt)?;
     let mut store = RealStore::new(rt.clone()?);
     let mut out = RealSink::new(rt.clone()?);

@@ -1,1 +1,4 @@
+pub mod Forms
+pub mod OneReply
+pub mod Replies
 pub mod CheckLaws

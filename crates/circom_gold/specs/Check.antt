@@ -18,7 +18,8 @@ satisfaction (Some index) = ConstraintFails index
 abbrev pub verdict : File → List ℕ → Verdict
 verdict file values =
     if length values == file.wires
-    then (if slice_index values 0 == 1 then satisfaction (first_failing_from 0 values file.constraints) else WireZero)
+    then (if slice_index values 0 == 1
+    then satisfaction (first_failing_from 0 values file.constraints) else WireZero)
     else CountsDiffer (length values) file.wires
 
 -- the files in the order of the words

@@ -2,8 +2,11 @@ pub mod Check
 pub mod Compile
 pub mod Files
 pub mod Lines
+pub mod Matches
 pub mod Reply
+pub mod Run
 pub mod Satisfaction
+pub mod Shown
 pub mod Steps
 pub mod Stops
 pub mod Words

@@ -1,8 +1,7 @@
--- The exit status and the printed line of each answer.
+-- The printed lines, and the exit status of a verdict.
 use Rattle.std.specs.Prelude.{ℕ, List, [], ◌∷◌, ◌++◌, codes, decimal}
 use Rattle.iden_files.specs.declared.fault.FileCause.{FileCause}
 use Rattle.iden_files.specs.declared.fault.FileCause.TheVariants.{Magic, Version, Truncated, SectionMissing, SectionTwice, WrongPrime, ValueTooLarge, WireOutOfRange, BadCount, CustomGates, Limit}
-use Rattle.circom_gold.specs.declared.answer.Answer.{Answer}
 use Rattle.cir_lexer.specs.declared.token.LexCause.{LexCause}
 use Rattle.cir_lexer.specs.declared.token.LexCause.TheVariants as lex
 use Rattle.cir_ast.specs.declared.refusal.Kind.{Kind}
@@ -12,25 +11,17 @@ use Rattle.cir_ast.specs.declared.refusal.Which.TheVariants as which
 use Rattle.cir_ast.specs.declared.refusal.Form.{Form}
 use Rattle.cir_ast.specs.declared.refusal.Form.TheVariants as form
 use Rattle.cir_ast.specs.declared.refusal.Refusal.{Refusal as SourceRefusal}
-use Rattle.circom_gold.specs.declared.answer.Answer.TheVariants.{Usage, StoreFailed, Refused, Checked, Compiled}
 use Rattle.circom_gold.specs.declared.answer.Refusal.{Refusal}
 use Rattle.circom_gold.specs.declared.answer.Refusal.TheVariants.{NoSuchFile, BadFile, BadSource}
 use Rattle.circom_gold.specs.declared.answer.Verdict.{Verdict}
 use Rattle.circom_gold.specs.declared.answer.Verdict.TheVariants.{CountsDiffer, WireZero, ConstraintFails, Satisfied}
 
+-- 0 for success, 1 for a refusal, 2 for values that fail
 abbrev pub verdict_status : Verdict → ℕ
 verdict_status (CountsDiffer values wires) = 1
 verdict_status WireZero = 2
 verdict_status (ConstraintFails index) = 2
 verdict_status Satisfied = 0
-
--- 0 for success, 1 for a refusal, 2 for values that fail, 3 for a fault, 64 for words without a reading
-abbrev pub status_of : Answer → ℕ
-status_of Usage = 64
-status_of StoreFailed = 3
-status_of (Refused refusal) = 1
-status_of (Checked verdict) = verdict_status verdict
-status_of (Compiled wires constraints) = 0
 
 -- the parts one after another, and a line feed
 abbrev pub line : List (List ℕ) → List ℕ
@@ -125,7 +116,10 @@ count_text _ = []
 
 abbrev pub source_line : SourceRefusal → List ℕ
 source_line r =
-    line (codes "refused: " ∷ kind_text r.kind ∷ detail_text r.kind ∷ count_text r.kind ∷ codes " at " ∷ r.place.file ∷ codes ":" ∷ decimal r.place.line ∷ codes ":" ∷ decimal r.place.column ∷ codes " in " ∷ r.place.path ∷ [])
+    line
+    (codes "refused: " ∷ kind_text r.kind ∷ detail_text r.kind ∷ count_text r.kind
+    ∷ codes " at " ∷ r.place.file ∷ codes ":" ∷ decimal r.place.line ∷ codes ":"
+    ∷ decimal r.place.column ∷ codes " in " ∷ r.place.path ∷ [])
 
 abbrev pub refusal_line : Refusal → List ℕ
 refusal_line (NoSuchFile name) = line (codes "refused: " ∷ name ∷ codes ": no such file" ∷ [])
@@ -134,16 +128,23 @@ refusal_line (BadSource r) = source_line r
 
 abbrev pub verdict_line : Verdict → List ℕ
 verdict_line (CountsDiffer values wires) =
-    line (codes "refused: " ∷ decimal values ∷ codes " values for " ∷ decimal wires ∷ codes " wires" ∷ [])
+    line
+    (codes "refused: " ∷ decimal values ∷ codes " values for " ∷ decimal wires ∷ codes " wires"
+    ∷ [])
 verdict_line WireZero = line (codes "unsatisfied: wire 0" ∷ [])
 verdict_line (ConstraintFails index) = line (codes "unsatisfied: constraint " ∷ decimal index ∷ [])
 verdict_line Satisfied = line (codes "satisfied" ∷ [])
 
-abbrev pub line_of : Answer → List ℕ
-line_of Usage =
-    line (codes "usage: circom_gold check, compile, witness, prove, public, audit or generate" ∷ [])
-line_of StoreFailed = line (codes "fault: store" ∷ [])
-line_of (Refused refusal) = refusal_line refusal
-line_of (Checked verdict) = verdict_line verdict
-line_of (Compiled wires constraints) =
-    line (codes "compiled: wires " ∷ decimal wires ∷ codes ", constraints " ∷ decimal constraints ∷ [])
+abbrev pub compiled_line : ℕ → ℕ → List ℕ
+compiled_line wires constraints =
+    line
+    (codes "compiled: wires " ∷ decimal wires ∷ codes ", constraints " ∷ decimal constraints ∷ [])
+
+abbrev pub usage_line : List ℕ
+usage_line =
+    line
+    (codes "usage: circom_gold check, compile, witness, prove, public, audit or generate" ∷ [])
+
+-- what is said where the store failed
+abbrev pub fault_line : List ℕ
+fault_line = line (codes "fault: store" ∷ [])

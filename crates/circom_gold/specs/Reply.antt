@@ -1,61 +1,83 @@
--- The answer to the words over the files, and what a run may have put.
-use Rattle.std.specs.Prelude.{◌≡◌, ℕ, List, [], Option, Some, None, Result, Ok, Err, ◌⊎◌}
-use Rattle.out_io.specs.Contents.{Contents, Changes}
-use Rattle.out_io.specs.Written.{IsAppended, IsAppendedInPart}
+-- The reply of the program to the words, over the files.
+use Rattle.std.specs.Prelude.{◌≡◌, ℕ, List, length, Option, Some, None, Result, Ok, Err, ⊤}
+use Rattle.out_io.specs.Calls.{Told}
+use Rattle.out_io.specs.Contents.{Contents}
+use Rattle.iden_files.specs.File.{File}
+use Rattle.iden_files.specs.Spelling.{r1cs_bytes}
 use Rattle.circom_gold.specs.Check.{check_of}
-use Rattle.circom_gold.specs.Compile.{IsCompileAnswer, MayWriteFile}
-use Rattle.circom_gold.specs.Lines.{status_of, line_of}
-use Rattle.circom_gold.specs.Words.{Command, check, compile}
-use Rattle.circom_gold.specs.declared.answer.Answer.{Answer}
-use Rattle.circom_gold.specs.declared.answer.Answer.TheVariants.{Usage, StoreFailed, Refused, Checked}
+use Rattle.circom_gold.specs.Compile.{Compiles, AreConstraintsOf}
+use Rattle.circom_gold.specs.Lines.{usage_line, fault_line, refusal_line, verdict_status, verdict_line, compiled_line}
+use Rattle.circom_gold.specs.Words.{Command, Options, check, compile}
 use Rattle.circom_gold.specs.declared.answer.Refusal.{Refusal}
+use Rattle.circom_gold.specs.declared.answer.Verdict.{Verdict}
 
--- what a command found, or why it was refused
-abbrev pub either : {X : Type 0} → (X → Answer) → Result X Refusal → Answer
-either answer (Ok x) = answer x
-either answer (Err refusal) = Refused refusal
+-- a file that is written
+pub record NewFile : Type 0 where
+  pub name : List ℕ
+  pub bytes : List ℕ
 
--- the answer of `check`, which leaves the files as they are
-abbrev pub IsCheckAnswer : Contents → List ℕ → List ℕ → Contents → Answer → Type 0
-IsCheckAnswer files r1cs wtns new answer = (answer ≡ either Checked (check_of files r1cs wtns)) × (new ≡ files)
+-- the exit status, all that is put, and the file that is written, if any
+pub record Reply : Type 0 where
+  pub status : ℕ
+  pub text : List ℕ
+  pub file : Option NewFile
 
--- the answer to a command over the files, and the files that it leaves
-abbrev pub IsAnswer : Contents → Option Command → Contents → Answer → Type 0
-IsAnswer files None new answer = (answer ≡ Usage) × (new ≡ files)
-IsAnswer files (Some (check r1cs wtns)) new answer = IsCheckAnswer files r1cs wtns new answer
-IsAnswer files (Some (compile source out folder)) new answer = IsCompileAnswer files source folder out new answer
+-- the reply to words without a reading
+abbrev pub usage : Reply
+usage = record { status = 64; text = usage_line; file = None }
 
--- what a command may have done to the files, whatever ended it
-abbrev pub MayWrite : Contents → Option Command → Contents → Type 0
-MayWrite files None new = new ≡ files
-MayWrite files (Some (check r1cs wtns)) new = new ≡ files
-MayWrite files (Some (compile source out folder)) new = MayWriteFile files source folder out new
+-- what is said where the store failed
+abbrev pub store_failed : Reply
+store_failed = record { status = 3; text = fault_line; file = None }
 
--- the answer is of this kind, or says that the store failed, where it did
-abbrev pub SaysOr : Type 0 → (Answer → Type 0) → Answer → Type 0
-SaysOr failed Is answer = Is answer ⊎ (failed × (answer ≡ StoreFailed))
+abbrev pub refused : Refusal → Reply
+refused refusal = record { status = 1; text = refusal_line refusal; file = None }
 
--- the program says this to the words, or that the store failed, where it did
-abbrev pub Says : Option Contents → Option Contents → Option Command → Type 0 → Answer → Type 0
-Says old new command failed answer =
-    SaysOr failed (λ answer. Changes (λ files after. IsAnswer files command after answer) old new) answer
+abbrev pub checked : Verdict → Reply
+checked verdict = record {
+  status = verdict_status verdict;
+  text = verdict_line verdict;
+  file = None;
+}
 
--- the exit status is the answer's, and its line was put
-pub record Answers (answer : Answer) (old new : Option (List ℕ)) (exit : ℕ) : Type 0 where
-  pub status : exit ≡ status_of answer
-  pub line : IsAppended (line_of answer) old new
+abbrev pub compiled : List ℕ → File → Reply
+compiled out f = record {
+  status = 0;
+  text = compiled_line f.wires (length f.constraints);
+  file = Some (record { name = out; bytes = r1cs_bytes f });
+}
 
--- the answer to the command is the exit status and the line, and the files are those that it leaves
-abbrev pub Replies : Option Command → Option (List ℕ) → Option (List ℕ) → ℕ → Contents → Contents → Type 0
-Replies command old new exit files after = (answer : Answer) × IsAnswer files command after answer × Answers answer old new exit
+-- what a command found as its reply, or its refusal
+abbrev pub said : {X : Type 0} → (X → Reply) → Result X Refusal → Reply
+said reply (Ok x) = reply x
+said reply (Err refusal) = refused refusal
 
--- the same, or the sink failed
-abbrev pub Puts : Answer → Type 0 → Option (List ℕ) → Option (List ℕ) → ℕ → Type 0
-Puts answer failed old new exit = Answers answer old new exit ⊎ (failed × (exit ≡ 3))
+-- the reply says what the command finds in the files, where the store tells them
+abbrev pub Says : {X : Type 0} → Option Contents → (X → Reply)
+    → (Contents → Result X Refusal → Type 0) → Reply → Type 0
+Says {X} contents reply Finds r =
+    (found : Result X Refusal)
+    × Told contents (λ files. Finds files found) × (r ≡ said reply found)
 
--- nothing was put, or a front of the answer's line, or where the store failed, of the line that says so
-abbrev pub PutsFront : Option Command → Type 0 → Option (List ℕ) → Option (List ℕ) → Contents → Contents → Type 0
-PutsFront command failed old new files after =
-    IsAppendedInPart [] old new
-    ⊎ (((answer : Answer) × IsAnswer files command after answer × IsAppendedInPart (line_of answer) old new)
-    ⊎ (failed × IsAppendedInPart (line_of StoreFailed) old new))
+-- the reply answers the command, over the contents of the store, where it tells them
+abbrev pub Answers : Option Contents → Option Command → Reply → Type 0
+Answers contents None = λ r. r ≡ usage
+Answers contents (Some (check r1cs wtns)) =
+    Says contents checked (λ files found. check_of files r1cs wtns ≡ found)
+Answers contents (Some (compile source out options)) =
+    Says contents (compiled out) (λ files found. Compiles files source options found)
+
+-- the reply writes a file of the source's constraints under the name
+pub record WritesConstraintsOf (files : Contents) (source : List ℕ) (options : Options)
+    (out : List ℕ) (r : Reply) : Type 0 where
+  pub bytes : List ℕ
+  pub file : r.file ≡ Some (record { name = out; bytes = bytes })
+  pub constraints : AreConstraintsOf files source options bytes
+
+-- the files decide what the command finds: for a source, that it compiles to one file, or has one
+-- refusal
+abbrev pub IsDecided : Contents → Option Command → Type 0
+IsDecided files (Some (compile source out options)) =
+    (a b : Result File Refusal) → Compiles files source options a → Compiles files source options b
+    → a ≡ b
+IsDecided files _ = ⊤

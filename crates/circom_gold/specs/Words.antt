@@ -1,47 +1,92 @@
 -- What the words on the command line ask for.
-use Rattle.std.specs.Prelude.{ℕ, Bool, not, ◌&&◌, List, [], ◌∷◌, map, Option, Some, None, String, string_bytes, nat_eq, if◌then◌else◌, codes}
-use Rattle.std.specs.List.{starts_with}
-use Rattle.std.specs.Option.{option_map}
+use Rattle.std.specs.Prelude.{◌≡◌, ℕ, List, [], ◌∷◌, map, Option, Some, None, true, String, string_bytes, if◌then◌else◌, codes}
+use Rattle.std.specs.Option.{option_map, option_and_then}
 use Rattle.std.specs.Str.{bytes_eq}
 use Rattle.std.specs.declared.alloc.Global.{Global}
+use Rattle.clap.specs.Kinds.{Kinds}
+use Rattle.clap.specs.Faults.{fault_of}
+use Rattle.clap.specs.Walk.{Row, Rule, first_of}
+use Rattle.clap.specs.Simple.{App, matches_of, new_app, new_rule, with_rule}
 use Rattle.circom_gold.specs.declared.words.Command.{Command as Asked}
 use Rattle.circom_gold.specs.declared.words.Command.TheVariants as asked
+use Rattle.circom_gold.specs.declared.words.Options.{Options as AskedOptions}
+
+-- what the options of a command say
+pub record Options : Type 0 where
+  -- the folder of `-l`, in which included files are looked for too
+  pub folder : Option (List ℕ)
 
 -- a command, with the names of its files
 pub data Command : Type 0 where
   check : (r1cs wtns : List ℕ) → Command
-  compile : (source out : List ℕ) → (folder : Option (List ℕ)) → Command
+  compile : (source out : List ℕ) → (options : Options) → Command
 
 -- the words by their bytes
 abbrev pub texts : List (String Global) → List (List ℕ)
 texts words = map string_bytes words
 
--- a positional word, which is no option
-abbrev pub is_name : List ℕ → Bool
-is_name word = not (starts_with nat_eq word (codes "-"))
+-- a word that must be given
+abbrev pub given : List ℕ → Rule
+given name = record (new_rule name) { required = true }
 
--- the words behind `check`: R1CS WTNS
-abbrev pub check_words : List (List ℕ) → Option Command
-check_words (r1cs ∷ wtns ∷ []) = if is_name r1cs && is_name wtns then Some (check r1cs wtns) else None
-check_words _ = None
+-- `-l DIR`
+abbrev pub folder : Rule
+folder = record (new_rule (codes "DIR")) { short = Some 108 }
 
--- the words behind the names of `compile`: none, or -l DIR
-abbrev pub compile_options : List ℕ → List ℕ → List (List ℕ) → Option Command
-compile_options source out [] = Some (compile source out None)
-compile_options source out (option ∷ folder ∷ []) = if bytes_eq option (codes "-l") then Some (compile source out (Some folder)) else None
-compile_options source out _ = None
+-- `check R1CS WTNS` and `compile SRC OUT [-l DIR]`, as `clap` sees them: simple commands without
+-- subcommands
+abbrev pub check_form : App
+check_form =
+    with_rule (with_rule (new_app (codes "check")) (given (codes "R1CS"))) (given (codes "WTNS"))
 
--- the words behind `compile`: SRC OUT, then options
-abbrev pub compile_words : List (List ℕ) → Option Command
-compile_words (source ∷ out ∷ options) = if is_name source && is_name out then compile_options source out options else None
-compile_words _ = None
+abbrev pub compile_form : App
+compile_form =
+    with_rule
+    (with_rule (with_rule (new_app (codes "compile")) (given (codes "SRC"))) (given (codes "OUT")))
+    folder
+
+-- these rows, where there is no fault
+abbrev pub unless : Kinds → List Row → Option (List Row)
+unless [] rows = Some rows
+unless (fault ∷ faults) rows = None
+
+-- what `clap` finds in the words of such a command, the first of which is the command word; None
+-- where it refuses them, as it does words that ask for help
+abbrev pub found : App → List (List ℕ) → Option (List Row)
+found form words = unless (fault_of form words) (matches_of form words)
+
+abbrev pub options_in : List Row → Options
+options_in rows = record { folder = first_of (codes "DIR") rows }
+
+-- the command of two words, where both are found
+abbrev pub both : (List ℕ → List ℕ → Command) → Option (List ℕ) → Option (List ℕ) → Option Command
+both command (Some first) (Some second) = Some (command first second)
+both command _ _ = None
+
+abbrev pub check_in : List Row → Option Command
+check_in rows = both check (first_of (codes "R1CS") rows) (first_of (codes "WTNS") rows)
+
+abbrev pub compile_in : List Row → Option Command
+compile_in rows =
+    both (λ source out. compile source out (options_in rows))
+    (first_of (codes "SRC") rows) (first_of (codes "OUT") rows)
+
+-- the reading of the words of a form, None where they have none
+abbrev pub reading : App → (List Row → Option Command) → List (List ℕ) → Option Command
+reading form command words = option_and_then command (found form words)
 
 -- the reading of the words, None where they have none
 abbrev pub command_of : List (List ℕ) → Option Command
 command_of [] = None
-command_of (name ∷ others) = if bytes_eq name (codes "check") then check_words others else (if bytes_eq name (codes "compile") then compile_words others else None)
+command_of (name ∷ others) =
+    if bytes_eq name (codes "check") then reading check_form check_in (name ∷ others)
+    else (if bytes_eq name (codes "compile") then reading compile_form compile_in (name ∷ others)
+    else None)
 
--- what the program's own value for a command stands for
+-- what the program's own values for options and commands stand for
+abbrev pub meant_options : AskedOptions → Options
+meant_options o = record { folder = option_map (λ f. f.now) o.folder }
+
 abbrev pub meant : Asked → Command
 meant (asked.Check r1cs wtns) = check r1cs.now wtns.now
-meant (asked.Compile source out folder) = compile source.now out.now (option_map (λ f. f.now) folder)
+meant (asked.Compile source out options) = compile source.now out.now (meant_options options)

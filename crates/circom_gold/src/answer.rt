@@ -1,19 +1,6 @@
 use iden_files::FileCause;
 use items::Items;
 
-/// What the program answers. It decides the exit status and the printed line.
-#[derive(Debug, Drop)]
-pub enum Answer {
-    /// The words have no reading.
-    Usage,
-    /// The store failed at a call that the command made.
-    StoreFailed,
-    Refused(Refusal),
-    Checked(Verdict),
-    /// The file is written.
-    Compiled { wires: u32, constraints: u32 },
-}
-
 /// Why a command refuses what it was given.
 #[derive(Debug, Drop)]
 pub enum Refusal {

@@ -1,43 +1,49 @@
-ghost use Rattle.std.specs.Prelude.{◌≡◌, IfOk};
-ghost use Rattle.std.specs.Option.{option_copied};
-ghost use Rattle.out_io.specs.Contents.{Changes};
+ghost use Rattle.std.specs.Prelude.{◌≡◌, IfOk, IsErrOf, Ok};
+ghost use Rattle.out_io.specs.Calls.{OnlyReads, Told};
 ghost use Rattle.out_io.specs.Faults.{Rose};
+ghost use Rattle.out_io.specs.declared.fault.IoFault.TheVariants.{Failed};
 ghost use Rattle.iden_files.specs.File.{InLimits};
-ghost use Rattle.circom_gold.specs.Compile.{SourceSteps, CompileSteps, WriteSteps, MayWriteFile, Writes, Counting};
-ghost use Rattle.circom_gold.specs.Steps.{OnlyReads};
+ghost use Rattle.iden_files.specs.ReadR1cs.{r1cs_of};
+ghost use Rattle.iden_files.specs.Spelling.{r1cs_bytes};
+ghost use Rattle.circom_gold.specs.Compile.{Compiles, SourceSteps};
+ghost use Rattle.circom_gold.specs.Reply.{Says, compiled, WritesConstraintsOf};
+ghost use Rattle.circom_gold.specs.Shown.{shown};
+ghost use Rattle.circom_gold.specs.Words.{meant_options};
 
 use crate::answer::Refusal;
+use crate::lines::compiled_line;
+use crate::reply::{NewFile, Reply};
 use crate::stop::Stop;
+use crate::words::Options;
 use cir_compile::CompileFault;
 use iden_files::{R1cs, write_r1cs};
 use items::Items;
-use out_io::Store;
-use std::alloc::Global;
+use out_io::{IoFault, Store};
+use std::alloc::{AllocError, Global};
 
-/// The numbers of wires and of constraints of a file that was written.
-#[derive(Clone, Copy, Debug, PartialEq, Eq)]
-pub struct Written {
-    pub wires: u32,
-    pub constraints: u32,
-}
-
-/// Writes the file of the source's constraints. A source that is refused writes nothing. Included files are also
-/// looked for in the folder, if one is given.
-pub fn compile<S: Store>(
+/// The reply of `compile`: the file of the source's constraints, under the name `out`. A source that
+/// is refused has no file.
+pub fn compile_reply<'w, S: Store>(
     alloc: Global,
     source: &str,
-    folder: Option<&str>,
-    out: &str,
+    out: &'w str,
+    options: Options<'_>,
     store: &mut S,
-) -> Result<Written, Stop>
-    ensures step { CompileSteps (S.contents store.old) (S.contents store.new) source.now (option_copied folder.entry) out.now
-        (Rose (S.faults store.old) (S.faults store.new)) result }
-    ensures kept { Changes (λ files new. MayWriteFile files source.now (option_copied folder.entry) out.now new) (S.contents store.old) (S.contents store.new) }
-    ensures counting { Counting (S.faults store.old) (S.faults store.new) (S.never_fails store.old) (S.never_fails store.new) }
+) -> Result<Reply<'w>, IoFault>
+    ensures says { IfOk result (λ r. Says (S.contents store.old) (compiled out.entry.now)
+        (λ files found. Compiles files source.now (meant_options options.entry) found) (shown r)) }
+    ensures exactly { IfOk result (λ r. r.status ≡ 0 → Told (S.contents store.old)
+        (λ files. WritesConstraintsOf files source.now (meant_options options.entry)
+        out.entry.now (shown r))) }
+    ensures fault { IsErrOf result Failed → Rose (S.faults store.old) (S.faults store.new) }
+    ensures store { OnlyReads (S.contents store.old) (S.contents store.new)
+        (S.faults store.old) (S.faults store.new)
+        (S.never_fails store.old) (S.never_fails store.new) }
 {
-    let file = source_in(alloc, store, source, folder)?;
-    let written = write_file(alloc, store, out, &file)?;
-    Ok(written)
+    match source_in(alloc, store, source, options) {
+        Ok(file) => Ok(compiled(alloc, out, &file)?),
+        Err(stop) => stop.reply(alloc),
+    }
 }
 
 // The file that the source under the name means.
@@ -45,14 +51,16 @@ fn source_in<S: Store>(
     alloc: Global,
     store: &mut S,
     name: &str,
-    folder: Option<&str>,
+    options: Options<'_>,
 ) -> Result<R1cs, Stop>
-    ensures step { SourceSteps (S.contents store.old) name.now (option_copied folder.entry) (Rose (S.faults store.old) (S.faults store.new)) result }
+    ensures step { SourceSteps (S.contents store.old) name.now (meant_options options.entry)
+        (Rose (S.faults store.old) (S.faults store.new)) result }
     ensures limits { IfOk result InLimits }
     ensures store { OnlyReads (S.contents store.old) (S.contents store.new)
-        (S.faults store.old) (S.faults store.new) (S.never_fails store.old) (S.never_fails store.new) }
+        (S.faults store.old) (S.faults store.new)
+        (S.never_fails store.old) (S.never_fails store.new) }
 {
-    match cir_compile::compile(alloc, store, name, folder) {
+    match cir_compile::compile(alloc, store, name, options.folder) {
         Ok(file) => Ok(file),
         Err(CompileFault::Missing) => Err(Stop::Refused(Refusal::NoSuchFile {
             name: Items::from_slice(alloc, name.as_bytes())?,
@@ -63,23 +71,20 @@ fn source_in<S: Store>(
     }
 }
 
-// Writes the file's spelling under the name.
-fn write_file<S: Store>(
-    alloc: Global,
-    store: &mut S,
-    name: &str,
-    file: &R1cs,
-) -> Result<Written, Stop>
+// The reply that writes the file's spelling under the name.
+fn compiled<'w>(alloc: Global, out: &'w str, file: &R1cs) -> Result<Reply<'w>, AllocError>
     requires { InLimits file.now }
-    ensures step { WriteSteps (S.contents store.old) (S.contents store.new) name.now file.now
-        (Rose (S.faults store.old) (S.faults store.new)) result }
-    ensures kept { Changes (Writes name.now file.now) (S.contents store.old) (S.contents store.new) }
-    ensures counting { Counting (S.faults store.old) (S.faults store.new) (S.never_fails store.old) (S.never_fails store.new) }
+    ensures reply { IfOk result (λ r. shown r ≡ compiled out.entry.now file.now) }
+    ensures read_back { IfOk result (λ r. r1cs_of (r1cs_bytes file.now) ≡ Ok file.now) }
 {
     let bytes = write_r1cs(alloc, file)?;
-    store.write(alloc, name, bytes.as_slice())?;
-    Ok(Written {
-        wires: file.wires,
-        constraints: file.constraints().len() as u32,
+    let text = compiled_line(alloc, file.wires, file.constraints().len() as u32)?;
+    Ok(Reply {
+        status: 0,
+        text: Items::of(text),
+        file: Some(NewFile {
+            name: out,
+            bytes: Items::of(bytes),
+        }),
     })
 }

@@ -1,8 +1,9 @@
+ghost use Rattle.out_io.specs.Calls.{OnlyReads};
 ghost use Rattle.out_io.specs.Faults.{Rose};
 ghost use Rattle.iden_files.specs.File.{InLimits};
 ghost use Rattle.std.specs.Prelude.{◌≤◌, length, IfOk};
 ghost use Rattle.circom_gold.specs.Files.{bytes_in, r1cs_in, wtns_in};
-ghost use Rattle.circom_gold.specs.Steps.{Steps, OnlyReads, Refuses};
+ghost use Rattle.circom_gold.specs.Steps.{Steps, Refuses};
 
 use crate::answer::Refusal;
 use crate::stop::Stop;
@@ -17,7 +18,8 @@ pub fn bytes_in<S: Store>(alloc: Global, store: &mut S, name: &str) -> Result<Ve
     ensures step { Steps (λ v. v.items) (S.contents store.old) (λ files. bytes_in files name.now)
         (Rose (S.faults store.old) (S.faults store.new)) result }
     ensures store { OnlyReads (S.contents store.old) (S.contents store.new)
-        (S.faults store.old) (S.faults store.new) (S.never_fails store.old) (S.never_fails store.new) }
+        (S.faults store.old) (S.faults store.new)
+        (S.never_fails store.old) (S.never_fails store.new) }
 {
     match store.read(alloc, name)? {
         Some(bytes) => Ok(bytes),
@@ -51,7 +53,8 @@ pub fn r1cs_in<S: Store>(alloc: Global, store: &mut S, name: &str) -> Result<R1c
         (Rose (S.faults store.old) (S.faults store.new)) result }
     ensures limits { IfOk result InLimits }
     ensures store { OnlyReads (S.contents store.old) (S.contents store.new)
-        (S.faults store.old) (S.faults store.new) (S.never_fails store.old) (S.never_fails store.new) }
+        (S.faults store.old) (S.faults store.new)
+        (S.never_fails store.old) (S.never_fails store.new) }
 {
     let bytes = bytes_in(alloc, store, name)?;
     match read_r1cs(alloc, bytes.as_slice()) {
@@ -66,7 +69,8 @@ pub fn wtns_in<S: Store>(alloc: Global, store: &mut S, name: &str) -> Result<Vec
     ensures step { Steps (λ v. v.items) (S.contents store.old) (λ files. wtns_in files name.now)
         (Rose (S.faults store.old) (S.faults store.new)) result }
     ensures store { OnlyReads (S.contents store.old) (S.contents store.new)
-        (S.faults store.old) (S.faults store.new) (S.never_fails store.old) (S.never_fails store.new) }
+        (S.faults store.old) (S.faults store.new)
+        (S.never_fails store.old) (S.never_fails store.new) }
 {
     let bytes = bytes_in(alloc, store, name)?;
     match read_wtns(alloc, bytes.as_slice()) {

@@ -1,47 +1,16 @@
 ghost use Rattle.std.specs.Prelude.{◌≡◌, map, IfOk};
-ghost use Rattle.circom_gold.specs.Lines.{line, line_of, bad_file_line, cause_text};
+ghost use Rattle.circom_gold.specs.Lines.{line, usage_line, fault_line, compiled_line, bad_file_line, cause_text};
 
-use crate::answer::{Answer, Refusal, Verdict};
+use crate::answer::{Refusal, Verdict};
 use crate::sources::source_line;
 use iden_files::FileCause;
 use std::alloc::{AllocError, Global};
 
-const USAGE: &str = "usage: circom_gold check, compile, witness, prove, public, audit or generate";
-
-impl Answer {
-    ghost use Rattle.circom_gold.specs.Lines.{status_of, line_of};
-
-    /// The exit status.
-    pub fn status(&self) -> u8
-        ensures { result ≡ status_of self.now }
-    {
-        match self {
-            Answer::Usage => 64,
-            Answer::StoreFailed => 3,
-            Answer::Refused(_) => 1,
-            Answer::Checked(verdict) => verdict.status(),
-            Answer::Compiled { .. } => 0,
-        }
-    }
-
-    /// The printed line, with its line feed.
-    pub fn line(&self, alloc: Global) -> Result<Vec<u8>, AllocError>
-        ensures { IfOk result (λ v. v.items ≡ line_of self.now) }
-    {
-        match self {
-            Answer::Usage => line(alloc, &[USAGE.as_bytes()]),
-            Answer::StoreFailed => line(alloc, &[b"fault: store"]),
-            Answer::Refused(refusal) => refusal.line(alloc),
-            Answer::Checked(verdict) => verdict.line(alloc),
-            Answer::Compiled { wires, constraints } => compiled_line(alloc, *wires, *constraints),
-        }
-    }
-}
-
 impl Refusal {
     ghost use Rattle.circom_gold.specs.Lines.{refusal_line};
 
-    fn line(&self, alloc: Global) -> Result<Vec<u8>, AllocError>
+    /// The printed line, with its line feed.
+    pub fn line(&self, alloc: Global) -> Result<Vec<u8>, AllocError>
         ensures { IfOk result (λ v. v.items ≡ refusal_line self.now) }
     {
         match self {
@@ -64,7 +33,8 @@ impl Refusal {
 impl Verdict {
     ghost use Rattle.circom_gold.specs.Lines.{verdict_status, verdict_line};
 
-    fn status(&self) -> u8
+    /// The exit status.
+    pub fn status(&self) -> u8
         ensures { result ≡ verdict_status self.now }
     {
         match self {
@@ -74,7 +44,8 @@ impl Verdict {
         }
     }
 
-    fn line(&self, alloc: Global) -> Result<Vec<u8>, AllocError>
+    /// The printed line, with its line feed.
+    pub fn line(&self, alloc: Global) -> Result<Vec<u8>, AllocError>
         ensures { IfOk result (λ v. v.items ≡ verdict_line self.now) }
     {
         match self {
@@ -141,8 +112,9 @@ fn cause_text(cause: FileCause) -> &'static str
     }
 }
 
-fn compiled_line(alloc: Global, wires: u32, constraints: u32) -> Result<Vec<u8>, AllocError>
-    ensures { IfOk result (λ v. v.items ≡ line_of (Answer.Compiled wires constraints)) }
+/// The line of a command that has made a file of so many wires and constraints.
+pub fn compiled_line(alloc: Global, wires: u32, constraints: u32) -> Result<Vec<u8>, AllocError>
+    ensures { IfOk result (λ v. v.items ≡ compiled_line wires constraints) }
 {
     let wires = format!(in alloc; "{wires}")?;
     let constraints = format!(in alloc; "{constraints}")?;
@@ -157,7 +129,24 @@ fn compiled_line(alloc: Global, wires: u32, constraints: u32) -> Result<Vec<u8>,
     )
 }
 
-// The parts one after another, and a line feed.
+/// The line of words without a reading.
+pub fn usage_line(alloc: Global) -> Result<Vec<u8>, AllocError>
+    ensures { IfOk result (λ v. v.items ≡ usage_line) }
+{
+    line(
+        alloc,
+        &[b"usage: circom_gold check, compile, witness, prove, public, audit or generate"],
+    )
+}
+
+/// The line that says that the store failed.
+pub fn fault_line(alloc: Global) -> Result<Vec<u8>, AllocError>
+    ensures { IfOk result (λ v. v.items ≡ fault_line) }
+{
+    line(alloc, &[b"fault: store"])
+}
+
+/// The parts one after another, and a line feed.
 pub fn line(alloc: Global, parts: &[&[u8]]) -> Result<Vec<u8>, AllocError>
     ensures { IfOk result (λ v. v.items ≡ line (map (λ part. part.now) parts.now)) }
 {

@@ -1,19 +1,18 @@
-ghost use Rattle.std.specs.Prelude.{◌≡◌, ◌≤◌, ◌⊎◌, ◌≢◌, [], None, Some, IfOk};
-ghost use Rattle.std.specs.Option.{option_copied};
+ghost use Rattle.std.specs.Prelude.{◌≡◌, ◌≤◌, ◌⊎◌, ◌≢◌, ℕ, List, [], None, Some, IfOk, IsErrOf, IsOk, OnOk, OnErr, option_map};
+ghost use Rattle.out_io.specs.Calls.{Counting, HasFailed, OnlyReads, Told, course};
 ghost use Rattle.out_io.specs.Contents.{Changes};
-ghost use Rattle.out_io.specs.Faults.{Rose};
-ghost use Rattle.out_io.specs.Memory.{files_of};
-ghost use Rattle.out_io.specs.Written.{IsAppended, IsAppendedInPart};
-ghost use Rattle.circom_gold.specs.Compile.{Counting, IsCompileAnswer, MayWriteFile};
-ghost use Rattle.circom_gold.specs.Lines.{line_of};
-ghost use Rattle.circom_gold.specs.Reply.{Says, SaysOr, IsCheckAnswer, Answers, Replies, Puts, PutsFront, MayWrite};
-ghost use Rattle.circom_gold.specs.Words.{texts, command_of};
-ghost use Rattle.circom_gold.specs.declared.answer.Answer.TheVariants.{Usage, StoreFailed};
+ghost use Rattle.out_io.specs.Faults.{CountsFaults, Rose};
+ghost use Rattle.out_io.specs.Written.{IsAppendedInPart};
+ghost use Rattle.out_io.specs.declared.fault.IoFault.TheVariants.{Failed};
+ghost use Rattle.circom_gold.specs.Compile.{HoldsConstraintsOf};
+ghost use Rattle.circom_gold.specs.Reply.{Reply, Answers, WritesConstraintsOf};
+ghost use Rattle.circom_gold.specs.Run.{Ends, Stays, Leaves, LeavesInPart, Puts, Writing};
+ghost use Rattle.circom_gold.specs.Shown.{shown};
+ghost use Rattle.circom_gold.specs.Words.{Options, compile, texts, command_of, meant};
 
-use crate::answer::Answer;
-use crate::check::check;
-use crate::compile::compile;
-use crate::stop::Stop;
+use crate::check::check_reply;
+use crate::compile::compile_reply;
+use crate::reply::Reply;
 use crate::words::Command;
 use out_io::{IoFault, MemSink, MemStore, Sink, Store};
 use std::alloc::{AllocError, Global};
@@ -36,42 +35,57 @@ pub fn run<S: Store, K: Sink>(
     store: &mut S,
     out: &mut K,
 ) -> Result<u8, AllocError>
-    // Where no call failed, the status, the line and the files are those of the answer to the words over the
-    // files. Of `compile`, values satisfy the file that it writes exactly when they extend to an assignment
-    // that satisfies the source.
-    ensures reply { IfOk result (λ exit.
-        ¬ Rose (S.faults store.old) (S.faults store.new) → ¬ Rose (K.faults out.old) (K.faults out.new)
-        → Changes (Replies (command_of (texts words.now)) (K.contents out.old) (K.contents out.new) exit) (S.contents store.old) (S.contents store.new)) }
+    // The status, the whole text and the files are those of a reply to the words over the files; or
+    // the status is 3, and the store failed, which the text says, or the sink failed, and the files
+    // are the reply's.
+    ensures ended { IfOk result (Ends (command_of (texts words.now))
+        (course (S.contents store.old) (S.contents store.new)
+        (S.faults store.old) (S.faults store.new))
+        (course (K.contents out.old) (K.contents out.new) (K.faults out.old) (K.faults out.new))) }
 
-    // 64 and the usage line where the words have no reading, unless the sink failed; 64 only there.
+    // Whatever comes, for want of memory too, what was put is a front of that text, and no file has
+    // changed but the reply's, which is as before or holds a prefix of the reply's bytes.
+    ensures kept { Stays (command_of (texts words.now))
+        (course (S.contents store.old) (S.contents store.new)
+        (S.faults store.old) (S.faults store.new))
+        (course (K.contents out.old) (K.contents out.new) (K.faults out.old) (K.faults out.new)) }
+
+    // `compile` with the status 0 leaves under OUT bytes that are read as a file of constraints, and
+    // values of its wires satisfy them exactly when they extend to an assignment that satisfies the
+    // source: the value of each wire is that of the signal that its label names.
+    ensures compiled { (source out_name : List ℕ) (options : Options)
+        → command_of (texts words.now) ≡ Some (compile source out_name options)
+        → IfOk result (λ exit. exit ≡ 0 → Changes
+        (λ files after. HoldsConstraintsOf files source options (after out_name))
+        (S.contents store.old) (S.contents store.new)) }
+
+    // Where the words have no reading the status is 64, unless the sink failed, and the store isn't
+    // asked. It is 64 only there.
     ensures usage { command_of (texts words.now) ≡ None
-        → IfOk result (λ exit. Answers Usage (K.contents out.old) (K.contents out.new) exit ⊎ Rose (K.faults out.old) (K.faults out.new)) }
+        → IfOk result (λ exit. (exit ≡ 64) ⊎ Rose (K.faults out.old) (K.faults out.new)) }
+    ensures unasked { command_of (texts words.now) ≡ None
+        → (S.contents store.new ≡ S.contents store.old)
+        × (S.faults store.new ≡ S.faults store.old) }
     ensures only_usage { IfOk result (λ exit. exit ≡ 64 → command_of (texts words.now) ≡ None) }
 
-    // 3 only where the store failed and the line says so, or where the sink failed.
-    ensures fault { IfOk result (λ exit. exit ≡ 3
-        → (Rose (S.faults store.old) (S.faults store.new) × IsAppended (line_of StoreFailed) (K.contents out.old) (K.contents out.new))
-        ⊎ Rose (K.faults out.old) (K.faults out.new)) }
-
-    // Whatever comes, for want of memory too, what was put is a front of the line.
-    ensures front { Changes (PutsFront (command_of (texts words.now)) (Rose (S.faults store.old) (S.faults store.new)) (K.contents out.old) (K.contents out.new))
-        (S.contents store.old) (S.contents store.new) }
-
-    // Whatever comes, no file changes but the one that the command writes, which is as before, or the
-    // command's file, or a prefix of it.
-    ensures kept { Changes (λ files after. MayWrite files (command_of (texts words.now)) after) (S.contents store.old) (S.contents store.new) }
-
     // The counts of faults never fall, and stand still where no call fails.
-    ensures store_later { S.faults store.old ≤ S.faults store.new }
-    ensures out_later { K.faults out.old ≤ K.faults out.new }
-    ensures store_steady { S.never_fails store.old → S.faults store.new ≡ S.faults store.old }
-    ensures out_steady { K.never_fails out.old → K.faults out.new ≡ K.faults out.old }
+    ensures store { Counting (S.faults store.old) (S.faults store.new)
+        (S.never_fails store.old) (S.never_fails store.new) }
+    ensures sink { Counting (K.faults out.old) (K.faults out.new)
+        (K.never_fails out.old) (K.never_fails out.new) }
 {
-    let answer = answer_to(alloc, words, store)?;
-    put_answer(alloc, &answer, out)
+    let command = Command::of(alloc, words)?;
+    match answered(alloc, command, store) {
+        Ok(reply) => put_text(&reply, out),
+        Err(IoFault::Failed) => {
+            let reply = Reply::store_failed(alloc)?;
+            put_text(&reply, out)
+        }
+        Err(IoFault::OutOfMemory) => Err(AllocError),
+    }
 }
 
-/// `run` over memory where no call fails: the answer is said, and the exit status is never 3.
+/// `run` over memory where no call fails: the reply is given, and the exit status is never 3.
 pub fn run_in_memory(
     alloc: Global,
     words: &[String],
@@ -82,91 +96,101 @@ pub fn run_in_memory(
     requires store_faults { store.old.faults ≡ 0 }
     requires out { out.old.fail.items ≡ [] }
     requires out_faults { out.old.faults ≡ 0 }
-    ensures reply { IfOk result (λ exit. Replies (command_of (texts words.now))
-        (Some out.old.bytes.items) (Some out.new.bytes.items) exit (files_of store.old.files) (files_of store.new.files)) }
     ensures no_fault { IfOk result (λ exit. exit ≢ 3) }
 {
     run(alloc, words, store, out)
 }
 
-// The answer to the words.
-fn answer_to<S: Store>(alloc: Global, words: &[String], store: &mut S) -> Result<Answer, AllocError>
-    ensures says { IfOk result (Says (S.contents store.old) (S.contents store.new) (command_of (texts words.now)) (Rose (S.faults store.old) (S.faults store.new))) }
-    ensures usage { command_of (texts words.now) ≡ None → IfOk result (λ answer. answer ≡ Usage) }
-    ensures only_usage { IfOk result (λ answer. answer ≡ Usage → command_of (texts words.now) ≡ None) }
-    ensures fault { IfOk result (λ answer. answer ≡ StoreFailed → Rose (S.faults store.old) (S.faults store.new)) }
-    ensures kept { Changes (λ files after. MayWrite files (command_of (texts words.now)) after) (S.contents store.old) (S.contents store.new) }
-    ensures counting { Counting (S.faults store.old) (S.faults store.new) (S.never_fails store.old) (S.never_fails store.new) }
+// The reply to the command, whose file is written.
+fn answered<'w, S: Store>(
+    alloc: Global,
+    command: Option<Command<'w>>,
+    store: &mut S,
+) -> Result<Reply<'w>, IoFault>
+    ensures answers { IfOk result
+        (λ r. Answers (S.contents store.old) (option_map meant command.entry) (shown r)) }
+    ensures files { IfOk result
+        (λ r. Changes (Leaves (shown r).file) (S.contents store.old) (S.contents store.new)) }
+    ensures kept { OnErr result
+        (Writing (option_map meant command.entry) (S.contents store.old) (S.contents store.new)) }
+    ensures compiled { (source out_name : List ℕ) (options : Options)
+        → option_map meant command.entry ≡ Some (compile source out_name options)
+        → IfOk result (λ r. r.status ≡ 0 → Told (S.contents store.old)
+        (λ files. WritesConstraintsOf files source options out_name (shown r))) }
+    ensures unasked { option_map meant command.entry ≡ None
+        → (S.contents store.new ≡ S.contents store.old)
+        × (S.faults store.new ≡ S.faults store.old) }
+    ensures answered { option_map meant command.entry ≡ None → ¬ IsErrOf result Failed }
+    ensures fault { IsErrOf result Failed → Rose (S.faults store.old) (S.faults store.new) }
+    ensures counting { Counting (S.faults store.old) (S.faults store.new)
+        (S.never_fails store.old) (S.never_fails store.new) }
 {
-    match Command::of(words) {
-        None => Ok(Answer::Usage),
-        Some(Command::Check { r1cs, wtns }) => check_answer(alloc, r1cs, wtns, store),
+    let reply = reply_to(alloc, command, store)?;
+    write_file(alloc, &reply, store)?;
+    Ok(reply)
+}
+
+// The reply to the command. Its file isn't written.
+fn reply_to<'w, S: Store>(
+    alloc: Global,
+    command: Option<Command<'w>>,
+    store: &mut S,
+) -> Result<Reply<'w>, IoFault>
+    ensures answers { IfOk result
+        (λ r. Answers (S.contents store.old) (option_map meant command.entry) (shown r)) }
+    ensures compiled { (source out_name : List ℕ) (options : Options)
+        → option_map meant command.entry ≡ Some (compile source out_name options)
+        → IfOk result (λ r. r.status ≡ 0 → Told (S.contents store.old)
+        (λ files. WritesConstraintsOf files source options out_name (shown r))) }
+    ensures unasked { option_map meant command.entry ≡ None
+        → (S.faults store.new ≡ S.faults store.old) × ¬ IsErrOf result Failed }
+    ensures fault { IsErrOf result Failed → Rose (S.faults store.old) (S.faults store.new) }
+    ensures store { OnlyReads (S.contents store.old) (S.contents store.new)
+        (S.faults store.old) (S.faults store.new)
+        (S.never_fails store.old) (S.never_fails store.new) }
+{
+    match command {
+        None => Ok(Reply::usage(alloc)?),
+        Some(Command::Check { r1cs, wtns }) => check_reply(alloc, r1cs, wtns, store),
         Some(
             Command::Compile {
                 source,
                 out,
-                folder,
+                options,
             },
-        ) => compile_answer(alloc, source, folder, out, store),
+        ) => compile_reply(alloc, source, out, options, store),
     }
 }
 
-fn check_answer<S: Store>(
-    alloc: Global,
-    r1cs: &str,
-    wtns: &str,
-    store: &mut S,
-) -> Result<Answer, AllocError>
-    ensures says { IfOk result (SaysOr (Rose (S.faults store.old) (S.faults store.new)) (λ answer.
-        Changes (λ files after. IsCheckAnswer files r1cs.now wtns.now after answer) (S.contents store.old) (S.contents store.new))) }
-    ensures no_usage { IfOk result (λ answer. answer ≢ Usage) }
-    ensures fault { IfOk result (λ answer. answer ≡ StoreFailed → Rose (S.faults store.old) (S.faults store.new)) }
-    ensures same { S.contents store.new ≡ S.contents store.old }
-    ensures counting { Counting (S.faults store.old) (S.faults store.new) (S.never_fails store.old) (S.never_fails store.new) }
+// Writes the reply's file, if it has one.
+fn write_file<S: Store>(alloc: Global, reply: &Reply<'_>, store: &mut S) -> Result<(), IoFault>
+    ensures ok { OnOk result
+        (Changes (Leaves (shown reply.now).file) (S.contents store.old) (S.contents store.new)) }
+    ensures err { OnErr result
+        (Changes (LeavesInPart (shown reply.now).file) (S.contents store.old) (S.contents store.new)) }
+    ensures none { (shown reply.now).file ≡ None → (S.contents store.new ≡ S.contents store.old)
+        × (S.faults store.new ≡ S.faults store.old) × IsOk result }
+    ensures fault { IsErrOf result Failed → Rose (S.faults store.old) (S.faults store.new) }
+    ensures counting { Counting (S.faults store.old) (S.faults store.new)
+        (S.never_fails store.old) (S.never_fails store.new) }
 {
-    match check(alloc, r1cs, wtns, store) {
-        Ok(verdict) => Ok(Answer::Checked(verdict)),
-        Err(Stop::Refused(refusal)) => Ok(Answer::Refused(refusal)),
-        Err(Stop::StoreFailed) => Ok(Answer::StoreFailed),
-        Err(Stop::OutOfMemory) => Err(AllocError),
+    match &reply.file {
+        None => Ok(()),
+        Some(file) => store.write(alloc, file.name, file.bytes.as_slice()),
     }
 }
 
-fn compile_answer<S: Store>(
-    alloc: Global,
-    source: &str,
-    folder: Option<&str>,
-    out: &str,
-    store: &mut S,
-) -> Result<Answer, AllocError>
-    ensures says { IfOk result (SaysOr (Rose (S.faults store.old) (S.faults store.new)) (λ answer.
-        Changes (λ files after. IsCompileAnswer files source.now (option_copied folder.entry) out.now after answer) (S.contents store.old) (S.contents store.new))) }
-    ensures no_usage { IfOk result (λ answer. answer ≢ Usage) }
-    ensures fault { IfOk result (λ answer. answer ≡ StoreFailed → Rose (S.faults store.old) (S.faults store.new)) }
-    ensures kept { Changes (λ files after. MayWriteFile files source.now (option_copied folder.entry) out.now after) (S.contents store.old) (S.contents store.new) }
-    ensures counting { Counting (S.faults store.old) (S.faults store.new) (S.never_fails store.old) (S.never_fails store.new) }
+// Puts the reply's text at once, and gives the exit status.
+fn put_text<K: Sink>(reply: &Reply<'_>, out: &mut K) -> Result<u8, AllocError>
+    ensures puts { IfOk result (Puts (shown reply.now)
+        (course (K.contents out.old) (K.contents out.new) (K.faults out.old) (K.faults out.new))) }
+    ensures front { IsAppendedInPart (shown reply.now).text
+        (K.contents out.old) (K.contents out.new) }
+    ensures counting { Counting (K.faults out.old) (K.faults out.new)
+        (K.never_fails out.old) (K.never_fails out.new) }
 {
-    match compile(alloc, source, folder, out, store) {
-        Ok(written) => Ok(Answer::Compiled {
-            wires: written.wires,
-            constraints: written.constraints,
-        }),
-        Err(Stop::Refused(refusal)) => Ok(Answer::Refused(refusal)),
-        Err(Stop::StoreFailed) => Ok(Answer::StoreFailed),
-        Err(Stop::OutOfMemory) => Err(AllocError),
-    }
-}
-
-// Puts the answer's line at once, and gives the exit status.
-fn put_answer<K: Sink>(alloc: Global, answer: &Answer, out: &mut K) -> Result<u8, AllocError>
-    ensures puts { IfOk result (Puts answer.now (Rose (K.faults out.old) (K.faults out.new)) (K.contents out.old) (K.contents out.new)) }
-    ensures front { IsAppendedInPart (line_of answer.now) (K.contents out.old) (K.contents out.new) }
-    ensures later { K.faults out.old ≤ K.faults out.new }
-    ensures steady { K.never_fails out.old → K.faults out.new ≡ K.faults out.old }
-{
-    let line = answer.line(alloc)?;
-    match out.put(line.as_slice()) {
-        Ok(()) => Ok(answer.status()),
+    match out.put(reply.text.as_slice()) {
+        Ok(()) => Ok(reply.status),
         Err(IoFault::Failed) => Ok(FAULT),
         Err(IoFault::OutOfMemory) => Err(AllocError),
     }

@@ -1,10 +1,12 @@
 ghost use Rattle.std.specs.Prelude.{◌≡◌};
+ghost use Rattle.circom_gold.specs.Stops.{EndsBy};
 ghost use Rattle.circom_gold.specs.Stops.{stop_of};
 ghost use Rattle.circom_gold.specs.declared.stop.Stop.TheVariants.{OutOfMemory};
 
 use crate::answer::Refusal;
+use crate::reply::Reply;
 use out_io::IoFault;
-use std::alloc::AllocError;
+use std::alloc::{AllocError, Global};
 
 /// Why a command ends before its last step.
 #[derive(Debug, Drop)]
@@ -30,5 +32,18 @@ impl From<AllocError> for Stop {
 
     fn from(_: AllocError) -> Stop {
         Stop::OutOfMemory
+    }
+}
+
+impl Stop {
+    /// The reply where a command was refused; else why there is none.
+    pub fn reply<'w>(self, alloc: Global) -> Result<Reply<'w>, IoFault>
+        ensures { EndsBy self result }
+    {
+        match self {
+            Stop::Refused(refusal) => Ok(Reply::refused(alloc, &refusal)?),
+            Stop::StoreFailed => Err(IoFault::Failed),
+            Stop::OutOfMemory => Err(IoFault::OutOfMemory),
+        }
     }
 }

@@ -112,21 +112,93 @@ fn names_a_file_that_is_not_there(rt: HostRuntime) -> Result<(), Fail> {
     Ok(())
 }
 
-#[test]
-fn says_that_a_call_failed(rt: HostRuntime) -> Result<(), Fail> {
-    let alloc = rt.alloc();
-    let words = split(alloc, "check m.r1cs m.wtns")?;
-    let mut store = store(alloc, &R1CS, &[1, 33, 3, 11])?;
-    let mut out = MemSink::new(alloc);
-    store.fail.push(0)?;
-    assert_eq!(rt; run(alloc, words.as_slice(), &mut store, &mut out)?, 3);
-    assert_eq!(rt; out.bytes.as_slice(), b"fault: store\n".as_slice());
-    assert_eq!(rt; out.calls, 1);
+// What a run made of the words: the status, the text, and how often it asked the store and the sink.
+#[derive(Drop)]
+struct Ran {
+    status: u8,
+    text: Vec<u8>,
+    asked: u32,
+    puts: u32,
+}
 
+fn run_words(
+    alloc: Global,
+    words: &str,
+    store: &mut MemStore,
+    sink_fails: bool,
+) -> Result<Ran, Fail> {
+    let words = split(alloc, words)?;
     let mut out = MemSink::new(alloc);
-    out.fail.push(0)?;
-    assert_eq!(rt; run(alloc, words.as_slice(), &mut store, &mut out)?, 3);
-    assert!(rt; out.bytes.is_empty());
+    if sink_fails {
+        out.fail.push(0)?;
+    }
+    let status = run(alloc, words.as_slice(), store, &mut out)?;
+    Ok(Ran {
+        status,
+        text: out.bytes,
+        asked: store.calls,
+        puts: out.calls,
+    })
+}
+
+// The files of both commands, and a call of the store that fails.
+fn failing_store(alloc: Global, fail: u32) -> Result<MemStore, Fail> {
+    let mut store = store(alloc, &R1CS, &[1, 33, 3, 11])?;
+    for (name, text) in [
+        ("a.circom", "include \"b.circom\"; component main = Mul();"),
+        ("b.circom", MUL),
+    ] {
+        store.files.insert(
+            String::from_str(alloc, name)?,
+            Vec::from_slice(alloc, text.as_bytes())?,
+        )?;
+    }
+    store.fail.push(fail)?;
+    Ok(store)
+}
+
+const MUL: &str = "template Mul() { signal input a; signal input b; signal output c; c <== a*b; }";
+
+#[test]
+fn each_call_that_fails_is_answered_with_3(rt: HostRuntime) -> Result<(), Fail> {
+    let alloc = rt.alloc();
+    for (words, calls, text) in [
+        ("check m.r1cs m.wtns", 2, "satisfied\n"),
+        (
+            "compile a.circom n.r1cs",
+            3,
+            "compiled: wires 4, constraints 1\n",
+        ),
+    ] {
+        for fail in 0..calls {
+            let mut store = failing_store(alloc, fail)?;
+            let ran = run_words(alloc, words, &mut store, false)?;
+            assert_eq!(rt;
+                (ran.status, ran.asked, ran.puts),
+                (3, fail + 1, 1),
+                "{words}"
+            );
+            assert_eq!(rt; ran.text.as_slice(), b"fault: store\n".as_slice());
+            assert!(rt; !store.files.contains_key("n.r1cs"), "{words}");
+        }
+        let mut store = failing_store(alloc, calls)?;
+        let said = run_words(alloc, words, &mut store, false)?;
+        assert_eq!(rt;
+            (said.status, said.asked, said.puts),
+            (0, calls, 1),
+            "{words}"
+        );
+        assert_eq!(rt; said.text.as_slice(), text.as_bytes());
+        let mut store = failing_store(alloc, calls)?;
+        let lost = run_words(alloc, words, &mut store, true)?;
+        assert_eq!(rt;
+            (lost.status, lost.asked, lost.puts),
+            (3, calls, 1),
+            "{words}"
+        );
+        assert!(rt; lost.text.is_empty(), "{words}");
+        assert_eq!(rt; store.files.contains_key("n.r1cs"), calls == 3, "{words}");
+    }
     Ok(())
 }
 
@@ -143,6 +215,12 @@ fn words_without_a_reading_get_the_usage_line(rt: HostRuntime) -> Result<(), Fai
         "compile t.circom",
         "compile t.circom m.r1cs -l",
         "compile t.circom m.r1cs -l inc -l inc",
+        "check m.r1cs m.wtns -l inc",
+        "check m.r1cs m.wtns -h",
+        "check --help",
+        "check m.r1cs m.wtns --version",
+        "compile t.circom m.r1cs --unknown",
+        "compile t.circom m.r1cs -l -h",
     ] {
         let words = split(alloc, words)?;
         let mut store = store(alloc, &R1CS, &[1, 33, 3, 11])?;
@@ -329,7 +407,20 @@ fn includes_are_followed_and_found_in_the_folder(rt: HostRuntime) -> Result<(), 
     );
 
     let library = [("a.circom", INCLUDING), ("inc/lib/b.circom", template)];
-    let said = line_over(alloc, "compile a.circom m.r1cs -l inc", library.as_slice())?;
-    assert_eq!(rt; said.as_slice(), compiled.as_slice());
+    for words in [
+        "compile a.circom m.r1cs -l inc",
+        "compile -l inc a.circom m.r1cs",
+        "compile a.circom -linc m.r1cs",
+        "compile a.circom m.r1cs -l=inc",
+        "compile -l inc -- a.circom m.r1cs",
+    ] {
+        let said = line_over(alloc, words, library.as_slice())?;
+        assert_eq!(rt; said.as_slice(), compiled.as_slice(), "{words}");
+    }
+    let said = line_over(alloc, "check -- -m.r1cs -", &[])?;
+    assert_eq!(rt;
+        said.as_slice(),
+        b"refused: -m.r1cs: no such file\n".as_slice()
+    );
     Ok(())
 }

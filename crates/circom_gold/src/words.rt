@@ -1,6 +1,19 @@
-ghost use Rattle.std.specs.Prelude.{◌≡◌};
-ghost use Rattle.std.specs.Option.{option_map};
-ghost use Rattle.circom_gold.specs.Words.{is_name};
+ghost use Rattle.std.specs.Prelude.{◌≡◌, true, IfOk, option_map};
+ghost use Rattle.clap.specs.Faults.{is_simple_and_free};
+ghost use Rattle.clap.specs.Simple.{app_of};
+ghost use Rattle.circom_gold.specs.Words.{texts, found, given, folder, check_form, compile_form, check_in, compile_in, options_in, meant_options};
+ghost use Rattle.circom_gold.specs.Matches.{rows_in, IsArg};
+
+use clap::error::ErrorKind;
+use clap::{Arg, ArgMatches};
+use std::alloc::{AllocError, Global};
+
+/// What the options of a command say.
+#[derive(Clone, Copy, Debug, PartialEq, Eq)]
+pub struct Options<'w> {
+    /// The folder of `-l`, in which included files are looked for too.
+    pub folder: Option<&'w str>,
+}
 
 /// What the words on the command line ask for.
 #[derive(Clone, Copy, Debug, PartialEq, Eq)]
@@ -9,76 +22,131 @@ pub enum Command<'w> {
         r1cs: &'w str,
         wtns: &'w str,
     },
-    /// With the folder of `-l`, if it is given.
     Compile {
         source: &'w str,
         out: &'w str,
-        folder: Option<&'w str>,
+        options: Options<'w>,
     },
 }
 
 impl<'w> Command<'w> {
-    ghost use Rattle.circom_gold.specs.Words.{texts, command_of, check_words, compile_words, compile_options, meant};
+    ghost use Rattle.circom_gold.specs.Words.{command_of, reading, meant};
 
     /// `None` exactly where the words have no reading.
-    pub fn of(words: &'w [String]) -> Option<Command<'w>>
-        ensures { option_map meant result ≡ command_of (texts words.now) }
+    pub fn of(alloc: Global, words: &'w [String]) -> Result<Option<Command<'w>>, AllocError>
+        ensures { IfOk result (λ command. option_map meant command ≡ command_of (texts words.now)) }
     {
         match words {
-            [name, others @ ..] if name.as_str() == "check" => Command::of_check(others),
-            [name, others @ ..] if name.as_str() == "compile" => Command::of_compile(others),
-            _ => None,
+            [name, ..] if name.as_str() == "check" => Command::of_check(alloc, words),
+            [name, ..] if name.as_str() == "compile" => Command::of_compile(alloc, words),
+            _ => Ok(None),
         }
     }
 
-    // The words behind `check`.
-    fn of_check(words: &'w [String]) -> Option<Command<'w>>
-        ensures { option_map meant result ≡ check_words (texts words.now) }
+    // The words of `check`.
+    fn of_check(alloc: Global, words: &'w [String]) -> Result<Option<Command<'w>>, AllocError>
+        ensures { IfOk result (λ command. option_map meant command
+            ≡ reading check_form check_in (texts words.now)) }
     {
-        match words {
-            [r1cs, wtns] if is_name(r1cs) && is_name(wtns) => Some(Command::Check {
-                r1cs: r1cs.as_str(),
-                wtns: wtns.as_str(),
-            }),
-            _ => None,
+        let form = check_form(alloc)?;
+        match found(form, words)? {
+            None => Ok(None),
+            Some(matches) => Ok(Command::check_in(&matches)),
         }
     }
 
-    // The words behind `compile`.
-    fn of_compile(words: &'w [String]) -> Option<Command<'w>>
-        ensures { option_map meant result ≡ compile_words (texts words.now) }
+    fn check_in(matches: &ArgMatches<'w>) -> Option<Command<'w>>
+        ensures { option_map meant result ≡ check_in (rows_in matches.now) }
     {
-        match words {
-            [source, out, options @ ..] if is_name(source) && is_name(out) => {
-                Command::with_options(source.as_str(), out.as_str(), options)
-            }
-            _ => None,
+        let r1cs = matches.get_str("R1CS")?;
+        let wtns = matches.get_str("WTNS")?;
+        Some(Command::Check { r1cs, wtns })
+    }
+
+    // The words of `compile`.
+    fn of_compile(alloc: Global, words: &'w [String]) -> Result<Option<Command<'w>>, AllocError>
+        ensures { IfOk result (λ command. option_map meant command
+            ≡ reading compile_form compile_in (texts words.now)) }
+    {
+        let form = compile_form(alloc)?;
+        match found(form, words)? {
+            None => Ok(None),
+            Some(matches) => Ok(Command::compile_in(&matches)),
         }
     }
 
-    // `compile` with the words behind its names.
-    fn with_options(source: &'w str, out: &'w str, options: &'w [String]) -> Option<Command<'w>>
-        ensures { option_map meant result ≡ compile_options source.now out.now (texts options.now) }
+    fn compile_in(matches: &ArgMatches<'w>) -> Option<Command<'w>>
+        ensures { option_map meant result ≡ compile_in (rows_in matches.now) }
     {
-        match options {
-            [] => Some(Command::Compile {
-                source,
-                out,
-                folder: None,
-            }),
-            [option, folder] if option.as_str() == "-l" => Some(Command::Compile {
-                source,
-                out,
-                folder: Some(folder.as_str()),
-            }),
-            _ => None,
-        }
+        let options = options_in(matches);
+        let source = matches.get_str("SRC")?;
+        let out = matches.get_str("OUT")?;
+        Some(Command::Compile {
+            source,
+            out,
+            options,
+        })
     }
 }
 
-// A positional word, which is no option.
-fn is_name(word: &str) -> bool
-    ensures { result ≡ is_name word.now }
+#[tactic(auto, using(crate::proofs::Forms::first_rows))]
+fn options_in<'w>(matches: &ArgMatches<'w>) -> Options<'w>
+    ensures { meant_options result ≡ options_in (rows_in matches.now) }
 {
-    !word.as_bytes().starts_with(b"-")
+    Options {
+        folder: matches.get_str("DIR"),
+    }
+}
+
+// A word that must be given.
+fn given<'w>(alloc: Global, name: &'static str) -> Arg<'w>
+    ensures { IsArg (given name.entry.now) result }
+{
+    Arg::new(alloc, name).required(true)
+}
+
+// `-l DIR`.
+fn folder<'w>(alloc: Global) -> Arg<'w>
+    ensures { IsArg folder result }
+{
+    Arg::new(alloc, "DIR").short('l')
+}
+
+// `check R1CS WTNS`
+fn check_form<'w>(alloc: Global) -> Result<clap::Command<'w>, AllocError>
+    ensures { IfOk result (λ form. app_of form ≡ check_form) }
+{
+    let form = clap::Command::new(alloc, "check")
+        .arg(given(alloc, "R1CS"))?
+        .arg(given(alloc, "WTNS"))?;
+    Ok(form)
+}
+
+// `compile SRC OUT [-l DIR]`
+fn compile_form<'w>(alloc: Global) -> Result<clap::Command<'w>, AllocError>
+    ensures { IfOk result (λ form. app_of form ≡ compile_form) }
+{
+    let form = clap::Command::new(alloc, "compile")
+        .arg(given(alloc, "SRC"))?
+        .arg(given(alloc, "OUT"))?
+        .arg(folder(alloc))?;
+    Ok(form)
+}
+
+// What `clap` finds in the words, `None` where it refuses them.
+fn found<'w>(
+    form: clap::Command<'w>,
+    words: &'w [String],
+) -> Result<Option<ArgMatches<'w>>, AllocError>
+    requires { is_simple_and_free (app_of form) ≡ true }
+    ensures { IfOk result (λ matches. option_map rows_in matches
+        ≡ found (app_of form.entry) (texts words.now)) }
+{
+    match form.try_get_matches_from(words) {
+        Ok(matches) => Ok(Some(matches)),
+        Err(error) => match error.kind() {
+            ErrorKind::OutOfMemory => Err(AllocError),
+            _ => Ok(None),
+        },
+    }
 }

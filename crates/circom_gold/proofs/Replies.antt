@@ -1,0 +1,239 @@
+-- What a command says where it was stopped, and what a run does with its reply.
+use Rattle.std.proofs.Common.{◌≡◌, ◌<◌, ◌∙◌, ◌++◌, ℕ, List, [], length, Option, Some, None, Result, Ok, Err, IfOk, refl, sym, ap, subst, inl, inr, arith, take}
+use Rattle.std.proofs.Math.Seq.{take-length}
+use Rattle.std.proofs.lemmas.List.{append-nil}
+use Rattle.std.proofs.lemmas.Result.{IfOk-weaker}
+use Rattle.std.specs.declared.alloc.AllocError.{AllocError}
+use Rattle.out_io.specs.Calls.{Course, HasFailed, Told}
+use Rattle.out_io.specs.Contents.{Contents, Changes}
+use Rattle.out_io.specs.declared.fault.IoFault.{IoFault}
+use Rattle.out_io.specs.Written.{IsAppended, IsAppendedInPart}
+use Rattle.iden_files.specs.File.{File}
+use Rattle.iden_files.specs.ReadR1cs.{r1cs_of}
+use Rattle.iden_files.specs.Spelling.{r1cs_bytes}
+use Rattle.circom_gold.specs.Compile.{Compiles, HoldsConstraintsOf, SourceSteps}
+use Rattle.circom_gold.specs.Lines.{fault_line, verdict_status}
+use Rattle.circom_gold.specs.Reply.{Reply, NewFile, Answers, Says, WritesConstraintsOf, said, checked, compiled, store_failed}
+use Rattle.circom_gold.specs.Run.{Ends, Stays, Leaves, LeavesInPart, Puts, Writing}
+use Rattle.circom_gold.specs.Shown.{shown}
+use Rattle.circom_gold.specs.Steps.{Steps}
+use Rattle.circom_gold.specs.Stops.{EndsBy}
+use Rattle.circom_gold.specs.Words.{Command, Options, check, compile}
+use Rattle.circom_gold.specs.declared.answer.Refusal.{Refusal}
+use Rattle.circom_gold.specs.declared.answer.Verdict.{Verdict}
+use Rattle.circom_gold.specs.declared.answer.Verdict.TheVariants.{CountsDiffer, WireZero, ConstraintFails, Satisfied}
+use Rattle.circom_gold.specs.declared.reply.Reply.{Reply as CodeReply}
+use Rattle.circom_gold.specs.declared.stop.Stop.{Stop}
+use Rattle.circom_gold.specs.declared.stop.Stop.TheVariants.{Refused, StoreFailed, OutOfMemory}
+
+-- a command that was stopped says its refusal
+pub stopped : {X : Type 0} (contents : Option Contents) (reply : X → Reply)
+    (meaning : Contents → Result X Refusal) (failed : Type 0) (stop : Stop) (r : CodeReply)
+    → Steps (λ (x : X). x) contents meaning failed (Err stop) → EndsBy stop (Ok r)
+    → Says contents reply (λ files found. meaning files ≡ found) (shown r)
+stopped contents reply meaning failed (Refused refusal) r told e = (Err refusal, told, e)
+stopped contents reply meaning failed StoreFailed r told e = absurd e
+stopped contents reply meaning failed OutOfMemory r told e = absurd e
+
+pub source_stopped : (contents : Option Contents) (reply : File → Reply) (source : List ℕ)
+    (options : Options) (failed : Type 0) (stop : Stop) (r : CodeReply)
+    → SourceSteps contents source options failed (Err stop) → EndsBy stop (Ok r)
+    → Says contents reply (λ files found. Compiles files source options found) (shown r)
+source_stopped contents reply source options failed (Refused refusal) r told e =
+    (Err refusal, told, e)
+source_stopped contents reply source options failed StoreFailed r told e = absurd e
+source_stopped contents reply source options failed OutOfMemory r told e = absurd e
+
+-- the same of what the stop is handed on as
+pub source_ended : (contents : Option Contents) (reply : File → Reply) (source : List ℕ)
+    (options : Options) (failed : Type 0) (stop : Stop) (result : Result CodeReply IoFault)
+    → SourceSteps contents source options failed (Err stop) → EndsBy stop result
+    → IfOk result
+    (λ r. Says contents reply (λ files found. Compiles files source options found) (shown r))
+source_ended contents reply source options failed stop (Ok r) told e =
+    source_stopped contents reply source options failed stop r told e
+source_ended contents reply source options failed stop (Err fault) told e = tt
+
+pub ended : {X : Type 0} (contents : Option Contents) (reply : X → Reply)
+    (meaning : Contents → Result X Refusal) (failed : Type 0) (stop : Stop)
+    (result : Result CodeReply IoFault) → Steps (λ (x : X). x) contents meaning failed (Err stop)
+    → EndsBy stop result
+    → IfOk result (λ r. Says contents reply (λ files found. meaning files ≡ found) (shown r))
+ended contents reply meaning failed stop (Ok r) told e =
+    stopped contents reply meaning failed stop r told e
+ended contents reply meaning failed stop (Err fault) told e = tt
+
+-- the reply of a source that compiles writes a file of its constraints
+pub writes : (contents : Option Contents) (source : List ℕ) (options : Options) (out : List ℕ)
+    (f : File) (r : Reply) → Told contents (λ files. Compiles files source options (Ok f))
+    → r ≡ compiled out f → r1cs_of (r1cs_bytes f) ≡ Ok f
+    → Told contents (λ files. WritesConstraintsOf files source options out r)
+writes None source options out f r told is read = tt
+writes (Some files) source options out f r told is read = record {
+  bytes = r1cs_bytes f;
+  file = ap (λ (x : Reply). x.file) is;
+  constraints = record {
+    file = f;
+    read = read;
+    program = told.written.plain;
+    source_means = record {
+      whole = told.program;
+      loaded = told.loaded;
+      built = told.written.built;
+    };
+    exactly = λ values are.
+        let means = told.written.means values are in (
+          (λ holds. let s = means.0 holds in (s.0, s.1.agrees, s.2)),
+          (λ found. means.1 (found.0, record { agrees = found.1 }, found.2)),
+        );
+  };
+}
+
+-- all of the bytes are a prefix of them
+pub front_of_all : (bytes : List ℕ) (old new : Option (List ℕ)) → IsAppended bytes old new
+    → IsAppendedInPart bytes old new
+front_of_all bytes None new h = tt
+front_of_all bytes (Some put) new h =
+    (length bytes, h ∙ ap (λ (xs : List ℕ). Some (put ++ xs)) (sym (take-length bytes)))
+
+-- nothing is a prefix of any bytes
+pub front_of_none : (bytes : List ℕ) (old : Option (List ℕ)) → IsAppendedInPart bytes old old
+front_of_none bytes None = tt
+front_of_none bytes (Some put) = (0, ap Some (sym (append-nil put)))
+
+in_part : (file : Option NewFile) (files after : Contents) → Leaves file files after
+    → LeavesInPart file files after
+in_part None files after same = same
+in_part (Some f) files after r = record {
+  here = inr (length f.bytes, r.here ∙ ap Some (sym (take-length f.bytes)));
+  others = r.others;
+}
+
+changes_map : (P Q : Contents → Contents → Type 0) (old new : Option Contents)
+    → ((files after : Contents) → P files after → Q files after) → Changes P old new
+    → Changes Q old new
+changes_map P Q None new go h = tt
+changes_map P Q (Some files) None go h = absurd h
+changes_map P Q (Some files) (Some after) go h = go files after h
+
+-- the reply was given, or the sink failed
+pub ends_said : (command : Option Command) (r : Reply) (store : Course Contents)
+    (sink : Course (List ℕ)) (result : Result ℕ AllocError) → Answers store.old command r
+    → Changes (Leaves r.file) store.old store.new → IfOk result (Puts r sink)
+    → IfOk result (Ends command store sink)
+ends_said command r store sink result answers files puts =
+    IfOk-weaker result (Puts r sink) (Ends command store sink)
+    (λ exit put. elim put [
+      | inl whole ↦
+          inl (r, answers, inl (record { status = whole.0; text = whole.1; files = files }))
+      | inr lost ↦
+          inl (r, answers, inr (record { status = lost.0; failed = lost.1; files = files }))
+    ]) puts
+
+-- the store failed
+pub ends_failed : (command : Option Command) (r : Reply) (store : Course Contents)
+    (sink : Course (List ℕ)) (result : Result ℕ AllocError) → r ≡ store_failed → HasFailed store
+    → IfOk result (Puts r sink) → IfOk result (Ends command store sink)
+ends_failed command r store sink result is failed puts =
+    IfOk-weaker result (Puts store_failed sink) (Ends command store sink)
+    (λ exit put. elim put [
+      | inl whole ↦ inr (record { status = whole.0; failed = failed; text = inl whole.1 })
+      | inr lost ↦ inr (record { status = lost.0; failed = failed; text = inr lost.1 })
+    ]) (subst (λ (x : Reply). IfOk result (Puts x sink)) is puts)
+
+pub stays_said : (command : Option Command) (r : Reply) (store : Course Contents)
+    (sink : Course (List ℕ)) → Answers store.old command r
+    → Changes (Leaves r.file) store.old store.new → IsAppendedInPart r.text sink.old sink.new
+    → Stays command store sink
+stays_said command r store sink answers files front =
+    inr (
+      r,
+      answers,
+      record {
+        text = inl front;
+        files = changes_map (Leaves r.file) (LeavesInPart r.file) store.old store.new
+            (in_part r.file) files;
+      },
+    )
+
+pub stays_failed : (command : Option Command) (r : Reply) (store : Course Contents)
+    (sink : Course (List ℕ)) → Writing command store.old store.new → r ≡ store_failed
+    → HasFailed store → IsAppendedInPart r.text sink.old sink.new → Stays command store sink
+stays_failed command r store sink writing is failed front =
+    let fault : IsAppendedInPart fault_line sink.old sink.new =
+    subst (λ (x : Reply). IsAppendedInPart x.text sink.old sink.new) is front in
+    elim writing [
+      | inl same ↦ inl (record { text = inr (failed, fault); files = same })
+      | inr part ↦ inr (part.0, part.1, record { text = inr (failed, fault); files = part.2 })
+    ]
+
+-- memory ran out before anything was put
+pub stays_wanting : (command : Option Command) (store : Course Contents) (sink : Course (List ℕ))
+    → Writing command store.old store.new → sink.new ≡ sink.old → Stays command store sink
+stays_wanting command store sink writing unput =
+    let front : (bytes : List ℕ) → IsAppendedInPart bytes sink.old sink.new = λ bytes.
+    subst (IsAppendedInPart bytes sink.old) (sym unput) (front_of_none bytes sink.old) in
+    elim writing [
+      | inl same ↦ inl (record { text = inl (front []); files = same })
+      | inr part ↦ inr (part.0, part.1, record { text = inl (front part.0.text); files = part.2 })
+    ]
+
+-- the file that was written holds the source's constraints
+pub holds_written : (old new : Option Contents) (source : List ℕ) (options : Options)
+    (out : List ℕ) (r : Reply) → Told old (λ files. WritesConstraintsOf files source options out r)
+    → Changes (Leaves r.file) old new
+    → Changes (λ files after. HoldsConstraintsOf files source options (after out)) old new
+holds_written None new source options out r told leaves = tt
+holds_written (Some files) None source options out r told leaves = absurd leaves
+holds_written (Some files) (Some after) source options out r told leaves =
+    let written : Leaves (Some (record { name = out; bytes = told.bytes })) files after =
+    subst (λ (file : Option NewFile). Leaves file files after) told.file leaves in
+    record { bytes = told.bytes; there = written.here; constraints = told.constraints }
+
+-- an exit with 0 is the reply's status
+pub status_of_success : (r : Reply) (sink : Course (List ℕ)) (exit : ℕ) → Puts r sink exit
+    → exit ≡ 0 → r.status ≡ 0
+status_of_success r sink exit (inl whole) zero = sym whole.0 ∙ zero
+status_of_success r sink exit (inr lost) zero = absurd (omega (arith, lost.0, zero))
+
+pub success_written : (result : Result ℕ AllocError) (old new : Option Contents)
+    (sink : Course (List ℕ)) (source : List ℕ) (options : Options) (out : List ℕ) (r : Reply)
+    → (r.status ≡ 0 → Told old (λ files. WritesConstraintsOf files source options out r))
+    → Changes (Leaves r.file) old new → IfOk result (Puts r sink)
+    → IfOk result (λ exit. exit ≡ 0 → Changes
+    (λ files after. HoldsConstraintsOf files source options (after out)) old new)
+success_written result old new sink source options out r writes leaves puts =
+    IfOk-weaker result (Puts r sink)
+    (λ exit. exit ≡ 0 → Changes
+    (λ files after. HoldsConstraintsOf files source options (after out)) old new)
+    (λ exit put zero.
+    holds_written old new source options out r
+    (writes (status_of_success r sink exit put zero)) leaves) puts
+
+-- and 64 is the status of the usage line alone
+verdict_below : (v : Verdict) → verdict_status v < 64
+verdict_below (CountsDiffer values wires) = omega arith
+verdict_below WireZero = omega arith
+verdict_below (ConstraintFails index) = omega arith
+verdict_below Satisfied = omega arith
+
+said_below : {X : Type 0} (reply : X → Reply) (found : Result X Refusal)
+    → ((x : X) → (reply x).status < 64) → (said reply found).status < 64
+said_below reply (Ok x) below = below x
+said_below reply (Err refusal) below = omega arith
+
+says_below : {X : Type 0} (contents : Option Contents) (reply : X → Reply)
+    (Finds : Contents → Result X Refusal → Type 0) (r : Reply) → ((x : X) → (reply x).status < 64)
+    → Says contents reply Finds r → r.status ≡ 64 → ⊥
+says_below contents reply Finds r below says is =
+    let low : (said reply says.0).status < 64 = said_below reply says.0 below in
+    let same : r.status ≡ (said reply says.0).status = ap (λ (x : Reply). x.status) says.2 in
+    omega (arith, low, same, is)
+
+pub usage_alone : (contents : Option Contents) (command : Option Command) (r : Reply)
+    → Answers contents command r → r.status ≡ 64 → command ≡ None
+usage_alone contents None r answers is = refl
+usage_alone contents (Some (check r1cs wtns)) r answers is =
+    absurd (says_below contents checked _ r verdict_below answers is)
+usage_alone contents (Some (compile source out options)) r answers is =
+    absurd (says_below contents (compiled out) _ r (λ f. omega arith) answers is)

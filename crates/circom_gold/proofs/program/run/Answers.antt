@@ -1,0 +1,31 @@
+use Rattle.std.proofs.Common.{◌∙◌, ◌≡◌, List, ℕ, Option, Some, subst}
+use Rattle.out_io.specs.Calls.{Course, course}
+use Rattle.out_io.specs.Contents.{Contents}
+use Rattle.circom_gold.specs.Reply.{Answers}
+use Rattle.circom_gold.specs.Shown.{shown}
+use Rattle.circom_gold.specs.Words.{Command, command_of, texts}
+use Rattle.circom_gold.proofs.Replies.{stays_said, success_written}
+use Rattle.circom_gold.proofs.program.run.Goals as goal
+
+pub returns-in-Ok-clause-kept : goal.returns-in-Ok-clause-kept
+returns-in-Ok-clause-kept g c =
+    let store : Course Contents =
+    course (g.S.Store.contents c.args.store.now) (g.S.Store.contents c.answered.new.store)
+    (g.S.Store.faults c.args.store.now) (g.S.Store.faults c.answered.new.store) in
+    let sink : Course (List ℕ) =
+    course (g.K.Sink.contents c.args.out.now) (g.K.Sink.contents c.put_text.new.out)
+    (g.K.Sink.faults c.args.out.now) (g.K.Sink.faults c.put_text.new.out) in
+    stays_said (command_of (texts c.args.words.now)) (shown c.in-Ok.reply) store sink
+    (subst (λ (x : Option Command). Answers (g.S.Store.contents c.args.store.now) x (shown c.in-Ok.reply))
+    c.in_ok-command.ensures c.in-Ok.ensures.answers)
+    c.in-Ok.ensures.files c.put_text.ensures.front
+
+pub returns-in-Ok-clause-compiled : goal.returns-in-Ok-clause-compiled
+returns-in-Ok-clause-compiled g c = λ source out options is.
+    let sink : Course (List ℕ) =
+    course (g.K.Sink.contents c.args.out.now) (g.K.Sink.contents c.put_text.new.out)
+    (g.K.Sink.faults c.args.out.now) (g.K.Sink.faults c.put_text.new.out) in
+    success_written c.put_text.result (g.S.Store.contents c.args.store.now)
+    (g.S.Store.contents c.answered.new.store) sink source options out (shown c.in-Ok.reply)
+    (c.in-Ok.ensures.compiled source out options (c.in_ok-command.ensures ∙ is))
+    c.in-Ok.ensures.files c.put_text.ensures.puts
