@@ -11,7 +11,7 @@ use Rattle.cir_ast.specs.declared.refusal.Kind.TheVariants.{Limit}
 use Rattle.cir_ast.specs.declared.refusal.Which.TheVariants.{Files}
 use Rattle.cir_sources.specs.declared.source.Source.{Source as CodeSource}
 use Rattle.cir_sources.specs.declared.source.Site.{Site}
-use Rattle.cir_sources.specs.declared.source.TheConstants.{MAX_FILES}
+use Rattle.cir_sources.specs.Limits.{most_files}
 use Rattle.cir_sources.specs.declared.search.Target.TheVariants.{Found}
 use Rattle.cir_sources.specs.declared.loading.Loading.{Loading}
 use Rattle.cir_sources.specs.declared.fault.LoadFault.{LoadFault}
@@ -42,7 +42,7 @@ fresh_found names o found is fresh name same =
 
 -- the found file has a fault
 pub follow_bad : (contents : Option Contents) (library : Option (List ℕ)) (old : Loading) (site : Site) (new : Loading) (failed : Type 0) (found : String Global) (bytes : Vec ℕ Global) (e : LoadFault)
-    → Told contents (λ files. FindsTarget files old.names library site (Found found bytes)) → length (all_of old) < MAX_FILES → IsBad (string_bytes found) bytes.items e
+    → Told contents (λ files. FindsTarget files old.names library site (Found found bytes)) → length (all_of old) < most_files → IsBad (string_bytes found) bytes.items e
     → Follows contents library old site new failed (Err e)
 follow_bad contents library old site new failed found bytes (fault.Refused r) finds few bad =
     told_on contents (λ files. FindsTarget files old.names library site (Found found bytes)) (λ files. AreHeld files old.names → CannotFollow files library old site r)
@@ -57,13 +57,13 @@ follow_bad contents library old site new failed found bytes fault.Fault finds fe
 
 -- there are as many files as there may be
 pub follow_full : (contents : Option Contents) (library : Option (List ℕ)) (old : Loading) (site : Site) (new : Loading) (failed : Type 0) (found : String Global) (bytes : Vec ℕ Global) (file : List ℕ) (e : LoadFault)
-    → Told contents (λ files. FindsTarget files old.names library site (Found found bytes)) → length (all_of old) ≡ MAX_FILES → file ≡ site.file
-    → Refuses file (Limit Files (MAX_FILES + 1)) site.spot e → Follows contents library old site new failed (Err e)
+    → Told contents (λ files. FindsTarget files old.names library site (Found found bytes)) → length (all_of old) ≡ most_files → file ≡ site.file
+    → Refuses file (Limit Files (most_files + 1)) site.spot e → Follows contents library old site new failed (Err e)
 follow_full contents library old site new failed found bytes file (fault.Refused r) finds full same refuses =
     told_on contents (λ files. FindsTarget files old.names library site (Found found bytes)) (λ files. AreHeld files old.names → CannotFollow files library old site r)
     (λ files f are. record {
       fresh = fresh_found old.names (chosen files library site) (string_bytes found) (f are).0 (f are).1;
-      stop = Full (string_bytes found) (f are).0 full (refuses ∙ ap (λ n. refusal_at n (Limit Files (MAX_FILES + 1)) site.spot) same ∙ ap (λ n. refusal_at site.file (Limit Files (n + 1)) site.spot) (sym full));
+      stop = Full (string_bytes found) (f are).0 full (refuses ∙ ap (λ n. refusal_at n (Limit Files (most_files + 1)) site.spot) same ∙ ap (λ n. refusal_at site.file (Limit Files (n + 1)) site.spot) (sym full));
     })
     finds
 follow_full contents library old site new failed found bytes file fault.OutOfMemory finds full same refuses = refuses
@@ -72,7 +72,7 @@ follow_full contents library old site new failed found bytes file fault.Fault fi
 
 -- the found file is loaded
 pub follow_loads : (contents : Option Contents) (library : Option (List ℕ)) (old : Loading) (site : Site) (new : Loading) (found : String Global) (bytes : Vec ℕ Global) (name : List ℕ) (source : CodeSource)
-    → Told contents (λ files. FindsTarget files old.names library site (Found found bytes)) → length (all_of old) < MAX_FILES → name ≡ string_bytes found → Decodes name bytes.items (Ok source)
+    → Told contents (λ files. FindsTarget files old.names library site (Found found bytes)) → length (all_of old) < most_files → name ≡ string_bytes found → Decodes name bytes.items (Ok source)
     → Adds old (seen source) new → IsFollowed contents library old site new
 follow_loads contents library old site new found bytes name source finds few same decodes adds =
     Loads (seen source) decodes.2 adds few

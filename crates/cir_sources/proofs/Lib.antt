@@ -4,3 +4,5 @@ pub mod Searching
 pub mod Reaching
 pub mod Following
 pub mod Program
+pub mod OneUnread
+pub mod OneLoading

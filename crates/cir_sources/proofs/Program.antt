@@ -9,7 +9,7 @@ use Rattle.out_io.specs.Contents.{Contents, Finds}
 use Rattle.out_io.specs.Faults.{Rose}
 use Rattle.cir_sources.specs.declared.source.Source.{Source as CodeSource}
 use Rattle.cir_sources.specs.declared.source.Site.{Site}
-use Rattle.cir_sources.specs.declared.source.TheConstants.{MAX_FILES}
+use Rattle.cir_sources.specs.Limits.{most_files}
 use Rattle.cir_sources.specs.declared.search.Target.TheVariants.{Loaded}
 use Rattle.cir_sources.specs.declared.loading.Loading.{Loading}
 use Rattle.cir_sources.specs.declared.fault.LoadFault.{LoadFault}
@@ -77,7 +77,7 @@ stops contents now name library old site new left failed fails (fault.Refused r)
     let P : List Site → Type 0 = Leads files name library (all_of old) in
     let here : Leads files name library (all_of old) (site ∷ left_of old) = subst P top leads in
     let c : CannotFollow files library old site r = cannot (names_held files old.names (all_of old) loading.names_are (leads_sources files name library (all_of old) left leads)) in
-    inr (leads_stops files name library (all_of old) site (left_of old) r here (fresh_name old.names (all_of old) (chosen files library site) loading.names_are c.fresh) c.stop))
+    inr (leads_stops files name library (all_of old) site (left_of old) r loading.sources.few here (fresh_name old.names (all_of old) (chosen files library site) loading.names_are c.fresh) c.stop))
     loading.leads
     (let Q : Option Contents → Type 0 = λ o. Told o (λ files. AreHeld files old.names → CannotFollow files library old site r) in subst Q same follows)
 stops contents now name library old site new left failed fails fault.OutOfMemory same loading top rose follows = follows
@@ -125,13 +125,13 @@ pub ends : (contents : Option Contents) (name : List ℕ) (library : Option (Lis
     → IsLoading contents name library names all left → left ≡ [] → Told contents (λ files. AreAll files name library all)
 ends contents name library names all left loading none =
     told_on contents (λ files. Leads files name library all left) (λ files. AreAll files name library all)
-    (λ files leads. let P : List Site → Type 0 = Leads files name library all in leads_all files name library all (subst P none leads))
+    (λ files leads. let P : List Site → Type 0 = Leads files name library all in leads_all files name library all loading.sources.few (subst P none leads))
     loading.leads
 
 -- a file more, or an include less
 pub gets_smaller : (contents : Option Contents) (library : Option (List ℕ)) (old new : Loading) (site : Site) (pending : ℕ)
     → IsFollowed contents library old site new → vec_len old.pending < pending → vec_len new.pending < 2 ^ 64
-    → (MAX_FILES - length (all_of new)) * 2 ^ 64 + vec_len new.pending < (MAX_FILES - length (all_of old)) * 2 ^ 64 + pending
+    → (most_files - length (all_of new)) * 2 ^ 64 + vec_len new.pending < (most_files - length (all_of old)) * 2 ^ 64 + pending
 gets_smaller contents library old new site pending (Skips is finds) less small =
     omega (arith, ap (λ l. length (all_of l)) is, ap (λ (l : Loading). vec_len l.pending) is)
 gets_smaller contents library old new site pending (LoadsIt s read adds few named) less small =

@@ -1,5 +1,5 @@
 -- Which includes are left, from one source to the next.
-use Rattle.std.proofs.Common.{◌≡◌, ℕ, ◌<◌, Bool, true, false, List, [], ◌∷◌, ◌++◌, length, refl, sym, ap, ◌∙◌, subst, arith, cond, Option, None, Some, String, inl, inr}
+use Rattle.std.proofs.Common.{◌≡◌, ℕ, ◌<◌, ◌≤◌, Bool, true, false, List, [], ◌∷◌, ◌++◌, length, refl, sym, ap, ◌∙◌, subst, arith, cond, Option, None, Some, String, inl, inr}
 use Rattle.std.specs.Prelude.{◌||◌, All}
 use Rattle.std.specs.declared.alloc.Global.{Global}
 use Rattle.std.specs.Str.{bytes_eq}
@@ -12,7 +12,7 @@ use Rattle.std.proofs.lemmas.Slice.Eq.{bytes_eq-Decides}
 use Rattle.out_io.specs.Contents.{Contents}
 use Rattle.cir_ast.specs.declared.refusal.Refusal.{Refusal}
 use Rattle.cir_sources.specs.declared.source.Site.{Site}
-use Rattle.cir_sources.specs.declared.source.TheConstants.{MAX_FILES}
+use Rattle.cir_sources.specs.Limits.{most_files}
 use Rattle.cir_sources.specs.Includes.{Source, IsRead, IsSource, includes_of, held, chosen, is_among, is_loaded, skipped, follow, left_after}
 use Rattle.cir_sources.specs.Faults.{IsStop}
 use Rattle.cir_sources.specs.Loading.{AreAll, IsIncludeFault, AreSources}
@@ -84,8 +84,9 @@ leads_adds files name library all site rest s leads e is source = record {
       ∙ ap (λ l. left_after files library l (includes_of s ++ rest) new) (sym (map-append (λ (s : Source). s.name) all (s ∷ [])));
 }
 
-pub leads_all : (files : Contents) (name : List ℕ) (library : Option (List ℕ)) (all : List Source) → Leads files name library all [] → AreAll files name library all
-leads_all files name library all leads = record {
+pub leads_all : (files : Contents) (name : List ℕ) (library : Option (List ℕ)) (all : List Source) → length all ≤ most_files → Leads files name library all []
+    → AreAll files name library all
+leads_all files name library all few leads = record {
   first = leads.first;
   more = leads.more;
   parts = leads.parts;
@@ -93,14 +94,15 @@ leads_all files name library all leads = record {
     named = leads.named;
     source = leads.source;
     sources = leads.sources;
+    few = omega (arith, ap length leads.parts, few);
     sites = ap (left_after files library (name ∷ []) (includes_of leads.first)) (sym (append-nil leads.more)) ∙ leads.same [];
   };
 }
 
 pub leads_stops : (files : Contents) (name : List ℕ) (library : Option (List ℕ)) (all : List Source) (site : Site) (rest : List Site) (r : Refusal)
-    → Leads files name library all (site ∷ rest) → is_loaded (names_of all) (chosen files library site) ≡ false → IsStop files library (length all) site r
-    → IsIncludeFault files name library r
-leads_stops files name library all site rest r leads e stop = record {
+    → length all ≤ most_files → Leads files name library all (site ∷ rest) → is_loaded (names_of all) (chosen files library site) ≡ false
+    → IsStop files library (length all) site r → IsIncludeFault files name library r
+leads_stops files name library all site rest r few leads e stop = record {
   first = leads.first;
   more = leads.more;
   site = site;
@@ -109,6 +111,7 @@ leads_stops files name library all site rest r leads e stop = record {
     named = leads.named;
     source = leads.source;
     sources = leads.sources;
+    few = omega (arith, ap length leads.parts, few);
     sites = ap (left_after files library (name ∷ []) (includes_of leads.first)) (sym (append-nil leads.more)) ∙ leads.same []
         ∙ ap Some (skipped_fresh files library (names_of all) site rest e);
   };
@@ -154,7 +157,7 @@ names_more old new all s are more = λ q.
     either false true = refl
     either false false = refl
 
-pub sources_more : (all : List Source) (s : Source) → AreSources all → IsRead s → length all < MAX_FILES → AreSources (all ++ s ∷ [])
+pub sources_more : (all : List Source) (s : Source) → AreSources all → IsRead s → length all < most_files → AreSources (all ++ s ∷ [])
 sources_more all s sources read few = record {
   some = omega (arith, length-append all (s ∷ []), sources.some);
   few = omega (arith, length-append all (s ∷ []));

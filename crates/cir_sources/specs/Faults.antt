@@ -18,7 +18,7 @@ use Rattle.cir_parse.specs.LeftOut.{first_left_out}
 use Rattle.cir_places.specs.declared.place.Spot.{Spot}
 use Rattle.cir_places.specs.Places.{start, spot_at, token_spot}
 use Rattle.cir_sources.specs.declared.source.Site.{Site}
-use Rattle.cir_sources.specs.declared.source.TheConstants.{MAX_SOURCE, MAX_FILES}
+use Rattle.cir_sources.specs.Limits.{most_bytes, most_files}
 use Rattle.cir_sources.specs.Includes.{other_version, chosen, held}
 
 -- a refusal at a place of the file of this name, before any instance is made
@@ -28,17 +28,17 @@ refusal_at name kind spot = record { kind = kind; place = record { file = name; 
 -- why the file of this name and these bytes is no source, the first of the five causes in their order
 pub data IsFault (name bytes : List ℕ) (r : Refusal) : Type 0 where
   -- it is too long
-  Long : MAX_SOURCE < length bytes → r ≡ refusal_at name (Limit SourceLimit (length bytes)) start → IsFault name bytes r
+  Long : most_bytes < length bytes → r ≡ refusal_at name (Limit SourceLimit (length bytes)) start → IsFault name bytes r
   -- it has no reading as tokens
-  NoTokens : (cause : LexCause) (offset : ℕ) → length bytes ≤ MAX_SOURCE → IsReading bytes (Err (At cause offset)) → r ≡ refusal_at name (Lexical cause) (spot_at bytes offset) → IsFault name bytes r
+  NoTokens : (cause : LexCause) (offset : ℕ) → length bytes ≤ most_bytes → IsReading bytes (Err (At cause offset)) → r ≡ refusal_at name (Lexical cause) (spot_at bytes offset) → IsFault name bytes r
   -- a form stands in its tokens that isn't in the profile
-  LeftOut : (tokens : List Token) (token : ℕ) (form : Form) → length bytes ≤ MAX_SOURCE → IsReading bytes (Ok tokens)
+  LeftOut : (tokens : List Token) (token : ℕ) (form : Form) → length bytes ≤ most_bytes → IsReading bytes (Ok tokens)
       → first_left_out 0 (kinds tokens) ≡ Some (token, form) → r ≡ refusal_at name (NotInProfile form) (token_spot bytes tokens token) → IsFault name bytes r
   -- its tokens have no tree
-  NoTree : (tokens : List Token) (token : ℕ) → length bytes ≤ MAX_SOURCE → IsReading bytes (Ok tokens) → first_left_out 0 (kinds tokens) ≡ None
+  NoTree : (tokens : List Token) (token : ℕ) → length bytes ≤ most_bytes → IsReading bytes (Ok tokens) → first_left_out 0 (kinds tokens) ≡ None
       → ((file : File) → ¬ IsTree (kinds tokens) file) → IsFirstUnread (kinds tokens) token → r ≡ refusal_at name Syntax (token_spot bytes tokens token) → IsFault name bytes r
   -- it is of another version
-  OtherVersion : (tokens : List Token) (tree : File) (token : ℕ) → length bytes ≤ MAX_SOURCE → IsReading bytes (Ok tokens) → first_left_out 0 (kinds tokens) ≡ None
+  OtherVersion : (tokens : List Token) (tree : File) (token : ℕ) → length bytes ≤ most_bytes → IsReading bytes (Ok tokens) → first_left_out 0 (kinds tokens) ≡ None
       → IsTree (kinds tokens) tree → other_version 0 tree ≡ Some token → r ≡ refusal_at name (NotInProfile Version) (token_spot bytes tokens token) → IsFault name bytes r
 
 -- why an include can't be followed, where so many files are loaded
@@ -46,6 +46,6 @@ pub data IsStop (files : Contents) (library : Option (List ℕ)) (count : ℕ) (
   -- there is no such file
   Absent : chosen files library site ≡ None → r ≡ refusal_at site.file Include site.spot → IsStop files library count site r
   -- there are as many files as there may be
-  Full : (name : List ℕ) → chosen files library site ≡ Some name → count ≡ MAX_FILES → r ≡ refusal_at site.file (Limit Files (count + 1)) site.spot → IsStop files library count site r
+  Full : (name : List ℕ) → chosen files library site ≡ Some name → count ≡ most_files → r ≡ refusal_at site.file (Limit Files (count + 1)) site.spot → IsStop files library count site r
   -- the file has a fault
-  Fault : (name bytes : List ℕ) → chosen files library site ≡ Some name → count < MAX_FILES → held files name ≡ Some bytes → IsFault name bytes r → IsStop files library count site r
+  Fault : (name bytes : List ℕ) → chosen files library site ≡ Some name → count < most_files → held files name ≡ Some bytes → IsFault name bytes r → IsStop files library count site r

@@ -13,7 +13,7 @@ use Rattle.cir_parse.specs.LeftOut.{first_left_out}
 use Rattle.cir_places.specs.Places.{token_spot}
 use Rattle.cir_sources.specs.declared.source.Source.{Source as CodeSource}
 use Rattle.cir_sources.specs.declared.source.Site.{Site}
-use Rattle.cir_sources.specs.declared.source.TheConstants.{MAX_SOURCE}
+use Rattle.cir_sources.specs.Limits.{most_bytes}
 use Rattle.cir_sources.specs.Names.{folder_of, resolved, in_folder}
 
 -- a source file, with its tree as plain data
@@ -41,7 +41,7 @@ other_version n (item ∷ items) = if is_other_version item then Some n else oth
 
 -- the bytes are short enough, they are these tokens, and the tokens are of this tree and of version 2
 pub record IsRead (s : Source) : Type 0 where
-  pub short : length s.bytes ≤ MAX_SOURCE
+  pub short : length s.bytes ≤ most_bytes
   pub reading : IsReading s.bytes (Ok s.tokens)
   pub whole : first_left_out 0 (kinds s.tokens) ≡ None
   pub tree : IsTree (kinds s.tokens) s.tree

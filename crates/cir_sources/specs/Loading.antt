@@ -8,17 +8,19 @@ use Rattle.out_io.specs.declared.fault.IoFault.TheVariants as io
 use Rattle.cir_ast.specs.declared.refusal.Refusal.{Refusal}
 use Rattle.cir_sources.specs.declared.source.Source.{Source as CodeSource}
 use Rattle.cir_sources.specs.declared.source.Site.{Site}
-use Rattle.cir_sources.specs.declared.source.TheConstants.{MAX_FILES}
+use Rattle.cir_sources.specs.Limits.{most_files}
 use Rattle.cir_sources.specs.declared.fault.LoadFault.{LoadFault}
 use Rattle.cir_sources.specs.declared.fault.LoadFault.TheVariants as fault
 use Rattle.cir_sources.specs.Includes.{Source, seen, IsRead, IsSource, includes_of, left_after}
 use Rattle.cir_sources.specs.Faults.{IsFault, IsStop}
 
--- these sources are reached from the first file of this name, in this order, and these includes are left to follow
+-- these sources are reached from the first file of this name, in this order, no more than a program may have, and
+-- these includes are left to follow
 pub record AreReached (files : Contents) (name : List ℕ) (library : Option (List ℕ)) (first : Source) (more : List Source) (left : List Site) : Type 0 where
   pub named : first.name ≡ name
   pub source : IsSource files first
   pub sources : All (IsSource files) more
+  pub few : 1 + length more ≤ most_files
   pub sites : left_after files library (name ∷ []) (includes_of first) more ≡ Some left
 
 -- all sources of the program
@@ -43,6 +45,17 @@ pub record IsIncludeFault (files : Contents) (name : List ℕ) (library : Option
   pub reached : AreReached files name library first more (site ∷ rest)
   pub stop : IsStop files library (1 + length more) site r
 
+-- what the files of a program give: its sources, nothing where its first file isn't there, or why it is refused
+pub data Answer : Type 0 where
+  Sources : List Source → Answer
+  NoFile : Answer
+  Refused : Refusal → Answer
+
+abbrev pub IsAnswer : Contents → List ℕ → Option (List ℕ) → Answer → Type 0
+IsAnswer files name library (Sources all) = AreAll files name library all
+IsAnswer files name library NoFile = files name ≡ None
+IsAnswer files name library (Refused r) = IsFirstFault files name r ⊎ IsIncludeFault files name library r
+
 -- the fault of a store's call
 abbrev pub fault_of : IoFault → LoadFault
 fault_of io.Failed = fault.Fault
@@ -51,14 +64,17 @@ fault_of io.OutOfMemory = fault.OutOfMemory
 -- What the loading of the file of this name answers, over the contents where the store tells them. It fails only
 -- where the store did; want of memory is free.
 abbrev pub Loads : Option Contents → List ℕ → Option (List ℕ) → Type 0 → Result (Vec CodeSource Global) LoadFault → Type 0
-Loads contents name library failed (Ok v) = Told contents (λ files. AreAll files name library (map seen v.items))
-Loads contents name library failed (Err fault.Missing) = Told contents (λ files. files name ≡ None)
-Loads contents name library failed (Err (fault.Refused r)) = Told contents (λ files. IsFirstFault files name r ⊎ IsIncludeFault files name library r)
+Loads contents name library failed (Ok v) =
+    Told contents (λ files. IsAnswer files name library (Sources (map seen v.items)))
+Loads contents name library failed (Err fault.Missing) =
+    Told contents (λ files. IsAnswer files name library NoFile)
+Loads contents name library failed (Err (fault.Refused r)) =
+    Told contents (λ files. IsAnswer files name library (Refused r))
 Loads contents name library failed (Err fault.Fault) = failed
 Loads contents name library failed (Err fault.OutOfMemory) = ⊤
 
 -- what is known of the sources also where the store doesn't tell its contents
 pub record AreSources (all : List Source) : Type 0 where
   pub some : 1 ≤ length all
-  pub few : length all ≤ MAX_FILES
+  pub few : length all ≤ most_files
   pub read : All IsRead all

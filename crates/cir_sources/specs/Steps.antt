@@ -18,7 +18,7 @@ use Rattle.cir_places.specs.declared.place.Spot.{Spot}
 use Rattle.cir_sources.specs.declared.path.Kept.{Kept}
 use Rattle.cir_sources.specs.declared.source.Source.{Source as CodeSource}
 use Rattle.cir_sources.specs.declared.source.Site.{Site}
-use Rattle.cir_sources.specs.declared.source.TheConstants.{MAX_FILES, MAX_SOURCE}
+use Rattle.cir_sources.specs.Limits.{most_files, most_bytes}
 use Rattle.cir_sources.specs.declared.search.Target.{Target}
 use Rattle.cir_sources.specs.declared.search.Target.TheVariants.{Loaded, Absent, Found}
 use Rattle.cir_sources.specs.declared.loading.Loading.{Loading}
@@ -55,7 +55,7 @@ IsBad name bytes fault.Fault = ⊥
 
 -- the tokens of a file's bytes
 abbrev pub Lexes : List ℕ → List ℕ → Result (Vec Token Global) LoadFault → Type 0
-Lexes name bytes (Ok tokens) = (length bytes ≤ MAX_SOURCE) × IsReading bytes (Ok tokens.items)
+Lexes name bytes (Ok tokens) = (length bytes ≤ most_bytes) × IsReading bytes (Ok tokens.items)
 Lexes name bytes (Err e) = IsBad name bytes e
 
 -- the tokens are of this tree, in the profile and of version 2
@@ -131,7 +131,7 @@ pub record IsNamed (files : Contents) (library : Option (List ℕ)) (names : BTr
 -- the include is followed: its file is loaded already, or it is loaded
 pub data IsFollowed (contents : Option Contents) (library : Option (List ℕ)) (old : Loading) (site : Site) (new : Loading) : Type 0 where
   Skips : new ≡ old → Told contents (λ files. FindsTarget files old.names library site Loaded) → IsFollowed contents library old site new
-  Loads : (s : Source) → IsRead s → Adds old s new → length (all_of old) < MAX_FILES → Told contents (λ files. AreHeld files old.names → IsNamed files library old.names site s)
+  Loads : (s : Source) → IsRead s → Adds old s new → length (all_of old) < most_files → Told contents (λ files. AreHeld files old.names → IsNamed files library old.names site s)
       → IsFollowed contents library old site new
 
 -- the include names no file that is loaded, and can't be followed

@@ -6,6 +6,7 @@ ghost use Rattle.cir_ast.specs.Tree.{bare_item};
 ghost use Rattle.cir_ast.specs.Print.{item_tokens};
 ghost use Rattle.cir_places.specs.Places.{token_spot};
 ghost use Rattle.cir_sources.specs.Includes.{seen, IsRead, includes_of, is_other_version, other_version};
+ghost use Rattle.cir_sources.specs.Limits.{most_bytes};
 ghost use Rattle.cir_sources.specs.Steps.{Refuses, Lexes, ParsesFile, Decodes};
 
 use crate::fault::{LoadFault, refusal};
@@ -63,7 +64,7 @@ fn refusal_at_token(
     kind: Kind,
     token: usize,
 ) -> LoadFault
-    requires { length bytes.now ≤ MAX_SOURCE }
+    requires { length bytes.now ≤ most_bytes }
     ensures { Refuses name.now kind (token_spot bytes.now tokens.now token) result }
 {
     let spot = Places::new(bytes, tokens).of_token(token);
@@ -71,7 +72,7 @@ fn refusal_at_token(
 }
 
 fn tree_of(alloc: Global, name: &[u8], bytes: &[u8], tokens: &[Token]) -> Result<File, LoadFault>
-    requires short { length bytes.now ≤ MAX_SOURCE }
+    requires short { length bytes.now ≤ most_bytes }
     requires reading { IsReading bytes.now (Ok tokens.now) }
     ensures { ParsesFile name.now bytes.now tokens.now result }
 {

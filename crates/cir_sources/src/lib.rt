@@ -3,6 +3,7 @@
 
 mod decode;
 mod fault;
+pub mod laws;
 mod loading;
 mod path;
 mod search;

@@ -4,6 +4,7 @@ ghost use Rattle.std.specs.Option.{option_copied};
 ghost use Rattle.out_io.specs.Faults.{Rose};
 ghost use Rattle.cir_sources.specs.Includes.{seen, IsRead};
 ghost use Rattle.out_io.specs.Calls.{OnlyReads};
+ghost use Rattle.cir_sources.specs.Limits.{most_files};
 ghost use Rattle.cir_sources.specs.Loading.{Loads, AreSources};
 ghost use Rattle.cir_sources.specs.Steps.{Adds, Begins, Follows, all_of};
 
@@ -68,7 +69,7 @@ impl Loading {
         library: Option<&str>,
         site: &Site,
     ) -> Result<(), LoadFault>
-        requires few { length (all_of self.old) ≤ MAX_FILES }
+        requires few { length (all_of self.old) ≤ most_files }
         ensures follows { Follows (S.contents store.old) (option_copied library.entry) self.old site.now self.new (Rose (S.faults store.old) (S.faults store.new)) result }
         ensures store { OnlyReads (S.contents store.old) (S.contents store.new)
             (S.faults store.old) (S.faults store.new) (S.never_fails store.old) (S.never_fails store.new) }
@@ -104,7 +105,8 @@ pub fn sources<S: Store>(
     name: &str,
     library: Option<&str>,
 ) -> Result<Vec<Source>, LoadFault>
-    ensures loads { Loads (S.contents store.old) name.now (option_copied library.entry) (Rose (S.faults store.old) (S.faults store.new)) result }
+    ensures loads { Loads (S.contents store.old) name.now (option_copied library.entry)
+        (Rose (S.faults store.old) (S.faults store.new)) result }
     ensures read { IfOk result (λ v. AreSources (map seen v.items)) }
     ensures store { OnlyReads (S.contents store.old) (S.contents store.new)
         (S.faults store.old) (S.faults store.new) (S.never_fails store.old) (S.never_fails store.new) }

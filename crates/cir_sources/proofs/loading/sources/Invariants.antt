@@ -1,7 +1,7 @@
 use Rattle.std.proofs.Common.{◌+◌, ◌-◌, ◌*◌, ◌^◌, vec_len, length}
 use Rattle.std.specs.Option.{option_copied}
-use Rattle.cir_sources.specs.declared.source.TheConstants.{MAX_FILES}
 use Rattle.out_io.specs.Calls.{OnlyReads}
+use Rattle.cir_sources.specs.Limits.{most_files}
 use Rattle.cir_sources.specs.Steps.{IsLoading, all_of, left_of}
 use Rattle.cir_sources.proofs.loading.sources.Given as goal
 
@@ -13,4 +13,4 @@ invariant-loop-site g l = record {
 
 -- a file more, or an include less
 abbrev pub decreases-loop-site : goal.decreases-loop-site
-decreases-loop-site g l = (MAX_FILES - length (all_of l.loading)) * 2 ^ 64 + vec_len l.loading.pending
+decreases-loop-site g l = (most_files - length (all_of l.loading)) * 2 ^ 64 + vec_len l.loading.pending
