@@ -1,2 +1,5 @@
+pub mod Known
+pub mod Leading
 pub mod Paths
 pub mod Places
+pub mod Walk

@@ -89,7 +89,7 @@ between depth k j nodes index at path e h climbs =
     (omega (arith, low, place), omega (arith, high, place))
 
 -- even or odd
-parity : (n : ℕ) → (n % 2 ≡ 0) ⊎ (n % 2 ≡ 1)
+pub parity : (n : ℕ) → (n % 2 ≡ 0) ⊎ (n % 2 ≡ 1)
 parity n = ⊎_elim (λ l. inl (omega arith)) (λ g. let b = mod_below n 2 (omega arith) in inr (omega arith)) (cases_lt (n % 2) 1)
 
 -- the root of the place beside, on each side

@@ -1,3 +1,5 @@
 pub mod Hashing
 pub mod Merkle
 pub mod Nodes
+pub mod Shared
+pub mod Levels

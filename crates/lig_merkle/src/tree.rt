@@ -1,11 +1,13 @@
 //! A tree with all its nodes.
 
-ghost use Rattle.std.specs.Prelude.{◌≡◌, ◌<◌, ◌*◌, ◌^◌, ℕ, IfOk, length, drop};
+ghost use Rattle.std.specs.Prelude.{◌≡◌, ◌<◌, ◌+◌, ◌*◌, ◌^◌, ◌++◌, ℕ, [], All, IfOk, OnOk, length, map, drop, slice_index_or};
 ghost use Rattle.std.specs.Int.{IsPowerOfTwo};
 ghost use Rattle.lig_merkle.specs.Merkle.{root_at, path_at};
-ghost use Rattle.lig_merkle.specs.Nodes.{AreJoined, SameLeaves, sibling_of};
+ghost use Rattle.lig_merkle.specs.Nodes.{AreJoined, SameLeaves};
+ghost use Rattle.lig_merkle.specs.Shared.{AreOpened, shared_nodes};
 
 use crate::hash::{Hash, node};
+use crate::opened::{missing, parents, places, sibling_of};
 use std::alloc::{AllocError, Global};
 use std::marker::Model;
 
@@ -66,14 +68,41 @@ impl Tree {
         }
         Ok(path)
     }
+
+    /// The nodes that lead from these leaves to the root, each once: level by level from the leaves up,
+    /// and on each level by rising places.
+    pub fn nodes(&self, alloc: Global, opened: &[u32]) -> Result<Vec<Hash>, AllocError>
+        requires { AreOpened self.now.depth opened.now }
+        ensures { IfOk result (λ nodes. nodes.items
+            ≡ shared_nodes self.now.depth (λ i. slice_index_or self.now.hashes i []) opened.now) }
+    {
+        let mut nodes = Vec::new(alloc);
+        let mut known = places(alloc, opened)?;
+        let mut first = self.nodes.len() / 2;
+        for _ in 0..self.depth {
+            put_level(&mut nodes, &self.nodes, first, &missing(alloc, &known)?)?;
+            known = parents(alloc, &known)?;
+            first /= 2;
+        }
+        Ok(nodes)
+    }
 }
 
-// The place beside a place, under the same node.
-fn sibling_of(place: usize) -> usize
-    requires { place < 2 ^ 63 }
-    ensures { result ≡ sibling_of place }
+// Appends the nodes at these places of the level that begins at `first`.
+fn put_level(
+    out: &mut Vec<Hash>,
+    nodes: &[Hash],
+    first: usize,
+    level: &[usize],
+) -> Result<(), AllocError>
+    requires { All (λ place. first + place < length nodes.now) level.now }
+    ensures { OnOk result (out.new.items
+        ≡ out.old.items ++ map (λ place. slice_index_or nodes.now (first + place) []) level.now) }
 {
-    if place % 2 == 0 { place + 1 } else { place - 1 }
+    for place in level {
+        out.push(nodes[first + *place])?;
+    }
+    Ok(())
 }
 
 // The leaves in their places, with nothing below them yet.
