@@ -1,2 +1,3 @@
 mod Split
 mod Sources
+pub mod OneLoading

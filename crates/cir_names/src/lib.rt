@@ -1,6 +1,7 @@
 //! From a source file with all that it includes to the program that they define.
 #![tactic(auto)]
 
+pub mod laws;
 mod loading;
 mod splitting;
 
