@@ -101,7 +101,7 @@ form_known n ts f h w e = same_forms 0 0 ts (form_of n f) h (form_rises n f) eac
 difference : (u o c d : ℕ) → o ≡ c % P → u ≡ (c + d) % P → (u + (P - o)) % P ≡ d % P
 difference u o c d e f = omega arith
 
-coefficient_any : (k : ℕ) (ts : List Term) → coefficient (value_of ts) k ≡ coef_of k ts % P
+pub coefficient_any : (k : ℕ) (ts : List Term) → coefficient (value_of ts) k ≡ coef_of k ts % P
 coefficient_any zero ts = value_origin ts
 coefficient_any (suc k) ts =
     difference (value_of ts (unit k)) (value_of ts origin) (coef_of 0 ts) (coef_of (suc k) ts) (value_origin ts) (value_unit k ts)

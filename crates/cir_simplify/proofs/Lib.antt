@@ -1,0 +1,9 @@
+pub mod Picks
+pub mod Linear
+pub mod Noting
+pub mod Partly
+pub mod Turning
+pub mod Starting
+pub mod Holes
+pub mod Wiring
+pub mod Law
