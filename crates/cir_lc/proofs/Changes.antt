@@ -55,7 +55,7 @@ small_value : (ts : List Term) (s : Assignment) → value_of ts s % P ≡ value_
 unfolding value_of
 small_value ts s = mod-mod _ P
 
-substituted_at : (x k : ℕ) (f by : List Term) (s : Assignment) → 0 < x → k ≡ total (one_at x) f % P
+pub substituted_at : (x k : ℕ) (f by : List Term) (s : Assignment) → 0 < x → k ≡ total (one_at x) f % P
     → added (added (value_of f) (scaled ((P - k) % P) (signal x))) (scaled k (value_of by)) s ≡ substituted x (value_of by) (value_of f) s
 unfolding substituted added scaled signal
 substituted_at zero k f by s h e = absurd (omega arith)

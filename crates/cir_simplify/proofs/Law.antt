@@ -178,7 +178,7 @@ taken_low kept low (t ∷ ts) u h e =
       | inr (g, k) ↦ omega (arith, h.0, ap (λ (x : Term). x.signal) g)
     ]
 
-taken_coef : (kept low : ℕ) (ts : List Term) (u : Term) → RisesFrom low ts → greatest kept ts ≡ Some u → coef_of u.signal ts ≡ u.coef
+pub taken_coef : (kept low : ℕ) (ts : List Term) (u : Term) → RisesFrom low ts → greatest kept ts ≡ Some u → coef_of u.signal ts ≡ u.coef
 taken_coef kept low [] u h e = cc
 taken_coef kept low (t ∷ ts) u h e =
     elim (unless_cases kept t u (greatest kept ts) e) [
@@ -223,14 +223,16 @@ solution_raw t c =
     ∙ ap (λ (f : Number). added f (value_of (times_all ((P - inverse_of t.coef) % P) c))) (multiple_value t.signal 1 (term_of t.signal 1) refl ∙ scaled_once t.signal)
     ∙ ap (added (signal t.signal)) (value_times ((P - inverse_of t.coef) % P) c)
 
+pub solution_inverse : (t : Term) → 0 < t.coef → t.coef < P → (1 + ((P - inverse_of t.coef) % P) * t.coef) % P ≡ 0
+solution_inverse t p l =
+    let inverse : (t.coef * inverse_of t.coef) % P ≡ 1 = inverse_from t.coef (inverse_of t.coef) (λ e. omega arith) l refl in
+    cancels ((P - inverse_of t.coef) % P) t.coef (inverse_of t.coef) refl (mod-lt _ (lit< tt)) inverse
+
 solution_gone : (n kept : ℕ) (t : Term) (c : List Term) → RisesFrom 0 c → greatest kept c ≡ Some t → 0 < t.coef → t.coef < P → names t.signal (solution n (record { term = t; form = c })) ≡ false
 solution_gone n kept t c h g p l = zero_unnamed n t.signal _ none
   where
     m : ℕ
     m = (P - inverse_of t.coef) % P
-
-    inverse : (t.coef * inverse_of t.coef) % P ≡ 1
-    inverse = inverse_from t.coef (inverse_of t.coef) (λ e. omega arith) l refl
 
     raw : coef_of t.signal (term_of t.signal 1 ++ times_all m c) ≡ 1 + m * t.coef
     raw =
@@ -240,7 +242,7 @@ solution_gone n kept t c h g p l = zero_unnamed n t.signal _ none
     none : coefficient (added (signal t.signal) (scaled m (value_of c))) t.signal ≡ 0
     none =
         ap (λ (f : Number). coefficient f t.signal) (sym (solution_raw t c)) ∙ coefficient_any t.signal (term_of t.signal 1 ++ times_all m c)
-        ∙ ap (λ (k : ℕ). k % P) raw ∙ cancels m t.coef (inverse_of t.coef) refl (mod-lt _ (lit< tt)) inverse
+        ∙ ap (λ (k : ℕ). k % P) raw ∙ solution_inverse t p l
 
 solution_unnamed : (n y : ℕ) (t : Term) (c : List Term) → (t.signal ≡ y → ⊥) → names y c ≡ false → names y (solution n (record { term = t; form = c })) ≡ false
 solution_unnamed n y t c h g =
@@ -269,7 +271,7 @@ hold_back O0 s ks h = h
 hold_back O1 s ks h = hold_kept s ks h
 hold_back O2 s ks h = hold_kept s ks h
 
-all_dropped : (l : Level) (Q : Constraint → Type 0) (ks : List Constraint) → All Q ks → All Q (dropped l ks)
+pub all_dropped : (l : Level) (Q : Constraint → Type 0) (ks : List Constraint) → All Q ks → All Q (dropped l ks)
 all_dropped O0 Q ks h = h
 all_dropped O1 Q ks h = All-filter (λ k. not (is_empty k)) Q ks h
 all_dropped O2 Q ks h = All-filter (λ k. not (is_empty k)) Q ks h
@@ -381,7 +383,7 @@ with_apart zero v s y h = refl
 with_apart (suc x) v s y h = put_apart (suc x) (v % P) s.at y h
 
 -- what the solution is
-solution_linear : (n m : ℕ) (t : Term) (c : List Term) → t.signal < n → IsWithin n c → IsLinear n (added (signal t.signal) (scaled m (value_of c)))
+pub solution_linear : (n m : ℕ) (t : Term) (c : List Term) → t.signal < n → IsWithin n c → IsLinear n (added (signal t.signal) (scaled m (value_of c)))
 solution_linear n m t c l w = linear_added n (signal t.signal) (scaled m (value_of c)) (linear_signal n t.signal l) (linear_scaled n m (value_of c) (linear_of n c w))
 
 solved_number : (x m v : ℕ) → x < P → v ≡ 0 → (x + (m * v) % P) % P ≡ x
@@ -421,10 +423,10 @@ all_unmapped G Q R f (k ∷ ks) h g a =
 all_both : (G Q : Constraint → Type 0) (ks : List Constraint) → All G ks → All Q ks → All (λ k. G k × Q k) ks
 all_both G Q ks g q = λ k d l. (g k d l, q k d l)
 
-abbrev next_list : Rules → List Constraint → Pick → List Constraint
+abbrev pub next_list : Rules → List Constraint → Pick → List Constraint
 next_list r list p = map (substitute r.bound p.term.signal (solution r.bound p)) list
 
-record Step (r : Rules) (list : List Constraint) (p : Pick) : Type 0 where
+pub record Step (r : Rules) (list : List Constraint) (p : Pick) : Type 0 where
   pub some : 0 < p.term.signal
   pub above : r.kept < p.term.signal
   pub by : IsWithin r.bound (solution r.bound p)
@@ -432,7 +434,7 @@ record Step (r : Rules) (list : List Constraint) (p : Pick) : Type 0 where
   pub other : (y : ℕ) → is_left list y ≡ false → names y (solution r.bound p) ≡ false
   pub at : (s : Assignment) → HoldAll s list → value_of (solution r.bound p) s ≡ s.at p.term.signal
 
-step_of : (r : Rules) (list : List Constraint) (p : Pick) → All (IsGood r.bound) list → first_pivot r list ≡ Some p → Step r list p
+pub step_of : (r : Rules) (list : List Constraint) (p : Pick) → All (IsGood r.bound) list → first_pivot r list ≡ Some p → Step r list p
 step_of r list p g h =
     let s : Source r list p = source r list p g h in
     let u : Picked r r.bound s.from p.term = picked r r.bound s.from p.term s.good s.taken in
@@ -485,7 +487,7 @@ one_step r list p g u = record {
     gone : is_left (dropped r.level (next_list r list p)) x ≡ false
     gone = left_dropped r.level x (next_list r list p) (left_gone (substitute n x by) x list (λ k. substitute_gone n x by k u.some u.gone))
 
-step_good : (r : Rules) (list : List Constraint) (p : Pick) → All (IsGood r.bound) list → Step r list p → All (IsGood r.bound) (dropped r.level (next_list r list p))
+pub step_good : (r : Rules) (list : List Constraint) (p : Pick) → All (IsGood r.bound) list → Step r list p → All (IsGood r.bound) (dropped r.level (next_list r list p))
 step_good r list p g u =
     all_dropped r.level (IsGood r.bound) (next_list r list p)
     (all_mapped (IsGood r.bound) (IsGood r.bound) (substitute r.bound p.term.signal (solution r.bound p)) list (λ k a. substitute_good r.bound p.term.signal (solution r.bound p) k u.some u.by a) g)
@@ -512,7 +514,7 @@ keeps_next main a b c p q = record {
     earlier x (inl l) = inl l
     earlier x (inr h) = inr (by_test x (is_left b x) refl h)
 
-limited_ok : (next : Simplified → Result Simplified ℕ) (s end : Simplified) → limited next s ≡ Ok end → next s ≡ Ok end
+pub limited_ok : (next : Simplified → Result Simplified ℕ) (s end : Simplified) → limited next s ≡ Ok end → next s ≡ Ok end
 limited_ok next s end h = by_test (nat_le (sum_by terms_in s.list) 8388608) h
   where
     by_test : (b : Bool) → cond b (next s) (Err (sum_by terms_in s.list)) ≡ Ok end → next s ≡ Ok end
@@ -608,7 +610,7 @@ not_more : (m n : ℕ) → nat_le m n ≡ true → m ≤ n
 not_more m n h = grind (arith, h)
 
 -- O0 has no turns
-none_first : (r : Rules) (ks : List Constraint) → r.level ≡ O0 → first_pivot r ks ≡ None
+pub none_first : (r : Rules) (ks : List Constraint) → r.level ≡ O0 → first_pivot r ks ≡ None
 none_first r [] e = refl
 none_first r (k ∷ ks) e = ap (λ (o : Option Term). or_later o k.c (first_pivot r ks)) none ∙ none_first r ks e
   where
@@ -629,7 +631,7 @@ same_turns r (suc n) s end e h =
     let same : s ≡ end = cc in
     ap (λ (t : Simplified). t.list) same
 
-level_cases : (l : Level) → (l ≡ O0) ⊎ (keeps_all l ≡ false)
+pub level_cases : (l : Level) → (l ≡ O0) ⊎ (keeps_all l ≡ false)
 level_cases O0 = inl refl
 level_cases O1 = inr refl
 level_cases O2 = inr refl

@@ -7,3 +7,4 @@ pub mod Starting
 pub mod Holes
 pub mod Wiring
 pub mod Law
+pub mod Ends

@@ -210,7 +210,7 @@ total_unnamed x v s (t ∷ ts) h =
     let g : (t.signal == x ≡ false) × (names x ts ≡ false) = or_false (t.signal == x) (names x ts) h in
     omega (arith, total-cons (put x v s) t ts, total-cons s t ts, total_unnamed x v s ts g.1, ap (λ (n : ℕ). t.coef * n) (put_apart x v s t.signal (not_equal t.signal x g.0)))
 
-number_unnamed : (x : ℕ) (by ts : List Term) → names x ts ≡ false → substituted x (value_of by) (value_of ts) ≡ value_of ts
+pub number_unnamed : (x : ℕ) (by ts : List Term) → names x ts ≡ false → substituted x (value_of by) (value_of ts) ≡ value_of ts
 unfolding substituted
 number_unnamed zero by ts h = refl
 number_unnamed (suc x) by ts h = λ i s. at s i
@@ -233,7 +233,7 @@ negated_twice : (ts : List Term) → negated (negated (value_of ts)) ≡ value_o
 unfolding negated
 negated_twice ts = λ i s. twice (value_of ts s) (value_small ts s) i
 
-negated_more : (ts us : List Term) → negated (added (negated (value_of ts)) (scaled 0 (value_of us))) ≡ value_of ts
+pub negated_more : (ts us : List Term) → negated (added (negated (value_of ts)) (scaled 0 (value_of us))) ≡ value_of ts
 unfolding negated added scaled
 negated_more ts us = λ i s. twice_more (value_of ts s) (value_of us s) (value_small ts s) i
 

@@ -1,10 +1,10 @@
-//! The law of simplification, as a function that does nothing: the law is what it ensures.
-ghost use Rattle.std.specs.Prelude.{◌≡◌, ℕ, List, All, Ok};
+//! Laws of simplification, as functions that do nothing: the law is what each ensures.
+ghost use Rattle.std.specs.Prelude.{◌≡◌, ℕ, List, All, None, Ok};
 ghost use Rattle.gold_field.specs.declared.form.Constraint.{Constraint};
 ghost use Rattle.cir_lc.specs.Normal.{IsConstraintWithin};
 ghost use Rattle.cir_lc.specs.Sparse.{IsNormalForm, IsRising};
 ghost use Rattle.cir_simplify.specs.declared.types.Rules.{Rules};
-ghost use Rattle.cir_simplify.specs.Turn.{Simplified, simplified};
+ghost use Rattle.cir_simplify.specs.Turn.{Simplified, first_pivot, simplified};
 ghost use Rattle.cir_simplify.specs.Keeps.{KeepsSolutions};
 
 /// Values of the kept signals satisfy the list after simplification exactly when they extend to an
@@ -13,4 +13,12 @@ pub fn kept_values()
     ensures { (r : Rules) (list : List Constraint) (end : Simplified)
         → All IsNormalForm list → All IsRising list → All (IsConstraintWithin r.bound) list
         → simplified r list ≡ Ok end → KeepsSolutions r.level r.kept list end.list }
+{}
+
+/// No constraint of the list after simplification can be solved: so the turns, no more than there are
+/// constraints, are all that there are.
+pub fn nothing_fits()
+    ensures { (r : Rules) (list : List Constraint) (end : Simplified)
+        → All IsNormalForm list → All IsRising list → All (IsConstraintWithin r.bound) list
+        → simplified r list ≡ Ok end → first_pivot r end.list ≡ None }
 {}
