@@ -1,0 +1,5 @@
+pub mod Values
+pub mod Runs
+pub mod Marking
+pub mod Strands
+pub mod Plans

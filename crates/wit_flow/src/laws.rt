@@ -1,0 +1,1 @@
+//! What holds of every plan, as contracts of functions that do nothing.

@@ -1,0 +1,156 @@
+ghost use Rattle.std.specs.Prelude.{◌≡◌, ℕ, ◌<◌, IfOk, length, map, unwrap_or};
+ghost use Rattle.flow_core.specs.Counts.{IsIn};
+ghost use Rattle.flow_core.specs.Net.{reads_of};
+ghost use Rattle.wit_code.specs.Code.{IsWellFormed};
+ghost use Rattle.wit_code.specs.Table.{outcome_of};
+ghost use Rattle.wit_flow.specs.Cells.{held, no_values, numbers_at, with_values, Shows};
+ghost use Rattle.wit_flow.specs.Answers.{start_cells, strand_end};
+ghost use Rattle.wit_flow.specs.OneThread.{IsCodeEnd, IsOutcome, IsStrandOut, one_thread};
+ghost use Rattle.wit_flow.specs.Sources.{AreThere, number_of};
+
+use crate::flow::{Flow, Outcome, Source, StrandOut};
+use gold_field::Gold;
+use items::Items;
+use std::alloc::{AllocError, Global};
+use wit_code::{Machine, Proc, Stop};
+
+// The values that code writes, or its stop.
+fn run_code(
+    alloc: Global,
+    procs: &[Proc],
+    code: &Proc,
+    reads: &[Gold],
+    fuel: u64,
+) -> Result<Result<Vec<Gold>, Stop>, AllocError>
+    requires { IsWellFormed procs.now (length reads.now) code.now }
+    ensures { IfOk result (λ r. IsCodeEnd r (outcome_of procs.now code.now reads.now fuel)) }
+{
+    match Machine::run(alloc, procs, code, reads, fuel) {
+        Ok(values) => Ok(Ok(values)),
+        Err(Stop::OutOfMemory) => Err(AllocError),
+        Err(stop) => Ok(Err(stop)),
+    }
+}
+
+// The numbers in cells of a list; 0 stands for a cell without a value.
+fn look(alloc: Global, held_cells: &[Option<Gold>], cells: &[u32]) -> Result<Vec<Gold>, AllocError>
+    requires { (c : ℕ) → IsIn c cells.now → c < length held_cells.now }
+    ensures { IfOk result (λ v. v.items ≡ numbers_at (held held_cells.now) cells.now) }
+{
+    let mut numbers = Vec::with_capacity(alloc, cells.len())?;
+    for cell in cells {
+        numbers.push(held_cells[*cell as usize].unwrap_or(Gold::ZERO))?;
+    }
+    Ok(numbers)
+}
+
+// Puts values into cells.
+fn put(held_cells: &mut [Option<Gold>], cells: &[u32], values: &[Gold])
+    requires near { (c : ℕ) → IsIn c cells.now → c < length held_cells.old }
+    requires each { length values.now ≡ length cells.now }
+    ensures { held held_cells.new ≡ with_values (held held_cells.old) cells.now values.now }
+{
+    for (at, cell) in cells.iter().enumerate() {
+        held_cells[*cell as usize] = Some(values[at]);
+    }
+}
+
+// The start cells with their values.
+fn first_cells(alloc: Global, flow: &Flow, start: &[Gold]) -> Result<Vec<Option<Gold>>, AllocError>
+    requires { length start.now ≡ length flow.now.starts }
+    ensures { IfOk result (λ v. Shows flow.now.graph.cells v.items (start_cells flow.now start.now)) }
+{
+    flow.facts();
+    let mut cells = vec![in alloc; None; flow.graph.cells as usize]?;
+    put(&mut cells, flow.starts.as_slice(), start);
+    Ok(cells)
+}
+
+// The values of cells that all have one.
+fn values_of(alloc: Global, cells: &[Option<Gold>]) -> Result<Vec<Gold>, AllocError>
+    ensures { IfOk result (λ v. v.items ≡ map (λ o. unwrap_or o 0) cells.now) }
+{
+    let mut values = Vec::with_capacity(alloc, cells.len())?;
+    for cell in cells {
+        values.push(cell.unwrap_or(Gold::ZERO))?;
+    }
+    Ok(values)
+}
+
+/// Runs all steps in order on one thread, each with this fuel.
+pub fn run_one(alloc: Global, flow: &Flow, start: &[Gold], fuel: u64) -> Result<Outcome, AllocError>
+    requires { length start.now ≡ length flow.now.starts }
+    ensures { IfOk result (λ o. IsOutcome flow.now.graph.cells o (one_thread flow.now start.now fuel)) }
+{
+    flow.facts();
+    let mut cells = first_cells(alloc, flow, start)?;
+    for (at, step) in flow.steps.as_slice().iter().enumerate() {
+        let reads = look(alloc, cells.as_slice(), step.reads.as_slice())?;
+        match run_code(alloc, flow.procs.as_slice(), &step.code, reads.as_slice(), fuel)? {
+            Ok(values) => put(&mut cells, step.writes.as_slice(), values.as_slice()),
+            Err(stop) => {
+                return Ok(Outcome::Refused {
+                    step: at as u32,
+                    stop,
+                    cells: Items::of(cells),
+                });
+            }
+        }
+    }
+    let values = values_of(alloc, cells.as_slice())?;
+    Ok(Outcome::Done(Items::of(values)))
+}
+
+// The numbers that a step reads, by their places in what its strand reads and has written.
+fn gather(
+    alloc: Global,
+    sources: &[Source],
+    reads: &[Gold],
+    written: &[Gold],
+) -> Result<Vec<Gold>, AllocError>
+    requires { AreThere (length reads.now) (length written.now) sources.now }
+    ensures { IfOk result (λ v. v.items ≡ map (number_of reads.now written.now) sources.now) }
+{
+    let mut numbers = Vec::with_capacity(alloc, sources.len())?;
+    for source in sources {
+        numbers.push(match *source {
+            Source::Read(place) => reads[place],
+            Source::Written(place) => written[place],
+        })?;
+    }
+    Ok(numbers)
+}
+
+/// Runs a strand's steps in order, each with this fuel. `reads` has the values of the cells that the
+/// strand reads, in the order of the graph's list.
+pub fn run_strand(
+    alloc: Global,
+    flow: &Flow,
+    strand: u32,
+    reads: &[Gold],
+    fuel: u64,
+) -> Result<StrandOut, AllocError>
+    requires near { strand < length flow.now.strands }
+    requires each { length reads.now ≡ length (reads_of flow.now.graph strand) }
+    ensures { IfOk result (λ o. IsStrandOut o (strand_end flow.now fuel strand reads.now)) }
+{
+    flow.facts();
+    let part = flow.strands.as_slice()[strand as usize];
+    let mut written = Vec::new(alloc);
+    for at in part.first..part.first + part.count {
+        let step = &flow.steps.as_slice()[at as usize];
+        let sources = &flow.sources.as_slice()[at as usize];
+        let numbers = gather(alloc, sources.as_slice(), reads, written.as_slice())?;
+        match run_code(alloc, flow.procs.as_slice(), &step.code, numbers.as_slice(), fuel)? {
+            Ok(values) => written.extend_from_slice(values.as_slice())?,
+            Err(stop) => {
+                return Ok(StrandOut::Refused {
+                    step: at,
+                    stop,
+                    before: Items::of(written),
+                });
+            }
+        }
+    }
+    Ok(StrandOut::Values(Items::of(written)))
+}
