@@ -3,3 +3,5 @@ pub mod Runs
 pub mod Marking
 pub mod Strands
 pub mod Plans
+pub mod PartRuns
+pub mod Whole

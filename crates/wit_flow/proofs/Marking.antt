@@ -126,9 +126,10 @@ finds_more a b d cells i sources s near f old g is =
     let nils : b.open_writes ++ [] ≡ b.open_writes = append-nil b.open_writes in
     let stay = sources_stay b.open_reads g.more b.open_writes [] (length b.open_writes) sources (take i cells) old in
     let stay' = subst (λ ws. AreSources (b.open_reads ++ g.more) ws (length b.open_writes) sources (take i cells)) nils stay in
-    let kept : AreSources d.open_reads d.open_writes (length d.open_writes) sources (take i cells) = subst P (sym w) (subst Q (sym g.grown) stay') in
-    (subst (ReadsMore a d) (sym more) (reads_more a b d (take i cells) (c ∷ []) f g),
-    subst (AreSources d.open_reads d.open_writes (length d.open_writes) (sources ++ s ∷ [])) (sym more) (sources_push d.open_reads d.open_writes (length d.open_writes) sources (take i cells) s c kept is))
+    let kept : AreSources d.open_reads d.open_writes (length d.open_writes) sources (take i cells) = subst P (sym w) (subst Q (sym g.grown) stay') in (
+      subst (ReadsMore a d) (sym more) (reads_more a b d (take i cells) (c ∷ []) f g),
+      subst (AreSources d.open_reads d.open_writes (length d.open_writes) (sources ++ s ∷ [])) (sym more) (sources_push d.open_reads d.open_writes (length d.open_writes) sources (take i cells) s c kept is),
+    )
 
 module _ (d : Draft) (c n p : ℕ) (near : c < length d.marks) (is-n : n ≡ number_of_open d) (h : AreMarked d) (ms : List Mark) (cs : List ℕ) where
   -- the open strand begins to read a cell

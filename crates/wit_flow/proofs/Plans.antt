@@ -46,6 +46,7 @@ kept_plan steps procs cells starts d g can come none ok is =
       };
       by_rule = come.draft.by_rule;
       finds = λ k lt. (known k lt).finds;
+      sources_each = (let e = come.draft.sources_each in let n = come.next in omega arith);
     }
 
 -- the same for what `cut` holds

@@ -54,3 +54,4 @@ pub record IsKept (p : Plan) (sources : List (List Source)) : Type 0 where
   pub plan : IsPlan p
   pub by_rule : AreByRule p
   pub finds : HaveSources p sources
+  pub sources_each : length sources ≡ length p.steps

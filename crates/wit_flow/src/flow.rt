@@ -48,6 +48,7 @@ impl Model for Flow {
 }
 
 impl Flow {
+    ghost use Rattle.std.specs.Prelude.{◌≡◌};
     ghost use Rattle.wit_flow.specs.Plan.{IsPlan, AreByRule};
 
     /// Does nothing: its clauses tell a caller what the type keeps.
@@ -56,6 +57,13 @@ impl Flow {
         ensures by_rule { AreByRule self.now }
     {
         let _strands = &self.strands;
+    }
+
+    /// The number of cells.
+    pub fn cells(&self) -> u32
+        ensures { result ≡ self.now.graph.cells }
+    {
+        self.graph.cells
     }
 }
 

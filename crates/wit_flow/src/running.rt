@@ -1,4 +1,4 @@
-ghost use Rattle.std.specs.Prelude.{◌≡◌, ℕ, ◌<◌, IfOk, length, map, unwrap_or};
+ghost use Rattle.std.specs.Prelude.{◌≡◌, ℕ, ◌<◌, All, IfOk, length, map, replicate, unwrap_or};
 ghost use Rattle.flow_core.specs.Counts.{IsIn};
 ghost use Rattle.flow_core.specs.Net.{reads_of};
 ghost use Rattle.wit_code.specs.Code.{IsWellFormed};
@@ -6,10 +6,10 @@ ghost use Rattle.wit_code.specs.Table.{outcome_of};
 ghost use Rattle.wit_flow.specs.Cells.{held, no_values, numbers_at, with_values, Shows};
 ghost use Rattle.wit_flow.specs.Answers.{start_cells, strand_end};
 ghost use Rattle.wit_flow.specs.OneThread.{IsCodeEnd, IsOutcome, IsStrandOut, one_thread};
-ghost use Rattle.wit_flow.specs.Sources.{AreThere, number_of};
+ghost use Rattle.wit_flow.specs.Sources.{AreThere, IsThere, number_of};
 
 use crate::flow::{Flow, Outcome, Source, StrandOut};
-use gold_field::Gold;
+use gold_field::{Gold, P};
 use items::Items;
 use std::alloc::{AllocError, Global};
 use wit_code::{Machine, Proc, Stop};
@@ -35,34 +35,54 @@ fn run_code(
 // The numbers in cells of a list; 0 stands for a cell without a value.
 fn look(alloc: Global, held_cells: &[Option<Gold>], cells: &[u32]) -> Result<Vec<Gold>, AllocError>
     requires { (c : ℕ) → IsIn c cells.now → c < length held_cells.now }
-    ensures { IfOk result (λ v. v.items ≡ numbers_at (held held_cells.now) cells.now) }
+    ensures numbers { IfOk result (λ v. v.items ≡ numbers_at (held held_cells.now) cells.now) }
+    ensures below { IfOk result (λ v. All (λ x. x < P) v.items) }
 {
     let mut numbers = Vec::with_capacity(alloc, cells.len())?;
     for cell in cells {
-        numbers.push(held_cells[*cell as usize].unwrap_or(Gold::ZERO))?;
+        let number = held_cells[*cell as usize].unwrap_or(Gold::ZERO);
+        prove!(number.get() < P);
+        numbers.push(number)?;
     }
     Ok(numbers)
 }
 
 // Puts values into cells.
-fn put(held_cells: &mut [Option<Gold>], cells: &[u32], values: &[Gold])
+fn put(held_cells: &mut Items<Option<Gold>>, cells: &[u32], values: &[Gold])
     requires near { (c : ℕ) → IsIn c cells.now → c < length held_cells.old }
     requires each { length values.now ≡ length cells.now }
-    ensures { held held_cells.new ≡ with_values (held held_cells.old) cells.now values.now }
+    ensures wide { length held_cells.new ≡ length held_cells.old }
+    ensures put { held held_cells.new ≡ with_values (held held_cells.old) cells.now values.now }
 {
     for (at, cell) in cells.iter().enumerate() {
-        held_cells[*cell as usize] = Some(values[at]);
+        held_cells.set(*cell as usize, Some(values[at]));
     }
 }
 
+fn empty_cells(alloc: Global, count: u32) -> Result<Vec<Option<Gold>>, AllocError>
+    ensures { IfOk result (λ v. v.items ≡ replicate count None) }
+{
+    let mut cells = Vec::with_capacity(alloc, count as usize)?;
+    for made in 0..count {
+        cells.push(None)?;
+    }
+    Ok(cells)
+}
+
 // The start cells with their values.
-fn first_cells(alloc: Global, flow: &Flow, start: &[Gold]) -> Result<Vec<Option<Gold>>, AllocError>
+fn first_cells(
+    alloc: Global,
+    flow: &Flow,
+    start: &[Gold],
+) -> Result<Items<Option<Gold>>, AllocError>
     requires { length start.now ≡ length flow.now.starts }
-    ensures { IfOk result (λ v. Shows flow.now.graph.cells v.items (start_cells flow.now start.now)) }
+    ensures { IfOk result (λ v. Shows flow.now.graph.cells v (start_cells flow.now start.now)) }
 {
     flow.facts();
-    let mut cells = vec![in alloc; None; flow.graph.cells as usize]?;
-    put(&mut cells, flow.starts.as_slice(), start);
+    let starts = flow.starts.as_slice();
+    let empty = empty_cells(alloc, flow.cells())?;
+    let mut cells = Items::of(empty);
+    put(&mut cells, starts, start);
     Ok(cells)
 }
 
@@ -84,21 +104,33 @@ pub fn run_one(alloc: Global, flow: &Flow, start: &[Gold], fuel: u64) -> Result<
 {
     flow.facts();
     let mut cells = first_cells(alloc, flow, start)?;
-    for (at, step) in flow.steps.as_slice().iter().enumerate() {
+    let steps = flow.steps.as_slice();
+    let procs = flow.procs.as_slice();
+    for (at, step) in steps.iter().enumerate() {
         let reads = look(alloc, cells.as_slice(), step.reads.as_slice())?;
-        match run_code(alloc, flow.procs.as_slice(), &step.code, reads.as_slice(), fuel)? {
+        match run_code(alloc, procs, &step.code, reads.as_slice(), fuel)? {
             Ok(values) => put(&mut cells, step.writes.as_slice(), values.as_slice()),
             Err(stop) => {
                 return Ok(Outcome::Refused {
                     step: at as u32,
                     stop,
-                    cells: Items::of(cells),
+                    cells,
                 });
             }
         }
     }
     let values = values_of(alloc, cells.as_slice())?;
     Ok(Outcome::Done(Items::of(values)))
+}
+
+fn find(source: Source, reads: &[Gold], written: &[Gold]) -> Gold
+    requires { IsThere (length reads.now) (length written.now) source }
+    ensures { result ≡ number_of reads.now written.now source }
+{
+    match source {
+        Source::Read(place) => reads[place],
+        Source::Written(place) => written[place],
+    }
 }
 
 // The numbers that a step reads, by their places in what its strand reads and has written.
@@ -109,14 +141,14 @@ fn gather(
     written: &[Gold],
 ) -> Result<Vec<Gold>, AllocError>
     requires { AreThere (length reads.now) (length written.now) sources.now }
-    ensures { IfOk result (λ v. v.items ≡ map (number_of reads.now written.now) sources.now) }
+    ensures numbers { IfOk result (λ v. v.items ≡ map (number_of reads.now written.now) sources.now) }
+    ensures below { IfOk result (λ v. All (λ x. x < P) v.items) }
 {
     let mut numbers = Vec::with_capacity(alloc, sources.len())?;
     for source in sources {
-        numbers.push(match *source {
-            Source::Read(place) => reads[place],
-            Source::Written(place) => written[place],
-        })?;
+        let number = find(*source, reads, written);
+        prove!(number.get() < P);
+        numbers.push(number)?;
     }
     Ok(numbers)
 }
@@ -136,12 +168,15 @@ pub fn run_strand(
 {
     flow.facts();
     let part = flow.strands.as_slice()[strand as usize];
+    let steps = flow.steps.as_slice();
+    let procs = flow.procs.as_slice();
+    let sources = flow.sources.as_slice();
     let mut written = Vec::new(alloc);
     for at in part.first..part.first + part.count {
-        let step = &flow.steps.as_slice()[at as usize];
-        let sources = &flow.sources.as_slice()[at as usize];
-        let numbers = gather(alloc, sources.as_slice(), reads, written.as_slice())?;
-        match run_code(alloc, flow.procs.as_slice(), &step.code, numbers.as_slice(), fuel)? {
+        let step = &steps[at as usize];
+        let found = &sources[at as usize];
+        let numbers = gather(alloc, found.as_slice(), reads, written.as_slice())?;
+        match run_code(alloc, procs, &step.code, numbers.as_slice(), fuel)? {
             Ok(values) => written.extend_from_slice(values.as_slice())?,
             Err(stop) => {
                 return Ok(StrandOut::Refused {
