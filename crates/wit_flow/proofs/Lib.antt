@@ -5,3 +5,4 @@ pub mod Strands
 pub mod Plans
 pub mod PartRuns
 pub mod Whole
+pub mod Cuts
