@@ -85,7 +85,7 @@ reads_of_one (s ∷ ss) zero c h = in_left c s.reads (reads_in ss) h
 reads_of_one (s ∷ ss) (suc q) c h = in_right c s.reads (reads_in ss) (reads_of_one ss q c h)
 
 -- a strand's steps among all steps
-part_at : (steps : List Step) (s : Strand) (j : ℕ) → j < s.count → step_at (part steps s) j ≡ step_at steps (s.first + j)
+pub part_at : (steps : List Step) (s : Strand) (j : ℕ) → j < s.count → step_at (part steps s) j ≡ step_at steps (s.first + j)
 part_at steps s j lt = let l : j < s.first + s.count - s.first = omega arith in get_or-take (s.first + s.count - s.first) (drop s.first steps) j no_step l ∙ get_or-drop s.first steps j no_step
 
 pub length-part : (steps : List Step) (s : Strand) → s.first + s.count ≤ length steps → length (part steps s) ≡ s.count
@@ -121,11 +121,14 @@ module _ (p : Plan) (ok : IsPlan p) (fuel : ℕ) (k : ℕ) (near : k < length p.
   needs_read c h =
       let d = ok.draws k near in let r = needed (part p.steps s) c h in let l = length-part p.steps s ends_in in let lt = r.1 in
       let at : IsIn c (reads_at p.steps (s.first + r.0)) = subst (λ (x : Step). IsIn c x.reads) (part_at p.steps s r.0 (omega arith)) r.2 in
-      (d.reads_others c).1 (reads_of_one (part p.steps s) r.0 c r.2, λ own.
-      let w = wrote_in (part p.steps s) c (subst (IsIn c) d.writes_all own) in let lt' = w.1 in
-      let by : IsIn c (writes_at p.steps (s.first + w.0)) = subst (λ (x : Step). IsIn c x.writes) (part_at p.steps s w.0 (omega arith)) w.2 in
-      let before = ok.can_cut.written_first (s.first + w.0) (s.first + r.0) c by at in
-      r.3 w.0 (omega arith) w.2)
+      (d.reads_others c).1 (
+        reads_of_one (part p.steps s) r.0 c r.2,
+        λ own.
+            let w = wrote_in (part p.steps s) c (subst (IsIn c) d.writes_all own) in let lt' = w.1 in
+            let by : IsIn c (writes_at p.steps (s.first + w.0)) = subst (λ (x : Step). IsIn c x.writes) (part_at p.steps s w.0 (omega arith)) w.2 in
+            let before = ok.can_cut.written_first (s.first + w.0) (s.first + r.0) c by at in
+            r.3 w.0 (omega arith) w.2,
+      )
 
   -- on cells that have what it reads the strand's steps run as they do on these values alone
   pub runs_alone : (a : Cells) → ((c : ℕ) → IsIn c (reads_of p.graph k) → HasOne a c) → run_steps p.procs fuel s.first (part p.steps s) a ≡ strand_end p fuel k (numbers_at a (reads_of p.graph k))
@@ -144,7 +147,7 @@ module _ (p : Plan) (ok : IsPlan p) (fuel : ℕ) (k : ℕ) (near : k < length p.
   split_run : (a : Cells) → ((c : ℕ) → IsIn c (reads_of p.graph k) → HasOne a c)
       → ending a (writes_in (drop s.first p.steps)) (run_steps p.procs fuel s.first (drop s.first p.steps) a)
       ≡ ending a (writes_of p.graph k ++ writes_in (drop (s.first + s.count) p.steps)) (then_end (strand_end p fuel k (numbers_at a (reads_of p.graph k)))
-          (λ vs. run_steps p.procs fuel (s.first + s.count) (drop (s.first + s.count) p.steps) (with_values a (writes_of p.graph k) vs)))
+      (λ vs. run_steps p.procs fuel (s.first + s.count) (drop (s.first + s.count) p.steps) (with_values a (writes_of p.graph k) vs)))
   split_run a all =
       let rest = drop (s.first + s.count) p.steps in let seg = part p.steps s in
       let d = drop_split p.steps s.first (s.first + s.count) (omega arith) in
@@ -177,13 +180,13 @@ module _ (p : Plan) (ok : IsPlan p) (start : List ℕ) (fuel : ℕ) (each : leng
       elim (ok.can_cut.written c (ok.can_cut.reads_near (s.first + r.0) c at)) [
         | inl begun ↦ filled c (inl begun)
         | inr by ↦ (let less = ok.can_cut.written_first by.0 (s.first + r.0) c by.1 at in elim (cases_lt by.0 s.first) [
-            | inl early ↦ filled c (inr (by.0, (omega arith), by.1))
-            | inr late ↦ (
-                let j : ℕ = by.0 - s.first in let n : s.first + j ≡ by.0 = omega arith in
-                let W : ℕ → Type 0 = λ m. IsIn c (writes_at p.steps m) in
-                let own : IsIn c (writes_at (part p.steps s) j) = subst (λ (x : Step). IsIn c x.writes) (sym (part_at p.steps s j (omega arith))) (subst W (sym n) by.1) in
-                absurd (both.1 (subst (IsIn c) (sym d.writes_all) (writes_of_one (part p.steps s) j c own))))
-          ])
+          | inl early ↦ filled c (inr (by.0, (omega arith), by.1))
+          | inr late ↦ (
+              let j : ℕ = by.0 - s.first in let n : s.first + j ≡ by.0 = omega arith in
+              let W : ℕ → Type 0 = λ m. IsIn c (writes_at p.steps m) in
+              let own : IsIn c (writes_at (part p.steps s) j) = subst (λ (x : Step). IsIn c x.writes) (sym (part_at p.steps s j (omega arith))) (subst W (sym n) by.1) in
+              absurd (both.1 (subst (IsIn c) (sym d.writes_all) (writes_of_one (part p.steps s) j c own))))
+        ])
       ]
 
   -- after a strand that gives values more cells are filled

@@ -6,3 +6,4 @@ pub mod Plans
 pub mod PartRuns
 pub mod Whole
 pub mod Cuts
+pub mod Shape

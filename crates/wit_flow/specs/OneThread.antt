@@ -56,4 +56,4 @@ pub record IsStrandByStrand (p : Plan) (start : List ℕ) (fuel : ℕ) : Type 0 
   pub first : (k : ℕ) → k < length p.strands → answer_at p start fuel k ≡ Refuses
       → ((j : ℕ) → j < k → answer_at p start fuel j ≢ Refuses)
       → let cells = cells_before p fuel (start_cells p start) k in one_thread p start fuel
-          ≡ ending cells (writes_of p.graph k) (strand_end p fuel k (numbers_at cells (reads_of p.graph k)))
+      ≡ ending cells (writes_of p.graph k) (strand_end p fuel k (numbers_at cells (reads_of p.graph k)))
