@@ -40,7 +40,8 @@ fn outcome(rt: &HostRuntime) -> Result<u8, AllocError> {
     run(rt.alloc(), words.as_slice(), &mut store, &mut out)
 }
 
-// The words behind the program's name. Where one isn't UTF-8 there are none: neither have a reading.
+// The words behind the program's name. Where one isn't UTF-8 there are none, which have no reading
+// either.
 fn words(rt: &(impl Env + AllocGlobal)) -> Result<Vec<String>, AllocError> {
     match env::args(rt) {
         Ok(words) => words.skip(1).collect(rt.alloc()),

@@ -1,5 +1,5 @@
 -- What a command says where it was stopped, and what a run does with its reply.
-use Rattle.std.proofs.Common.{◌≡◌, ◌<◌, ◌∙◌, ◌++◌, ℕ, List, [], length, Option, Some, None, Result, Ok, Err, IfOk, refl, sym, ap, subst, inl, inr, arith, take}
+use Rattle.std.proofs.Common.{◌≡◌, ◌<◌, ◌∙◌, ◌++◌, ℕ, List, [], length, Option, Some, None, Result, Ok, Err, IfOk, refl, sym, ap, subst, inl, inr, arith}
 use Rattle.std.proofs.Math.Seq.{take-length}
 use Rattle.std.proofs.lemmas.List.{append-nil}
 use Rattle.std.proofs.lemmas.Result.{IfOk-weaker}
@@ -7,6 +7,7 @@ use Rattle.std.specs.declared.alloc.AllocError.{AllocError}
 use Rattle.out_io.specs.Calls.{Course, HasFailed, Told}
 use Rattle.out_io.specs.Contents.{Contents, Changes}
 use Rattle.out_io.specs.declared.fault.IoFault.{IoFault}
+use Rattle.out_io.specs.Faults.{Rose}
 use Rattle.out_io.specs.Written.{IsAppended, IsAppendedInPart}
 use Rattle.iden_files.specs.File.{File}
 use Rattle.iden_files.specs.ReadR1cs.{r1cs_of}
@@ -14,7 +15,7 @@ use Rattle.iden_files.specs.Spelling.{r1cs_bytes}
 use Rattle.circom_gold.specs.Compile.{Compiles, HoldsConstraintsOf, SourceSteps}
 use Rattle.circom_gold.specs.Lines.{fault_line, verdict_status}
 use Rattle.circom_gold.specs.Reply.{Reply, NewFile, Answers, Says, WritesConstraintsOf, said, checked, compiled, store_failed}
-use Rattle.circom_gold.specs.Run.{Ends, Stays, Leaves, LeavesInPart, Puts, Writing}
+use Rattle.circom_gold.specs.Run.{Ends, Stays, Leaves, LeavesInPart, Puts, Replies, Writing}
 use Rattle.circom_gold.specs.Shown.{shown}
 use Rattle.circom_gold.specs.Steps.{Steps}
 use Rattle.circom_gold.specs.Stops.{EndsBy}
@@ -237,3 +238,22 @@ usage_alone contents (Some (check r1cs wtns)) r answers is =
     absurd (says_below contents checked _ r verdict_below answers is)
 usage_alone contents (Some (compile source out options)) r answers is =
     absurd (says_below contents (compiled out) _ r (λ f. omega arith) answers is)
+
+-- no call failed
+unfailed : (before after : ℕ) → before ≡ 0 → after ≡ before → Rose before after → ⊥
+unfailed before after zero same rose = omega (arith, zero, same, rose)
+
+-- where no call failed the reply was given
+pub replied : (command : Option Command) (store : Course Contents) (sink : Course (List ℕ))
+    (result : Result ℕ AllocError) → store.faults ≡ 0 → store.faults_after ≡ store.faults
+    → sink.faults ≡ 0 → sink.faults_after ≡ sink.faults → IfOk result (Ends command store sink)
+    → IfOk result (Replies command store sink)
+replied command store sink result none still no_more same ends =
+    IfOk-weaker result (Ends command store sink) (Replies command store sink)
+    (λ exit end. elim end [
+      | inl said ↦ elim said.2 [
+        | inl given ↦ (said.0, said.1, given)
+        | inr lost ↦ absurd (unfailed sink.faults sink.faults_after no_more same lost.failed)
+      ]
+      | inr fault ↦ absurd (unfailed store.faults store.faults_after none still fault.failed)
+    ]) ends

@@ -34,6 +34,11 @@ pub record Gives (r : Reply) (store : Course Contents) (sink : Course (List ℕ)
   pub text : IsAppended r.text sink.old sink.new
   pub files : Changes (Leaves r.file) store.old store.new
 
+-- a reply to the command was given
+abbrev pub Replies : Option Command → Course Contents → Course (List ℕ) → ℕ → Type 0
+Replies command store sink exit =
+    (r : Reply) × Answers store.old command r × Gives r store sink exit
+
 -- the sink failed, where the files are the reply's
 pub record LosesText (r : Reply) (store : Course Contents) (sink : Course (List ℕ)) (exit : ℕ)
     : Type 0 where

@@ -21,8 +21,8 @@ use items::Items;
 use out_io::{IoFault, Store};
 use std::alloc::{AllocError, Global};
 
-/// The reply of `compile`: the file of the source's constraints, under the name `out`. A source that
-/// is refused has no file.
+/// The reply of `compile`: the file of the source's constraints, under the name `out`. A source
+/// that is refused has no file.
 pub fn compile_reply<'w, S: Store>(
     alloc: Global,
     source: &str,

@@ -1,7 +1,7 @@
 ghost use Rattle.out_io.specs.Calls.{OnlyReads};
 ghost use Rattle.out_io.specs.Faults.{Rose};
 ghost use Rattle.iden_files.specs.File.{InLimits};
-ghost use Rattle.std.specs.Prelude.{◌≤◌, length, IfOk};
+ghost use Rattle.std.specs.Prelude.{IfOk};
 ghost use Rattle.circom_gold.specs.Files.{bytes_in, r1cs_in, wtns_in};
 ghost use Rattle.circom_gold.specs.Steps.{Steps, Refuses};
 

@@ -1,12 +1,13 @@
-ghost use Rattle.std.specs.Prelude.{◌≡◌, ◌≤◌, ◌⊎◌, ◌≢◌, ℕ, List, [], None, Some, IfOk, IsErrOf, IsOk, OnOk, OnErr, option_map};
-ghost use Rattle.out_io.specs.Calls.{Counting, HasFailed, OnlyReads, Told, course};
+ghost use Rattle.std.specs.Prelude.{◌≡◌, ◌⊎◌, ◌≢◌, ℕ, List, [], None, Some, IfOk, IsErrOf, IsOk, OnOk, OnErr, option_map};
+ghost use Rattle.out_io.specs.Calls.{Counting, OnlyReads, Told, course};
 ghost use Rattle.out_io.specs.Contents.{Changes};
-ghost use Rattle.out_io.specs.Faults.{CountsFaults, Rose};
+ghost use Rattle.out_io.specs.Faults.{Rose};
+ghost use Rattle.out_io.specs.Memory.{files_of};
 ghost use Rattle.out_io.specs.Written.{IsAppendedInPart};
 ghost use Rattle.out_io.specs.declared.fault.IoFault.TheVariants.{Failed};
 ghost use Rattle.circom_gold.specs.Compile.{HoldsConstraintsOf};
 ghost use Rattle.circom_gold.specs.Reply.{Reply, Answers, WritesConstraintsOf};
-ghost use Rattle.circom_gold.specs.Run.{Ends, Stays, Leaves, LeavesInPart, Puts, Writing};
+ghost use Rattle.circom_gold.specs.Run.{Ends, Stays, Leaves, LeavesInPart, Puts, Replies, Writing};
 ghost use Rattle.circom_gold.specs.Shown.{shown};
 ghost use Rattle.circom_gold.specs.Words.{Options, compile, texts, command_of, meant};
 
@@ -50,8 +51,8 @@ pub fn run<S: Store, K: Sink>(
         (S.faults store.old) (S.faults store.new))
         (course (K.contents out.old) (K.contents out.new) (K.faults out.old) (K.faults out.new)) }
 
-    // `compile` with the status 0 leaves under OUT bytes that are read as a file of constraints, and
-    // values of its wires satisfy them exactly when they extend to an assignment that satisfies the
+    // `compile` with the status 0 leaves under OUT bytes that are read as a file of constraints.
+    // Values of its wires satisfy them exactly when they extend to an assignment that satisfies the
     // source: the value of each wire is that of the signal that its label names.
     ensures compiled { (source out_name : List ℕ) (options : Options)
         → command_of (texts words.now) ≡ Some (compile source out_name options)
@@ -96,6 +97,11 @@ pub fn run_in_memory(
     requires store_faults { store.old.faults ≡ 0 }
     requires out { out.old.fail.items ≡ [] }
     requires out_faults { out.old.faults ≡ 0 }
+    ensures reply { IfOk result (Replies (command_of (texts words.now))
+        (course (Some (files_of store.old.files)) (Some (files_of store.new.files))
+        store.old.faults store.new.faults)
+        (course (Some out.old.bytes.items) (Some out.new.bytes.items)
+        out.old.faults out.new.faults)) }
     ensures no_fault { IfOk result (λ exit. exit ≢ 3) }
 {
     run(alloc, words, store, out)
@@ -167,7 +173,8 @@ fn write_file<S: Store>(alloc: Global, reply: &Reply<'_>, store: &mut S) -> Resu
     ensures ok { OnOk result
         (Changes (Leaves (shown reply.now).file) (S.contents store.old) (S.contents store.new)) }
     ensures err { OnErr result
-        (Changes (LeavesInPart (shown reply.now).file) (S.contents store.old) (S.contents store.new)) }
+        (Changes (LeavesInPart (shown reply.now).file)
+        (S.contents store.old) (S.contents store.new)) }
     ensures none { (shown reply.now).file ≡ None → (S.contents store.new ≡ S.contents store.old)
         × (S.faults store.new ≡ S.faults store.old) × IsOk result }
     ensures fault { IsErrOf result Failed → Rose (S.faults store.old) (S.faults store.new) }

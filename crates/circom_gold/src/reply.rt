@@ -1,5 +1,5 @@
-ghost use Rattle.std.specs.Prelude.{◌≡◌, length, IfOk};
-ghost use Rattle.iden_files.specs.Spelling.{r1cs_bytes};
+ghost use Rattle.std.specs.Prelude.{◌≡◌, IfOk};
+
 ghost use Rattle.circom_gold.specs.Shown.{shown};
 
 use crate::answer::{Refusal, Verdict};

@@ -1,4 +1,4 @@
-// The program's answers on files made by hand: the circuit c = a * b, whose wires are 1, c, a and b.
+// The program's answers on files made by hand: the circuit c = a * b, with the wires 1, c, a and b.
 use super::run;
 use out_io::{MemSink, MemStore};
 use std::alloc::Global;
@@ -112,7 +112,7 @@ fn names_a_file_that_is_not_there(rt: HostRuntime) -> Result<(), Fail> {
     Ok(())
 }
 
-// What a run made of the words: the status, the text, and how often it asked the store and the sink.
+// What a run made of the words: the status, the text, and how often it asked store and sink.
 #[derive(Drop)]
 struct Ran {
     status: u8,

@@ -1,4 +1,4 @@
-use Rattle.std.proofs.Common.{◌∙◌, ◌≡◌, List, ℕ, Option, Some, subst}
+use Rattle.std.proofs.Common.{◌∙◌, List, ℕ, Option, subst}
 use Rattle.out_io.specs.Calls.{Course, course}
 use Rattle.out_io.specs.Contents.{Contents}
 use Rattle.circom_gold.specs.Reply.{Answers}
@@ -16,7 +16,8 @@ returns-in-Ok-clause-kept g c =
     course (g.K.Sink.contents c.args.out.now) (g.K.Sink.contents c.put_text.new.out)
     (g.K.Sink.faults c.args.out.now) (g.K.Sink.faults c.put_text.new.out) in
     stays_said (command_of (texts c.args.words.now)) (shown c.in-Ok.reply) store sink
-    (subst (λ (x : Option Command). Answers (g.S.Store.contents c.args.store.now) x (shown c.in-Ok.reply))
+    (subst
+    (λ (x : Option Command). Answers (g.S.Store.contents c.args.store.now) x (shown c.in-Ok.reply))
     c.in_ok-command.ensures c.in-Ok.ensures.answers)
     c.in-Ok.ensures.files c.put_text.ensures.front
 

@@ -7,7 +7,9 @@ use Rattle.circom_gold.proofs.words.Command.check_in.Goals as goal
 pub returns-in_err-r1cs : goal.returns-in_err-r1cs
 returns-in_err-r1cs c =
     let none : c.from_residual.result ≡ None = search rules in
-    rw none (no_first check (found_of c.args.matches.now) (codes "R1CS") (codes "WTNS") c.in_err-r1cs.ensures)
+    rw none
+    (no_first check (found_of c.args.matches.now) (codes "R1CS") (codes "WTNS")
+    c.in_err-r1cs.ensures)
 
 pub returns-in_err-wtns : goal.returns-in_err-wtns
 returns-in_err-wtns c =

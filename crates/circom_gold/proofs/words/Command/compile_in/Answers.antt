@@ -1,7 +1,7 @@
 use Rattle.std.proofs.Common.{rules, ◌≡◌, None, codes}
 use Rattle.clap.specs.Matches.{found_of}
 use Rattle.circom_gold.specs.Matches.{rows_in}
-use Rattle.circom_gold.specs.Words.{compile, meant_options, options_in}
+use Rattle.circom_gold.specs.Words.{compile, options_in}
 use Rattle.circom_gold.proofs.Forms.{no_first, no_second, both_found}
 use Rattle.circom_gold.proofs.words.Command.compile_in.Goals as goal
 
@@ -22,9 +22,7 @@ returns-in_err-out c =
 
 pub returns : goal.returns
 returns c =
-    let options : meant_options c.options_in-options.result ≡ options_in (rows_in c.args.matches.now) =
-    c.options_in-options.ensures in
-    rw options
+    rw c.options_in-options.ensures
     (both_found (λ source out. compile source out (options_in (rows_in c.args.matches.now)))
     (found_of c.args.matches.now) (codes "SRC") (codes "OUT") c.in_ok-source.source.now
     c.in_ok-out.out.now c.in_ok-source.ensures c.in_ok-out.ensures)
