@@ -1,21 +1,20 @@
 -- The run of all steps, strand by strand
-use Rattle.std.proofs.Common.{◌≡◌, ◌≢◌, ℕ, zero, suc, ◌+◌, ◌-◌, ◌<◌, ◌≤◌, ◌⊎◌, cond, Bool, true, List, [], ◌∷◌, ◌++◌, map, length, take, drop, get_or, refl, sym, ◌∙◌, ap, subst, inl, inr, arith, Option, Some, None, slice_range}
-use Rattle.std.proofs.lemmas.List.{get_or-take, get_or-drop, length-drop, length-take-le, drop_all, append-nil}
+use Rattle.std.proofs.Common.{◌≡◌, ◌≢◌, ℕ, zero, suc, ◌+◌, ◌-◌, ◌<◌, ◌≤◌, ◌⊎◌, cond, Bool, List, [], ◌∷◌, ◌++◌, length, drop, refl, sym, ◌∙◌, ap, subst, inl, inr, arith}
+use Rattle.std.proofs.lemmas.List.{get_or-take, get_or-drop, length-drop, length-take-le}
 use Rattle.std.proofs.lemmas.List.Folds.{drop_split}
 use Rattle.std.proofs.lemmas.Bool.{cases_lt}
 use Rattle.wit_code.specs.declared.code.Step.{Step}
-use Rattle.wit_code.specs.declared.code.Stop.{Stop}
 use Rattle.flow_core.specs.Counts.{IsIn}
 use Rattle.flow_core.specs.Net.{reads_of, writes_of}
-use Rattle.flow_core.specs.Flow.{Answer, Unreached, Refuses, Gives}
+use Rattle.flow_core.specs.Flow.{Unreached, Refuses, Gives}
 use Rattle.wit_flow.specs.declared.flow.Strand.{Strand}
-use Rattle.wit_flow.specs.Cells.{Cells, no_values, with_values, numbers_at, have_values}
-use Rattle.wit_flow.specs.Run.{no_step, step_at, reads_at, writes_at, reads_in, writes_in, End, Ran, StopsAt, after_values, run_steps}
+use Rattle.wit_flow.specs.Cells.{Cells, no_values, with_values, numbers_at}
+use Rattle.wit_flow.specs.Run.{no_step, step_at, reads_at, writes_at, reads_in, writes_in, End, Ran, StopsAt, run_steps}
 use Rattle.wit_flow.specs.Cut.{strand_at, part, Follow}
 use Rattle.wit_flow.specs.Plan.{Plan, IsPlan}
 use Rattle.wit_flow.specs.Answers.{start_cells, strand_end, answer_end, answer_on, with_answer, cells_before, answer_at}
-use Rattle.wit_flow.specs.OneThread.{Ending, Ended, Halted, ending, one_thread}
-use Rattle.wit_flow.proofs.Values.{HasOne, with_values_few, with_values_has, with_values_keep, with_numbers, have_one, have_all, in_left, in_right, in_either}
+use Rattle.wit_flow.specs.OneThread.{Ended, Halted, ending, one_thread}
+use Rattle.wit_flow.proofs.Values.{HasOne, with_values_few, with_values_has, with_values_keep, with_numbers, have_all, in_left, in_right, in_either}
 use Rattle.wit_flow.proofs.Runs.{Needs, Fills, run_fills, same_run, run-append, then_end, ending_after, steps_end}
 use Rattle.wit_flow.proofs.PartRuns.{strand_within, writes-append}
 

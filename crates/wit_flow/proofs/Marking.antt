@@ -1,16 +1,16 @@
 -- Marks and sources, as the open strand reads and writes more cells
-use Rattle.std.proofs.Common.{◌≡◌, ◌≢◌, ℕ, zero, suc, ◌+◌, ◌<◌, ◌≤◌, ◌⊎◌, List, [], ◌∷◌, ◌++◌, length, take, get_or, set, refl, sym, ◌∙◌, ap, subst, inl, inr, arith, append_assoc, length-append}
+use Rattle.std.proofs.Common.{◌≡◌, ◌≢◌, ℕ, ◌+◌, ◌<◌, ◌≤◌, ◌⊎◌, List, [], ◌∷◌, ◌++◌, length, take, get_or, set, refl, sym, ◌∙◌, ap, subst, inl, inr, arith, append_assoc, length-append}
 use Rattle.std.proofs.lemmas.List.{append-nil, get_or_append_left, get_or_default, get_or_push, length_push, length-set, take_more}
 use Rattle.std.proofs.lemmas.Bool.{cases_lt}
 use Rattle.flow_core.specs.Counts.{IsIn}
 use Rattle.flow_core.proofs.Lists.{set_all}
-use Rattle.flow_core.proofs.Totals.{is_in_at, place_of}
+use Rattle.flow_core.proofs.Totals.{is_in_at}
 use Rattle.wit_flow.specs.declared.flow.Source.{Source}
 use Rattle.wit_flow.specs.declared.flow.Source.TheVariants.{Read, Written}
 use Rattle.wit_flow.specs.declared.drafting.Mark.{Mark}
 use Rattle.wit_flow.specs.declared.drafting.Draft.{Draft}
 use Rattle.wit_flow.specs.Sources.{IsSource, AreSources, source_at}
-use Rattle.wit_flow.specs.Draft.{mark_of, IsWritten, Marks, AreMarked, number_of_open, ReadsMore, WritesMore, with_reads, with_writes}
+use Rattle.wit_flow.specs.Draft.{mark_of, IsWritten, Marks, AreMarked, number_of_open, ReadsMore, WritesMore, with_reads}
 use Rattle.wit_flow.proofs.Values.{in_cons, in_either, in_left, in_right}
 
 abbrev pub mark : ℕ → Source → Mark

@@ -1,24 +1,23 @@
 -- The run of one strand's steps, by the sources of what they read
-use Rattle.std.proofs.Common.{◌≡◌, ◌≢◌, ℕ, zero, suc, ◌+◌, ◌-◌, ◌<◌, ◌≤◌, ◌⊎◌, List, [], ◌∷◌, ◌++◌, map, length, take, drop, get_or, refl, sym, ◌∙◌, ap, subst, inl, inr, arith, Option, Some, None, unwrap_or, slice_range, append_assoc, length-append}
-use Rattle.std.proofs.lemmas.List.{append-nil, get_or_append_left, get_or-map, drop_more, drop-drop, ext_get_or, length-map, length-take-le, length-drop}
+use Rattle.std.proofs.Common.{◌≡◌, ℕ, zero, suc, ◌+◌, ◌-◌, ◌<◌, ◌≤◌, List, [], ◌∷◌, ◌++◌, map, length, take, drop, get_or, refl, sym, ◌∙◌, ap, subst, arith, Option, Some, unwrap_or, slice_range, append_assoc, length-append}
+use Rattle.std.proofs.lemmas.List.{append-nil, get_or_append_left, get_or-map, drop_more, drop-drop, ext_get_or, length-map}
 use Rattle.std.proofs.Math.Seq.{take-add}
-use Rattle.wit_code.specs.declared.code.Proc.{Proc}
 use Rattle.wit_code.specs.declared.code.Step.{Step}
 use Rattle.wit_code.specs.declared.code.Stop.{Stop}
 use Rattle.wit_code.specs.Table.{Outcome, Wrote, Stopped, outcome_of}
 use Rattle.flow_core.specs.Counts.{times, IsIn}
-use Rattle.flow_core.specs.Net.{Net, IsNet, reads_of, writes_of}
+use Rattle.flow_core.specs.Net.{reads_of, writes_of}
 use Rattle.flow_core.proofs.Totals.{is_in_at}
 use Rattle.wit_flow.specs.declared.flow.Source.{Source}
 use Rattle.wit_flow.specs.declared.flow.Source.TheVariants.{Read, Written}
 use Rattle.wit_flow.specs.declared.flow.Strand.{Strand}
 use Rattle.wit_flow.specs.Cells.{Cells, no_values, with_values, number_at, numbers_at}
-use Rattle.wit_flow.specs.Run.{no_step, step_at, reads_at, writes_at, writes_in, fitted, End, Ran, StopsAt, after_values, end_of, run_steps}
+use Rattle.wit_flow.specs.Run.{no_step, step_at, reads_at, writes_at, writes_in, fitted, Ran, StopsAt, after_values, end_of, run_steps}
 use Rattle.wit_flow.specs.Cut.{strand_at, part, Follow}
-use Rattle.wit_flow.specs.Plan.{Plan, IsPlan}
+use Rattle.wit_flow.specs.Plan.{Plan}
 use Rattle.wit_flow.specs.Sources.{IsSource, AreSources, source_at, number_of, IsThere, AreThere, sources_of, IsKept}
 use Rattle.wit_flow.specs.Answers.{strand_end}
-use Rattle.wit_flow.proofs.Values.{with_values_none, with_values-append, with_values_else, with_values_at, times-append, in_left}
+use Rattle.wit_flow.proofs.Values.{with_values-append, with_values_else, with_values_at, times-append, in_left}
 use Rattle.wit_flow.proofs.Runs.{fitted_same, after-append, after_none}
 use Rattle.wit_flow.proofs.Strands.{writes_more, range_none}
 use Rattle.wit_flow.proofs.Plans.{reads_no_own}

@@ -1,17 +1,15 @@
 -- What `cut` builds is a plan
-use Rattle.std.proofs.Common.{◌≡◌, ◌≢◌, ℕ, zero, suc, ◌+◌, ◌<◌, ◌≤◌, ◌⊎◌, List, [], ◌∷◌, length, get_or, refl, sym, ◌∙◌, ap, subst, inl, inr, arith}
+use Rattle.std.proofs.Common.{◌≡◌, ℕ, ◌<◌, List, [], length, get_or, sym, ap, subst, inl, inr, arith}
 use Rattle.wit_code.specs.declared.code.Proc.{Proc}
 use Rattle.wit_code.specs.declared.code.Step.{Step}
 use Rattle.flow_core.specs.Counts.{IsIn}
 use Rattle.flow_core.specs.Drawn.{row}
 use Rattle.flow_core.specs.Net.{Net, IsNet, reads_of, writes_of}
-use Rattle.wit_flow.specs.declared.flow.Source.{Source}
 use Rattle.wit_flow.specs.declared.drafting.Draft.{Draft}
-use Rattle.wit_flow.specs.Run.{reads_in}
-use Rattle.wit_flow.specs.Cut.{CanCut, strand_at, part, Follow, Draws}
-use Rattle.wit_flow.specs.Plan.{Plan, plan, IsPlan}
+use Rattle.wit_flow.specs.Cut.{CanCut, strand_at, Follow}
+use Rattle.wit_flow.specs.Plan.{Plan, plan}
 use Rattle.wit_flow.specs.Sources.{IsKept}
-use Rattle.wit_flow.specs.Draft.{IsStrand, HasCome, next_of}
+use Rattle.wit_flow.specs.Draft.{IsStrand, HasCome}
 
 -- a strand of the graph reads nothing that it writes
 pub reads_no_own : (n : Net) → IsNet n → (k c : ℕ) → IsIn c (reads_of n k) → IsIn c (writes_of n k) → ⊥

@@ -1,7 +1,7 @@
 -- Runs of steps: how many values they write, one step more, two runs behind one another, and runs on
 -- cells that agree where the steps read
-use Rattle.std.proofs.Common.{◌≡◌, ◌≢◌, ℕ, zero, suc, ◌+◌, ◌<◌, ◌≤◌, ◌⊎◌, List, [], ◌∷◌, ◌++◌, map, length, drop, get_or, refl, sym, ◌∙◌, ap, subst, inl, inr, arith, append_assoc, length-append}
-use Rattle.std.proofs.lemmas.List.{at_drop_more, at_drop_all, append-nil}
+use Rattle.std.proofs.Common.{◌≡◌, ℕ, ◌+◌, ◌<◌, ◌≤◌, ◌⊎◌, List, [], ◌∷◌, ◌++◌, length, drop, refl, sym, ◌∙◌, ap, subst, inl, inr, arith, append_assoc, length-append}
+use Rattle.std.proofs.lemmas.List.{at_drop_more, at_drop_all}
 use Rattle.wit_code.specs.declared.code.Proc.{Proc}
 use Rattle.wit_code.specs.declared.code.Step.{Step}
 use Rattle.wit_code.specs.declared.code.Stop.{Stop}
@@ -10,7 +10,7 @@ use Rattle.flow_core.specs.Counts.{IsIn}
 use Rattle.wit_flow.specs.Cells.{Cells, with_values, numbers_at}
 use Rattle.wit_flow.specs.Run.{no_step, step_at, reads_at, writes_at, writes_in, fitted, End, Ran, StopsAt, after_values, end_of, run_steps}
 use Rattle.wit_flow.specs.OneThread.{Ending, Ended, Halted, ending}
-use Rattle.wit_flow.proofs.Values.{HasOne, with_values_none, with_values-append, with_values_few, with_values_same, with_values_has, with_values_keep, numbers_same}
+use Rattle.wit_flow.proofs.Values.{HasOne, with_values_none, with_values-append, with_values_same, with_values_has, with_values_keep, numbers_same}
 
 pub length-fitted : (cs xs : List ℕ) → length (fitted cs xs) ≡ length cs
 length-fitted [] xs = refl

@@ -1,21 +1,21 @@
 -- The answers of a plan's strands have the shape of a flow
-use Rattle.std.proofs.Common.{◌≡◌, ◌≢◌, ℕ, zero, suc, ◌+◌, ◌-◌, ◌<◌, ◌≤◌, ◌⊎◌, cond, Bool, true, false, List, [], ◌∷◌, ◌++◌, map, length, get_or, refl, sym, ◌∙◌, ap, subst, inl, inr, arith, Option, Some, None, unwrap_or}
+use Rattle.std.proofs.Common.{◌≡◌, ◌≢◌, ℕ, zero, suc, ◌+◌, ◌-◌, ◌<◌, ◌≤◌, ◌⊎◌, cond, Bool, true, false, List, [], ◌∷◌, map, length, get_or, refl, sym, ◌∙◌, ap, subst, inl, inr, arith, Option, Some, None, unwrap_or}
 use Rattle.std.specs.List.{range_with_len}
 use Rattle.std.proofs.lemmas.List.{ext_get_or, length-map, get_or-map, get_or_past}
 use Rattle.std.proofs.lemmas.List.FromFn.{length-map-range_with_len, get_or-map-range_with_len}
-use Rattle.std.proofs.lemmas.Bool.{cases_lt, cases_eq, cases_Bool}
+use Rattle.std.proofs.lemmas.Bool.{cases_lt, cases_Bool}
 use Rattle.wit_code.specs.declared.code.Step.{Step}
 use Rattle.flow_core.specs.Counts.{IsIn}
-use Rattle.flow_core.specs.Net.{Net, IsNet, reads_of, writes_of}
+use Rattle.flow_core.specs.Net.{reads_of, writes_of}
 use Rattle.flow_core.specs.Flow.{Answer, Unreached, Refuses, Gives, Flow, start_of, answer_of, Writes, HasValue, LacksRead, IsFlow}
 use Rattle.flow_core.proofs.Nets.{in_range}
 use Rattle.flow_core.proofs.Totals.{is_in_at, place_of}
 use Rattle.wit_flow.specs.declared.flow.Strand.{Strand}
 use Rattle.wit_flow.specs.Cells.{Cells, no_values, with_values, number_at, numbers_at, have_values}
-use Rattle.wit_flow.specs.Run.{step_at, writes_at, writes_in, End, Ran, StopsAt}
+use Rattle.wit_flow.specs.Run.{writes_at, End, Ran, StopsAt}
 use Rattle.wit_flow.specs.Cut.{strand_at, part, Follow}
 use Rattle.wit_flow.specs.Plan.{Plan, IsPlan}
-use Rattle.wit_flow.specs.Answers.{start_cells, strand_end, answer_end, answer_on, with_answer, cells_before, answer_at, flow_of}
+use Rattle.wit_flow.specs.Answers.{start_cells, strand_end, answer_end, with_answer, cells_before, answer_at, flow_of}
 use Rattle.std.specs.Prelude.{◌&&◌, is_some}
 use Rattle.wit_flow.proofs.Values.{HasOne, cases_in, here_first, here_later, with_values_else, with_values_has, with_values_at, have_one, have_all}
 use Rattle.wit_flow.proofs.Runs.{Fills}

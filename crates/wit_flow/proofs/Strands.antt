@@ -1,7 +1,7 @@
 -- What is known of the strands as a step is added and as the open strand is closed
-use Rattle.std.proofs.Common.{◌≡◌, ◌≢◌, ℕ, zero, suc, ◌+◌, ◌-◌, ◌<◌, ◌≤◌, ◌⊎◌, List, [], ◌∷◌, ◌++◌, length, take, drop, get_or, refl, sym, ◌∙◌, ap, subst, inl, inr, arith, append_assoc, length-append, slice_range}
+use Rattle.std.proofs.Common.{◌≡◌, ℕ, ◌+◌, ◌-◌, ◌<◌, ◌≤◌, ◌⊎◌, List, [], ◌∷◌, ◌++◌, length, take, drop, get_or, refl, sym, ◌∙◌, ap, subst, inl, inr, arith, slice_range}
 use Rattle.std.proofs.lemmas.List.{append-nil, get_or_append_left, get_or_push, length_push, take_more, flat_map_more, length-drop, get_or-drop}
-use Rattle.std.proofs.lemmas.Bool.{cases_lt, cases_eq}
+use Rattle.std.proofs.lemmas.Bool.{cases_lt}
 use Rattle.wit_code.specs.declared.code.Step.{Step}
 use Rattle.flow_core.specs.Counts.{IsIn}
 use Rattle.flow_core.specs.Drawn.{row}
@@ -11,8 +11,8 @@ use Rattle.wit_flow.specs.declared.flow.Strand.{Strand}
 use Rattle.wit_flow.specs.declared.drafting.Draft.{Draft}
 use Rattle.wit_flow.specs.Run.{no_step, step_at, reads_at, writes_at, reads_in, writes_in}
 use Rattle.wit_flow.specs.Cut.{strand_at, part, Follow, IsByRule, Joins}
-use Rattle.wit_flow.specs.Sources.{AreSources, sources_of, source_at, Finds}
-use Rattle.wit_flow.specs.Draft.{AreMarked, Marks, number_of_open, IsStrand, open_of, IsDraft, ReadsMore, WritesMore, with_reads, with_writes, next_of, MayAdd, CanClose, HasCome, IsClosed}
+use Rattle.wit_flow.specs.Sources.{AreSources, sources_of, source_at}
+use Rattle.wit_flow.specs.Draft.{Marks, number_of_open, IsStrand, open_of, IsDraft, ReadsMore, WritesMore, next_of, MayAdd, CanClose, HasCome, IsClosed}
 use Rattle.wit_flow.proofs.Values.{in_left, in_right, in_either}
 use Rattle.wit_flow.proofs.Marking.{sources_stay, source_in, marks_none}
 

@@ -1,11 +1,10 @@
 -- Cells that get values, and cells that two lists of cells hold alike
-use Rattle.std.proofs.Common.{◌≡◌, ◌≢◌, ℕ, zero, suc, ◌+◌, ◌<◌, ◌≤◌, ◌⊎◌, cond, ◌==◌, Bool, true, false, List, [], ◌∷◌, ◌++◌, map, length, drop, get_or, set, refl, sym, ◌∙◌, ap, subst, inl, inr, arith, Option, Some, None, is_some, unwrap_or, get_or-set_same, get_or-set_other}
-use Rattle.std.specs.List.{list_all}
+use Rattle.std.proofs.Common.{◌≡◌, ◌≢◌, ℕ, zero, suc, ◌+◌, ◌<◌, ◌≤◌, ◌⊎◌, cond, Bool, true, List, [], ◌∷◌, ◌++◌, length, drop, get_or, set, refl, sym, ◌∙◌, ap, subst, inl, inr, arith, Option, Some, None, is_some, unwrap_or, get_or-set_same, get_or-set_other}
 use Rattle.std.proofs.lemmas.List.{drop_more, get_or_read}
 use Rattle.std.proofs.lemmas.Bool.{and_parts, cases_eq, eq-eqb, ne_eqb}
 use Rattle.std.specs.Prelude.{◌&&◌}
-use Rattle.flow_core.specs.Counts.{same, times, IsIn}
-use Rattle.flow_core.proofs.Totals.{same_yes, same_no, same_some}
+use Rattle.flow_core.specs.Counts.{times, IsIn}
+use Rattle.flow_core.proofs.Totals.{same_yes, same_no}
 use Rattle.wit_flow.specs.Cells.{Cells, with_value, with_values, number_at, numbers_at, have_values, held}
 
 pub with_value_here : (a : Cells) (c x : ℕ) → with_value a c x c ≡ Some x

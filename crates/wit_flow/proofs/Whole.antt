@@ -1,25 +1,21 @@
 -- The run of all steps on one thread
-use Rattle.std.proofs.Common.{◌≡◌, ◌≢◌, ℕ, zero, suc, ◌+◌, ◌<◌, ◌≤◌, ◌⊎◌, List, [], ◌∷◌, map, length, drop, get_or, replicate, refl, sym, ◌∙◌, ap, subst, inl, inr, arith, Option, Some, None, unwrap_or, ◌^◌}
+use Rattle.std.proofs.Common.{◌≡◌, ◌≢◌, ℕ, zero, suc, ◌+◌, ◌<◌, ◌≤◌, List, [], ◌∷◌, map, length, drop, get_or, replicate, refl, sym, ◌∙◌, ap, subst, inl, inr, arith, Option, Some, None, unwrap_or, ◌^◌}
 use Rattle.std.specs.Prelude.{All}
-use Rattle.std.proofs.lemmas.List.{length-map, length-replicate, get_or-map, get_or_past}
-use Rattle.std.proofs.lemmas.Bool.{cases_lt}
+use Rattle.std.proofs.lemmas.List.{length-replicate}
 use Rattle.gold_field.specs.declared.gold.TheConstants.{P}
 use Rattle.wit_code.specs.declared.code.Step.{Step}
 use Rattle.wit_code.specs.declared.code.Stop.{Stop}
 use Rattle.wit_code.specs.declared.code.Stop.TheVariants.{OutOfMemory}
 use Rattle.wit_code.specs.Code.{IsWellFormed}
-use Rattle.wit_code.specs.Table.{Outcome, Wrote, Stopped, outcome_of}
+use Rattle.wit_code.specs.Table.{Wrote, Stopped, outcome_of}
 use Rattle.flow_core.specs.Counts.{IsIn}
 use Rattle.flow_core.proofs.Lists.{get_or-all_same}
-use Rattle.flow_core.proofs.Totals.{is_in_at}
-use Rattle.wit_flow.specs.declared.flow.Outcome.{Outcome as FlowOutcome}
 use Rattle.wit_flow.specs.declared.flow.Outcome.TheVariants.{Done, Refused}
-use Rattle.wit_flow.specs.Cells.{Cells, no_values, with_values, numbers_at, number_at, held, Shows}
+use Rattle.wit_flow.specs.Cells.{Cells, no_values, with_values, numbers_at, held, Shows}
 use Rattle.wit_flow.specs.Run.{step_at, reads_at, writes_at, writes_in, run_steps}
-use Rattle.wit_flow.specs.Cut.{WritesEach}
 use Rattle.wit_flow.specs.Plan.{Plan, IsPlan}
 use Rattle.wit_flow.specs.Answers.{start_cells}
-use Rattle.wit_flow.specs.OneThread.{Ending, Ended, Halted, ending, one_thread, IsOutcome}
+use Rattle.wit_flow.specs.OneThread.{Ended, Halted, ending, one_thread, IsOutcome}
 use Rattle.wit_flow.proofs.Values.{HasOne, with_values_has, in_left, in_right}
 use Rattle.wit_flow.proofs.Runs.{step_goes, step_stops, steps_end, ended_has, run_fills}
 

@@ -10,7 +10,7 @@ use Rattle.wit_flow.specs.declared.drafting.Mark.{Mark}
 use Rattle.wit_flow.specs.declared.drafting.Draft.{Draft}
 use Rattle.wit_flow.specs.Run.{reads_in, writes_in}
 use Rattle.wit_flow.specs.Cut.{strand_at, part, Follow, IsByRule, Joins}
-use Rattle.wit_flow.specs.Sources.{IsSource, AreSources, Finds}
+use Rattle.wit_flow.specs.Sources.{IsSource, Finds}
 
 abbrev pub mark_of : List Mark → ℕ → Mark
 mark_of marks c = slice_index_or marks c (record { strand = 0; source = Read 0 })

@@ -1,4 +1,4 @@
-use Rattle.std.proofs.Common.{◌≡◌, List, length, subst, sym, ◌∙◌}
+use Rattle.std.proofs.Common.{List, length, subst, ◌∙◌}
 use Rattle.wit_code.specs.declared.code.Step.{Step}
 use Rattle.wit_flow.specs.Draft.{HasCome}
 use Rattle.wit_flow.proofs.Plans.{IsGraphOf, kept_flow}

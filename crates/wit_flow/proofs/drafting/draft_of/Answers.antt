@@ -1,4 +1,4 @@
-use Rattle.std.proofs.Common.{◌≡◌, ◌<◌, ◌≤◌, ℕ, length, sym, ◌∙◌, subst, arith}
+use Rattle.std.proofs.Common.{◌≡◌, ℕ, length, sym, subst, arith}
 use Rattle.wit_flow.specs.declared.drafting.Draft.{Draft}
 use Rattle.wit_flow.specs.Draft.{CanClose, HasCome, next_of}
 use Rattle.wit_flow.proofs.Strands.{closes}

@@ -1,4 +1,4 @@
-use Rattle.std.proofs.Common.{◌≡◌, ℕ, List, length, replicate, None, Option, subst, sym, ap, ◌∙◌}
+use Rattle.std.proofs.Common.{◌≡◌, ℕ, List, replicate, None, Option, ap, ◌∙◌}
 use Rattle.wit_flow.specs.Cells.{held, with_values}
 use Rattle.wit_flow.specs.Plan.{Plan}
 use Rattle.wit_flow.proofs.Whole.{first_shows}

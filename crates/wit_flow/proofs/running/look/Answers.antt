@@ -1,4 +1,4 @@
-use Rattle.std.proofs.Common.{arith, ◌≡◌, ◌<◌, ℕ, subst, ◌∷◌, [], ◌++◌, List, get_or, sym, ◌∙◌, ap, unwrap_or, None, Option}
+use Rattle.std.proofs.Common.{arith, ◌≡◌, ◌<◌, ℕ, subst, ◌∷◌, [], ◌++◌, get_or, sym, ◌∙◌, ap, unwrap_or, None, Option}
 use Rattle.std.specs.Prelude.{All}
 use Rattle.gold_field.specs.declared.gold.TheConstants.{P}
 use Rattle.std.proofs.lemmas.List.Elements.{All-push}

@@ -1,5 +1,4 @@
-use Rattle.std.proofs.Common.{◌≡◌, ℕ, ◌+◌, ◌<◌, get_or, set, arith, length, ap, sym, ◌∙◌, Some, List, Option, drop, length-set}
-use Rattle.std.proofs.lemmas.List.{drop_all}
+use Rattle.std.proofs.Common.{ℕ, ◌+◌, ◌<◌, get_or, arith, length, ap, ◌∙◌, Some, List, Option, drop, length-set}
 use Rattle.flow_core.proofs.Totals.{is_in_at}
 use Rattle.wit_flow.specs.Cells.{held, with_values}
 use Rattle.wit_flow.proofs.Values.{put_more}

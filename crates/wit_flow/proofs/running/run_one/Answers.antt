@@ -1,4 +1,4 @@
-use Rattle.std.proofs.Common.{◌≡◌, ℕ, ◌+◌, ◌<◌, ◌≤◌, List, length, map, get_or, subst, sym, ap, ◌∙◌, arith, Result, Vec, Global, unwrap_or, Option}
+use Rattle.std.proofs.Common.{◌≡◌, ℕ, ◌<◌, ◌≤◌, List, length, map, subst, sym, ap, ◌∙◌, arith, Result, Vec, Global, unwrap_or, Option}
 use Rattle.std.specs.Prelude.{All}
 use Rattle.std.proofs.lemmas.List.{get_or_read, length-map}
 use Rattle.gold_field.specs.declared.gold.TheConstants.{P}
@@ -6,8 +6,8 @@ use Rattle.wit_code.specs.declared.code.Proc.{Proc}
 use Rattle.wit_code.specs.declared.code.Step.{Step}
 use Rattle.wit_code.specs.declared.code.Stop.{Stop}
 use Rattle.wit_code.specs.Code.{IsWellFormed}
-use Rattle.wit_code.specs.Table.{Wrote, Stopped, outcome_of}
-use Rattle.wit_flow.specs.Cells.{Cells, held, number_at, numbers_at, with_values}
+use Rattle.wit_code.specs.Table.{Wrote, outcome_of}
+use Rattle.wit_flow.specs.Cells.{held, number_at, numbers_at, with_values}
 use Rattle.wit_flow.specs.Run.{no_step, step_at, reads_at, writes_at}
 use Rattle.wit_flow.specs.Plan.{Plan}
 use Rattle.wit_flow.specs.OneThread.{IsCodeEnd}

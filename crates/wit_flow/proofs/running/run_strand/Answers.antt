@@ -1,4 +1,4 @@
-use Rattle.std.proofs.Common.{◌≡◌, ℕ, ◌+◌, ◌<◌, ◌≤◌, List, [], ◌++◌, length, map, get_or, refl, subst, sym, ap, ◌∙◌, arith, Result, Vec, Global}
+use Rattle.std.proofs.Common.{◌≡◌, ℕ, ◌+◌, ◌<◌, List, [], ◌++◌, length, map, refl, subst, sym, ap, ◌∙◌, arith, Result, Vec, Global}
 use Rattle.std.specs.Prelude.{All}
 use Rattle.std.proofs.lemmas.List.{get_or_read}
 use Rattle.gold_field.specs.declared.gold.TheConstants.{P}
@@ -6,7 +6,7 @@ use Rattle.wit_code.specs.declared.code.Proc.{Proc}
 use Rattle.wit_code.specs.declared.code.Step.{Step}
 use Rattle.wit_code.specs.declared.code.Stop.{Stop}
 use Rattle.wit_code.specs.Code.{IsWellFormed}
-use Rattle.wit_code.specs.Table.{Wrote, Stopped, outcome_of}
+use Rattle.wit_code.specs.Table.{Wrote, outcome_of}
 use Rattle.wit_flow.specs.declared.flow.Source.{Source}
 use Rattle.wit_flow.specs.declared.flow.Strand.{Strand}
 use Rattle.wit_flow.specs.declared.flow.StrandOut.TheVariants.{Refused}

@@ -1,7 +1,6 @@
-use Rattle.std.proofs.Common.{◌≡◌, ◌+◌, List, ℕ, length, ap, subst, sym, ◌∙◌}
+use Rattle.std.proofs.Common.{◌≡◌, ◌+◌, List, ℕ, length, ap, subst, ◌∙◌}
 use Rattle.std.proofs.lemmas.List.{get_or_read}
 use Rattle.wit_code.specs.declared.code.Step.{Step}
-use Rattle.wit_flow.specs.declared.drafting.Draft.{Draft}
 use Rattle.wit_flow.specs.Run.{no_step, reads_at, writes_at}
 use Rattle.wit_flow.specs.Sources.{AreSources}
 use Rattle.wit_flow.specs.Draft.{ReadsMore, WritesMore, next_of}

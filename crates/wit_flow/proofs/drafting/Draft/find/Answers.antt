@@ -1,9 +1,9 @@
-use Rattle.std.proofs.Common.{List, take, ◌+◌, ◌≡◌, ℕ, ◌∷◌, [], get_or, arith, subst, sym, ap, length}
+use Rattle.std.proofs.Common.{List, take, ◌+◌, get_or, arith, subst, sym, ap, length}
 use Rattle.flow_core.proofs.Totals.{is_in_at}
 use Rattle.wit_flow.specs.declared.drafting.Draft.{Draft}
 use Rattle.wit_flow.specs.declared.flow.Source.{Source}
 use Rattle.wit_flow.specs.Sources.{AreSources}
-use Rattle.wit_flow.specs.Draft.{AreMarked, ReadsMore, number_of_open}
+use Rattle.wit_flow.specs.Draft.{number_of_open}
 use Rattle.wit_flow.proofs.Marking.{finds_more}
 use Rattle.wit_flow.proofs.drafting.Draft.find.Goals as goal
 

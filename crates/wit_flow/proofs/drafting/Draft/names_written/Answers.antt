@@ -1,4 +1,4 @@
-use Rattle.std.proofs.Common.{◌≡◌, ℕ, get_or, arith, rules, ap, length, ◌<◌, subst, sym, ◌∙◌, IsTrue, List}
+use Rattle.std.proofs.Common.{get_or, arith, rules, ap, length, ◌<◌, subst, sym, ◌∙◌, IsTrue, List}
 use Rattle.std.proofs.lemmas.Bool.{false≢true}
 use Rattle.flow_core.proofs.Totals.{is_in_at}
 use Rattle.wit_flow.specs.declared.drafting.Mark.{Mark}

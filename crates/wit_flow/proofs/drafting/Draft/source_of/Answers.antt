@@ -1,4 +1,4 @@
-use Rattle.std.proofs.Common.{List, ap, ◌∙◌, sym}
+use Rattle.std.proofs.Common.{List, ap, ◌∙◌}
 use Rattle.wit_flow.specs.declared.drafting.Mark.{Mark}
 use Rattle.wit_flow.specs.Draft.{mark_of}
 use Rattle.wit_flow.proofs.Marking.{blank, read_step}

@@ -1,4 +1,4 @@
-use Rattle.std.proofs.Common.{ℕ, get_or, arith}
+use Rattle.std.proofs.Common.{get_or, arith}
 use Rattle.flow_core.proofs.Totals.{is_in_at}
 use Rattle.wit_flow.proofs.Marking.{write_step}
 use Rattle.wit_flow.proofs.drafting.Draft.write.Goals as goal
