@@ -1,10 +1,10 @@
 //! A tree with all its nodes.
 
-ghost use Rattle.std.specs.Prelude.{◌≡◌, ◌<◌, ◌+◌, ◌*◌, ◌^◌, ◌++◌, ℕ, [], All, IfOk, OnOk, length, map, drop, slice_index_or};
+ghost use Rattle.std.specs.Prelude.{◌≡◌, ◌<◌, ◌+◌, ◌*◌, ◌^◌, ◌++◌, ℕ, [], All, IfOk, OnOk, length, map, drop, slice_index_or, vec_len};
 ghost use Rattle.std.specs.Int.{IsPowerOfTwo};
 ghost use Rattle.lig_merkle.specs.Merkle.{root_at, path_at};
 ghost use Rattle.lig_merkle.specs.Nodes.{AreJoined, SameLeaves};
-ghost use Rattle.lig_merkle.specs.Shared.{AreOpened, shared_nodes};
+ghost use Rattle.lig_merkle.specs.Shared.{AreOpened, shared_nodes, shared_count};
 
 use crate::hash::{Hash, node};
 use crate::opened::{missing, parents, places, sibling_of};
@@ -58,7 +58,9 @@ impl Tree {
     /// The siblings on the way from a leaf to the root, from the leaf up.
     pub fn path(&self, alloc: Global, index: u32) -> Result<Vec<Hash>, AllocError>
         requires { index < length self.now.hashes }
-        ensures { IfOk result (λ path. path.items ≡ path_at self.now.depth self.now.hashes index) }
+        ensures path { IfOk result (λ path. path.items
+            ≡ path_at self.now.depth self.now.hashes index) }
+        ensures count { IfOk result (λ path. vec_len path ≡ self.now.depth) }
     {
         let mut path = Vec::with_capacity(alloc, self.depth as usize)?;
         let mut at = self.nodes.len() / 2 + index as usize;
@@ -73,8 +75,10 @@ impl Tree {
     /// and on each level by rising places.
     pub fn nodes(&self, alloc: Global, opened: &[u32]) -> Result<Vec<Hash>, AllocError>
         requires { AreOpened self.now.depth opened.now }
-        ensures { IfOk result (λ nodes. nodes.items
+        ensures nodes { IfOk result (λ nodes. nodes.items
             ≡ shared_nodes self.now.depth (λ i. slice_index_or self.now.hashes i []) opened.now) }
+        ensures count { IfOk result (λ nodes. vec_len nodes
+            ≡ shared_count self.now.depth opened.now) }
     {
         let mut nodes = Vec::new(alloc);
         let mut known = places(alloc, opened)?;

@@ -2,6 +2,7 @@ use Rattle.std.proofs.Common.{◌≡◌, ℕ, List, ◌+◌, ◌-◌, ◌*◌, �
 use Rattle.lig_merkle.specs.Merkle.{Leaves}
 use Rattle.lig_merkle.specs.Shared.{AreOpened, missing, parents, shared_nodes}
 use Rattle.lig_merkle.proofs.Walk.{Gathering, gathering_begins, gathering_as, gathering_more, gathering_ends, level_within, places_small}
+use Rattle.lig_merkle.proofs.Leading.{length-shared_nodes}
 use Rattle.lig_merkle.proofs.tree.Tree.nodes.Goals as goal
 
 pub loop-init : goal.loop-init
@@ -48,10 +49,14 @@ loop-preserved c =
     gathering_as depth (c.loop.counter + 1) nodes c.args.opened.now (parents known) c.in_ok-known-2.known.items (c.loop.first / 2) (out ++ map (λ place. get_or nodes (c.loop.first + place) []) (missing known)) c.put_level.new.out.items above gathered
     (gathering_more depth c.loop.counter nodes c.args.opened.now known c.loop.first out c.loop-test.true c.self.invariant.joined c.loop.invariant)
 
-pub returns : goal.returns
-returns c =
+pub returns-clause-nodes : goal.returns-clause-nodes
+returns-clause-nodes c =
     let opened = c.args.opened.now in
     let Opened : Leaves → Type 0 = λ t. AreOpened t.depth opened in
     let opens : AreOpened c.self.inside.depth opened = subst Opened (sym c.self.view_is) c.requires in
     let Is : Leaves → Type 0 = λ t. c.loop.nodes.items ≡ shared_nodes t.depth (λ i. get_or t.hashes i []) opened in
     subst Is c.self.view_is (gathering_ends c.self.inside.depth c.loop.counter c.self.inside.nodes.items opened c.loop.known.items c.loop.first c.loop.nodes.items c.loop-test.false opens c.loop.invariant)
+
+pub returns-clause-count : goal.returns-clause-count
+returns-clause-count c =
+    c.loop.nodes.ok.0 ∙ ap length (returns-clause-nodes c) ∙ length-shared_nodes c.args.self.now.depth (λ i. get_or c.args.self.now.hashes i []) c.args.opened.now

@@ -4,6 +4,7 @@ use Rattle.std.proofs.lemmas.Nat.{shr_le}
 use Rattle.lig_merkle.specs.Merkle.{Leaves, path_at}
 use Rattle.lig_merkle.specs.Nodes.{sibling_of}
 use Rattle.lig_merkle.proofs.Places.{Climbs, climbs_more, climbs_end, length-leaves, sibling_within}
+use Rattle.lig_merkle.proofs.Paths.{length-path_at}
 use Rattle.lig_merkle.proofs.tree.Tree.path.Goals as goal
 
 pub loop-preserved : goal.loop-preserved
@@ -23,8 +24,8 @@ loop-preserved c =
     let Along : List (List ℕ) → Type 0 = λ path. Climbs depth nodes c.args.index (k + 1) (c.loop.at / 2) path in
     subst Along (sym (c.in_ok-push.ensures.items ∙ ap (λ x. c.loop.path.items ++ x ∷ []) found)) (subst At one more)
 
-pub returns : goal.returns
-returns c =
+pub returns-clause-path : goal.returns-clause-path
+returns-clause-path c =
     let depth = c.self.inside.depth in
     let nodes = c.self.inside.nodes.items in
     let whole : c.loop.counter ≡ depth = omega arith in
@@ -32,3 +33,7 @@ returns c =
     let small : c.args.index < 2 ^ depth = omega (arith, length-leaves depth nodes c.self.invariant.count, ap (λ (t : Leaves). length t.hashes) c.self.view_is) in
     let IsPath : Leaves → Type 0 = λ t. c.loop.path.items ≡ path_at t.depth t.hashes c.args.index in
     subst IsPath c.self.view_is (climbs_end depth nodes c.args.index c.loop.at c.loop.path.items small (subst IsDone whole c.loop.invariant))
+
+pub returns-clause-count : goal.returns-clause-count
+returns-clause-count c =
+    c.loop.path.ok.0 ∙ ap length (returns-clause-path c) ∙ length-path_at c.args.self.now.depth c.args.self.now.hashes c.args.index
