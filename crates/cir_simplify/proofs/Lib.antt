@@ -8,3 +8,4 @@ pub mod Holes
 pub mod Wiring
 pub mod Law
 pub mod Ends
+pub mod Over

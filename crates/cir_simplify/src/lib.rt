@@ -12,6 +12,6 @@ mod turn;
 mod types;
 mod wires;
 
-pub use laws::{kept_values, nothing_fits};
+pub use laws::{kept_values, nothing_fits, wire_values};
 pub use solving::simplify;
 pub use types::{Level, Rules, SimpFault, Simple, Solved};
