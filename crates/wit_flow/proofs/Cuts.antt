@@ -41,7 +41,7 @@ edge_next [] n end k h lt = absurd (omega arith)
 edge_next (s ∷ ss) n end zero h lt = edge_zero ss (n + s.count)
 edge_next (s ∷ ss) n end (suc k) h lt = edge_next ss (n + s.count) end k h.2 (omega arith)
 
-edge_end : (ss : List Strand) (n end : ℕ) → Follow ss n end → edge ss n (length ss) ≡ end
+pub edge_end : (ss : List Strand) (n end : ℕ) → Follow ss n end → edge ss n (length ss) ≡ end
 unfolding edge
 edge_end [] n end h = h
 edge_end (s ∷ ss) n end h = edge_end ss (n + s.count) end h.2
@@ -158,18 +158,18 @@ module _ (p : Plan) (ok : IsPlan p) (fuel : ℕ) (k : ℕ) (near : k < length p.
       ∙ (λ i. ending a (w i ++ writes_in rest) (then_end (runs_alone a all i) (λ vs. run_steps p.procs fuel (n i) rest (with_values a (w i) vs))))
 
 module _ (p : Plan) (ok : IsPlan p) (start : List ℕ) (fuel : ℕ) (each : length start ≡ length p.starts) where
-  abbrev before : ℕ → Cells
+  abbrev pub before : ℕ → Cells
   before k = cells_before p fuel (start_cells p start) k
 
-  abbrev at_edge : ℕ → ℕ
+  abbrev pub at_edge : ℕ → ℕ
   at_edge k = edge p.strands 0 k
 
   -- start cells and what earlier strands write have values
-  abbrev Filled : ℕ → Type 0
+  abbrev pub Filled : ℕ → Type 0
   Filled k = (c : ℕ) → IsIn c p.starts ⊎ ((j : ℕ) × (j < at_edge k) × IsIn c (writes_at p.steps j)) → HasOne (before k) c
 
   -- so has what the strand reads
-  reads_filled : (k : ℕ) → k < length p.strands → Filled k → (c : ℕ) → IsIn c (reads_of p.graph k) → HasOne (before k) c
+  pub reads_filled : (k : ℕ) → k < length p.strands → Filled k → (c : ℕ) → IsIn c (reads_of p.graph k) → HasOne (before k) c
   reads_filled k near filled c here =
       let s = strand_at p.strands k in let d = ok.draws k near in let both = (d.reads_others c).0 here in
       let le = (strand_within p.strands 0 (length p.steps) k ok.follow near).1 in let l = length-part p.steps s le in

@@ -32,8 +32,12 @@ fn run_code(
     }
 }
 
-// The numbers in cells of a list; 0 stands for a cell without a value.
-fn look(alloc: Global, held_cells: &[Option<Gold>], cells: &[u32]) -> Result<Vec<Gold>, AllocError>
+/// The numbers in cells of a list; 0 stands for a cell without a value.
+pub fn look(
+    alloc: Global,
+    held_cells: &[Option<Gold>],
+    cells: &[u32],
+) -> Result<Vec<Gold>, AllocError>
     requires { (c : ℕ) → IsIn c cells.now → c < length held_cells.now }
     ensures numbers { IfOk result (λ v. v.items ≡ numbers_at (held held_cells.now) cells.now) }
     ensures below { IfOk result (λ v. All (λ x. x < P) v.items) }
@@ -47,8 +51,8 @@ fn look(alloc: Global, held_cells: &[Option<Gold>], cells: &[u32]) -> Result<Vec
     Ok(numbers)
 }
 
-// Puts values into cells.
-fn put(held_cells: &mut Items<Option<Gold>>, cells: &[u32], values: &[Gold])
+/// Puts values into cells.
+pub fn put(held_cells: &mut Items<Option<Gold>>, cells: &[u32], values: &[Gold])
     requires near { (c : ℕ) → IsIn c cells.now → c < length held_cells.old }
     requires each { length values.now ≡ length cells.now }
     ensures wide { length held_cells.new ≡ length held_cells.old }
@@ -69,8 +73,8 @@ fn empty_cells(alloc: Global, count: u32) -> Result<Vec<Option<Gold>>, AllocErro
     Ok(cells)
 }
 
-// The start cells with their values.
-fn first_cells(
+/// The start cells with their values.
+pub fn first_cells(
     alloc: Global,
     flow: &Flow,
     start: &[Gold],
@@ -86,8 +90,8 @@ fn first_cells(
     Ok(cells)
 }
 
-// The values of cells that all have one.
-fn values_of(alloc: Global, cells: &[Option<Gold>]) -> Result<Vec<Gold>, AllocError>
+/// The values of cells that all have one.
+pub fn values_of(alloc: Global, cells: &[Option<Gold>]) -> Result<Vec<Gold>, AllocError>
     ensures { IfOk result (λ v. v.items ≡ map (λ o. unwrap_or o 0) cells.now) }
 {
     let mut values = Vec::with_capacity(alloc, cells.len())?;
