@@ -1,0 +1,142 @@
+// The run in order behind the workers: what they have done is copied, and all else is run.
+ghost use Rattle.std.specs.Prelude.{◌≡◌, ℕ, ◌+◌, ◌<◌, IfOk, IsTrue, length, map, slice_index};
+ghost use Rattle.std.specs.Prelude.{unwrap_or};
+ghost use Rattle.flow_core.specs.Quiet.{IsBelow};
+ghost use Rattle.flow_board.specs.Closed.{cell_in, done_in, least_in};
+ghost use Rattle.wit_flow.specs.OneThread.{IsOutcome, one_thread};
+ghost use Rattle.flow_engine.specs.Task.{answers_of};
+ghost use Rattle.flow_engine.specs.Sweep.{AreClosed, HasCome, Goes};
+
+use crate::answers::FlowAnswers;
+use flow_board::Words;
+use gold_field::Gold;
+use items::Items;
+use std::alloc::{AllocError, Global};
+use wit_code::Stop;
+use wit_flow::{Outcome, StrandOut, first_cells, look, put, values_of};
+
+// Whether a strand is done, as the words say.
+fn is_done(words: &Words, strand: u32) -> bool
+    requires { strand < words.now.strands }
+    ensures done { IsTrue result → IsTrue (done_in words.now strand) }
+    ensures below { IsTrue result → IsBelow (least_in words.now) strand }
+{
+    match words.least() {
+        Some(least) if strand >= least => false,
+        _ => words.done(strand),
+    }
+}
+
+// The values that the words have for cells; 0 stands for a cell without one.
+fn copied(alloc: Global, words: &Words, cells: &[u32]) -> Result<Vec<Gold>, AllocError>
+    requires { (i : ℕ) → i < length cells.now → slice_index cells.now i < words.now.cells }
+    ensures { IfOk result (λ v. v.items ≡ map (λ c. unwrap_or (cell_in words.now c) 0) cells.now) }
+{
+    let mut values = Vec::with_capacity(alloc, cells.len())?;
+    for cell in cells {
+        values.push(words.cell(*cell).unwrap_or(Gold::ZERO))?;
+    }
+    Ok(values)
+}
+
+// The cells of a strand that is done get the values that the words have.
+fn copy_done(
+    alloc: Global,
+    answers: &FlowAnswers<'_>,
+    words: &Words,
+    cells: &mut Items<Option<Gold>>,
+    strand: u32,
+) -> Result<(), AllocError>
+    requires closed { AreClosed (answers_of answers.now) words.now }
+    requires near { strand < answers.now.plan.graph.strands }
+    requires done { IsTrue (done_in words.now strand) }
+    requires below { IsBelow (least_in words.now) strand }
+    requires come { HasCome answers.now strand cells.old }
+    ensures { IfOk result (λ _. HasCome answers.now (strand + 1) cells.new) }
+{
+    answers.facts();
+    let graph = answers.graph();
+    let writes = graph.writes_of(strand);
+    let values = copied(alloc, words, writes)?;
+    put(cells, writes, values.as_slice());
+    Ok(())
+}
+
+// Runs a strand on the cells. Its stop, if it has one.
+fn run_next(
+    alloc: Global,
+    answers: &FlowAnswers<'_>,
+    cells: &mut Items<Option<Gold>>,
+    strand: u32,
+) -> Result<Option<(u32, Stop)>, AllocError>
+    requires near { strand < answers.now.plan.graph.strands }
+    requires come { HasCome answers.now strand cells.old }
+    ensures { IfOk result (Goes answers.now strand cells.new) }
+{
+    answers.facts();
+    let graph = answers.graph();
+    let reads = look(alloc, cells.as_slice(), graph.reads_of(strand))?;
+    let writes = graph.writes_of(strand);
+    match answers.run_in_order(alloc, strand, reads.as_slice())? {
+        StrandOut::Values(values) => {
+            put(cells, writes, values.as_slice());
+            Ok(None)
+        }
+        StrandOut::Refused { step, stop, before } => {
+            put(cells, &writes[..before.len()], before.as_slice());
+            Ok(Some((step, stop)))
+        }
+    }
+}
+
+// Goes on by one strand: with its stop, if it has one.
+fn sweep_one(
+    alloc: Global,
+    answers: &FlowAnswers<'_>,
+    words: &Words,
+    cells: &mut Items<Option<Gold>>,
+    strand: u32,
+) -> Result<Option<(u32, Stop)>, AllocError>
+    requires closed { AreClosed (answers_of answers.now) words.now }
+    requires near { strand < answers.now.plan.graph.strands }
+    requires come { HasCome answers.now strand cells.old }
+    ensures { IfOk result (Goes answers.now strand cells.new) }
+{
+    if is_done(words, strand) {
+        copy_done(alloc, answers, words, cells, strand)?;
+        return Ok(None);
+    }
+    run_next(alloc, answers, cells, strand)
+}
+
+// The outcome once all strands have answered.
+fn finish(
+    alloc: Global,
+    answers: &FlowAnswers<'_>,
+    cells: &[Option<Gold>],
+) -> Result<Outcome, AllocError>
+    requires { HasCome answers.now answers.now.plan.graph.strands cells.now }
+    ensures { IfOk result (λ o. IsOutcome answers.now.plan.graph.cells o
+        (one_thread answers.now.plan answers.now.start answers.now.fuel)) }
+{
+    answers.facts();
+    let values = values_of(alloc, cells)?;
+    Ok(Outcome::Done(Items::of(values)))
+}
+
+/// The answer of one thread, from the words of a closed board.
+pub fn sweep(alloc: Global, answers: &FlowAnswers<'_>, words: &Words) -> Result<Outcome, AllocError>
+    requires { AreClosed (answers_of answers.now) words.now }
+    ensures { IfOk result (λ o. IsOutcome answers.now.plan.graph.cells o
+        (one_thread answers.now.plan answers.now.start answers.now.fuel)) }
+{
+    answers.facts();
+    let graph = answers.graph();
+    let mut cells = first_cells(alloc, answers.flow(), answers.start())?;
+    for strand in 0..graph.strands {
+        if let Some((step, stop)) = sweep_one(alloc, answers, words, &mut cells, strand)? {
+            return Ok(Outcome::Refused { step, stop, cells });
+        }
+    }
+    finish(alloc, answers, cells.as_slice())
+}
