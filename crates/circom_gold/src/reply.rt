@@ -1,5 +1,4 @@
 ghost use Rattle.std.specs.Prelude.{◌≡◌, IfOk};
-
 ghost use Rattle.circom_gold.specs.Shown.{shown};
 
 use crate::answer::{Refusal, Verdict};
