@@ -65,8 +65,11 @@ static ROOTS: [&str; 5] = [
 
 #[test]
 fn roots(rt: HostRuntime) -> Result<(), Fail> {
-    for (depth, root) in (0u32..5).zip(&ROOTS) {
-        assert_eq!(rt; root_text(rt.alloc(), depth)?.as_str(), *root);
+    for depth in 0..5u32 {
+        assert_eq!(rt;
+            root_text(rt.alloc(), depth)?.as_str(),
+            ROOTS[depth as usize]
+        );
     }
     Ok(())
 }
