@@ -1,1 +1,4 @@
+pub mod Circuits
 pub mod Meaning
+pub mod Simplified
+pub mod Wires

@@ -1,7 +1,7 @@
 -- What the values of a written file mean.
-use Rattle.std.proofs.Common.{◌≡◌, ℕ, zero, suc, ◌+◌, ◌*◌, ◌%◌, ◌<◌, List, [], ◌∷◌, Result, Ok, Err, refl, ap, sym, ◌∙◌, subst, arith, inl, inr}
-use Rattle.std.specs.List.{range_with_len}
-use Rattle.std.specs.Prelude.{All, IsErrAnd, Option, Some, None, sum_by, slice_index, slice_index_or, ◌↔◌}
+use Rattle.std.proofs.Common.{◌≡◌, ℕ, suc, ◌+◌, ◌*◌, ◌%◌, ◌<◌, ◌≤◌, nat_le, Bool, true, false, cond, List, [], ◌∷◌, Result, Ok, Err, refl, ap, sym, ◌∙◌, subst, arith, inl, inr}
+use Rattle.std.specs.Prelude.{All, IsErrAnd, Option, Some, None, sum_by, length, slice_index, slice_index_or, ◌↔◌}
+use Rattle.std.proofs.lemmas.Bool.{cases_lt}
 use Rattle.std.proofs.lemmas.List.Sums.{sum_by-cons}
 use Rattle.gold_field.specs.Form.{Holds, value_at, SignalsBelow, ConstraintBelow}
 use Rattle.gold_field.specs.declared.form.Term.{Term}
@@ -18,11 +18,21 @@ use Rattle.cir_sources.specs.declared.fault.LoadFault.TheVariants as load
 use Rattle.cir_names.specs.Loading.{Loads, IsLoaded, IsLoadFault}
 use Rattle.cir_inst.specs.declared.circuit.Circuit.{Circuit}
 use Rattle.cir_inst.specs.Meaning.Program.{Satisfies}
+use Rattle.cir_simplify.specs.declared.types.Level.{Level}
+use Rattle.cir_simplify.specs.declared.types.Simple.{Simple}
+use Rattle.cir_simplify.specs.Answer.{IsOverWires}
+use Rattle.cir_simplify.specs.Index.{IsGood}
+use Rattle.cir_simplify.specs.Keeps.{HoldAll, WiresKeepSolutions}
+use Rattle.cir_simplify.specs.Turn.{Simplified, simplified}
+use Rattle.cir_simplify.specs.Wires.{is_kept, kept_below, wire_of}
+use Rattle.cir_simplify.proofs.Over.{over}
+use Rattle.cir_simplify.proofs.Turning.{few, many}
 use Rattle.cir_compile.specs.declared.fault.CompileFault.{CompileFault}
 use Rattle.cir_compile.specs.declared.fault.CompileFault.TheVariants as fault
-use Rattle.cir_compile.specs.Compiled.{Compiles, Writes, IsWritten, IsCompiled, IsRefused}
+use Rattle.cir_compile.specs.Compiled.{Task, Compiles, Writes, IsWritten, IsCompiled, IsRefused}
 use Rattle.cir_compile.specs.Faults.{of_load}
-use Rattle.cir_compile.specs.Written.{file_of, Means}
+use Rattle.cir_compile.specs.Written.{AreValues, Extends, rules_of, file_of, Means}
+use Rattle.cir_compile.proofs.Wires.{Labels, labelled, label_of, place_below}
 
 -- the two give the same number to each signal below n
 abbrev Same : ℕ → (ℕ → ℕ) → (ℕ → ℕ) → Type 0
@@ -56,61 +66,123 @@ holds_agrees n s t same k below h =
     ap (λ (v : ℕ). (v * value_at t k.b) % P) (sym a)
     ∙ ap (λ (v : ℕ). (value_at s k.a * v) % P) (sym b) ∙ h ∙ c
 
--- the label of each wire of a circuit's file is its number
-label_from : (a n k : ℕ) → k < n → slice_index (range_with_len a n) k ≡ a + k
-label_from a zero k h = absurd (omega arith)
-label_from a (suc n) zero h = omega arith
-label_from a (suc n) (suc k) h =
-    let next : slice_index (range_with_len (a + 1) n) k ≡ a + 1 + k =
-    label_from (a + 1) n k (omega arith) in
-    next ∙ omega arith
+-- the numbers of one assignment below n, and others from there
+two_parts : (n : ℕ) (s : Assignment) (other : ℕ → ℕ) → ((k : ℕ) → other k < P) → 0 < n → Assignment
+two_parts n s other small some = record {
+  at = λ k. cond (nat_le n k) (other k) (s.at k);
+  one = ap (λ (b : Bool). cond b (other 0) (s.at 0)) (many n 0 some) ∙ s.one;
+  below = λ k. either (nat_le n k) (other k) (s.at k) (small k) (s.below k);
+}
+  where
+    either : (b : Bool) (u v : ℕ) → u < P → v < P → cond b u v < P
+    either true u v g h = g
+    either false u v g h = h
 
-label : (n k : ℕ) → k < n → slice_index (range_with_len 0 n) k ≡ k
-label n k h = label_from 0 n k h ∙ omega arith
+low_part : (n : ℕ) (s : Assignment) (other : ℕ → ℕ) (small : (k : ℕ) → other k < P) (some : 0 < n) (k : ℕ) → k < n → (two_parts n s other small some).at k ≡ s.at k
+unfolding two_parts
+low_part n s other small some k l = ap (λ (b : Bool). cond b (other k) (s.at k)) (many n k l)
 
-pub means : (p : PlainProgram) (c : Circuit) → All (ConstraintBelow (1 + c.signals)) c.constraints
-    → ((s : Assignment) → Satisfies p s ↔ All (Holds s.at) c.constraints) → Means p (file_of c)
-means p c below satisfied w values = (
-  λ holds. (
-    record { at = slice_index w; one = values.one; below = values.below },
-    record { agrees = λ k h. ap (λ (n : ℕ). slice_index w n) (label (1 + c.signals) k h) },
-    (satisfied (record { at = slice_index w; one = values.one; below = values.below })).1 holds,
-  ),
-  λ found. λ k d h.
-      holds_agrees (1 + c.signals) found.0.at (slice_index w)
-      (λ n l. ap found.0.at (sym (label (1 + c.signals) n l)) ∙ found.1.agrees n l)
-      (slice_index_or c.constraints k d) (below k d h) ((satisfied found.0).0 found.2 k d h),
+high_part : (n : ℕ) (s : Assignment) (other : ℕ → ℕ) (small : (k : ℕ) → other k < P) (some : 0 < n) (k : ℕ) → n ≤ k → (two_parts n s other small some).at k ≡ other k
+unfolding two_parts
+high_part n s other small some k l = ap (λ (b : Bool). cond b (other k) (s.at k)) (few n k l)
+
+-- values of the wires satisfy the constraints over wires exactly when they extend, by the labels of the wires
+pub by_labels : (keeps : ℕ → Bool) (n : ℕ) (f : File) (list : List Constraint) → 0 < n → All (ConstraintBelow n) list → f.labels ≡ kept_below keeps n → f.wires ≡ length f.labels → WiresKeepSolutions keeps list f.constraints
+    → (w : List ℕ) → AreValues f w → All (Holds (slice_index w)) f.constraints ↔ ((s : Assignment) × Extends f w s × HoldAll s list)
+by_labels keeps n f list some below labels wires known w values = (forth, back)
+  where
+    wire_values : ℕ → ℕ
+    wire_values = slice_index w
+
+    laws : All (λ k. Holds wire_values k) f.constraints ↔ ((t : Assignment) × ((x : ℕ) → keeps x ≡ true → t.at x ≡ wire_values (wire_of keeps x)) × HoldAll t list)
+    laws = known wire_values values.one values.below
+
+    label : (x : ℕ) → x < n → keeps x ≡ true → slice_index f.labels (wire_of keeps x) ≡ x
+    label x l e = ap (λ (v : List ℕ). slice_index v (wire_of keeps x)) labels ∙ label_of keeps n x l e
+
+    forth : All (Holds wire_values) f.constraints → (s : Assignment) × Extends f w s × HoldAll s list
+    forth holds =
+        let found = laws.0 holds in (
+          found.0,
+          record {
+            agrees = λ wire l.
+                let at : Labels keeps n wire = labelled keeps n wire (omega (arith, l, wires, ap (λ (v : List ℕ). length v) labels)) in
+                ap (λ (i : ℕ). found.0.at (slice_index f.labels i)) (sym at.place)
+                ∙ ap found.0.at (label at.signal at.below at.kept)
+                ∙ found.1 at.signal at.kept ∙ ap wire_values at.place;
+          },
+          found.2,
+        )
+
+    back : (s : Assignment) × Extends f w s × HoldAll s list → All (Holds wire_values) f.constraints
+    back found = laws.1 (
+      whole,
+      λ x e. elim (cases_lt x n) [
+        | inl l ↦
+            low_part n found.0 (λ k. wire_values (wire_of keeps k)) small some x l
+            ∙ sym (ap found.0.at (label x l e))
+            ∙ found.1.agrees (wire_of keeps x) (omega (arith, place_below keeps n x l e, wires, ap (λ (v : List ℕ). length v) labels))
+        | inr l ↦ high_part n found.0 (λ k. wire_values (wire_of keeps k)) small some x l
+      ],
+      λ k d h. holds_agrees n found.0.at whole.at (λ x l. sym (low_part n found.0 (λ k. wire_values (wire_of keeps k)) small some x l)) (slice_index_or list k d) (below k d h) (found.2 k d h),
+    )
+      where
+        small : (k : ℕ) → wire_values (wire_of keeps k) < P
+        small k = values.below (wire_of keeps k)
+
+        whole : Assignment
+        whole = two_parts n found.0 (λ k. wire_values (wire_of keeps k)) small some
+
+pub means : (p : PlainProgram) (level : Level) (c : Circuit) (simple : Simple) (end : Simplified)
+    → All (IsGood (c.signals + 1)) c.constraints → All (ConstraintBelow (1 + c.signals)) c.constraints
+    → simplified (rules_of level c) c.constraints ≡ Ok end → IsOverWires (rules_of level c) end simple
+    → ((s : Assignment) → Satisfies p s ↔ All (Holds s.at) c.constraints) → Means p (file_of c simple)
+means p level c simple end good below ends wires satisfied w values = (
+  λ holds. let found = known.0 holds in (found.0, found.1, (satisfied found.0).1 found.2),
+  λ found. known.1 (found.0, found.1, (satisfied found.0).0 found.2),
 )
+  where
+    keeps : ℕ → Bool
+    keeps = is_kept level (c.outputs + c.inputs) end.list
+
+    law : WiresKeepSolutions keeps c.constraints simple.constraints
+    law = subst (WiresKeepSolutions keeps c.constraints) (sym wires.constraints) (over (rules_of level c) c.constraints end good ends)
+
+    known : All (Holds (slice_index w)) simple.constraints ↔ ((s : Assignment) × Extends (file_of c simple) w s × HoldAll s c.constraints)
+    known =
+        let same : c.signals + 1 ≡ 1 + c.signals = omega arith in
+        by_labels keeps (1 + c.signals) (file_of c simple) c.constraints (omega arith) below
+        (wires.wires ∙ ap (kept_below keeps) same) refl law w values
 
 told_map : (contents : Option Contents) (P Q : Contents → Type 0) → ((files : Contents) → P files → Q files) → Told contents P → Told contents Q
 told_map None P Q f h = tt
 told_map (Some files) P Q f h = f files h
 
 -- a source that isn't loaded isn't compiled
-pub not_loaded : (contents : Option Contents) (name : List ℕ) (library : Option (List ℕ)) (failed : Type 0) (r : Result File CompileFault) (f : LoadFault)
-    → IsErrAnd r (λ e. e ≡ of_load f) → Loads contents name library failed (Err f) → Compiles contents name library failed r
-not_loaded contents name library failed (Ok x) f h s = absurd h
-not_loaded contents name library failed (Err e) f h s = subst (λ (x : CompileFault). Compiles contents name library failed (Err x)) (sym h) (from f s)
+pub not_loaded : (contents : Option Contents) (task : Task) (failed : Type 0) (r : Result File CompileFault) (f : LoadFault)
+    → IsErrAnd r (λ e. e ≡ of_load f) → Loads contents task.name task.library failed (Err f) → Compiles contents task failed r
+not_loaded contents task failed (Ok x) f h s = absurd h
+not_loaded contents task failed (Err e) f h s = subst (λ (x : CompileFault). Compiles contents task failed (Err x)) (sym h) (from f s)
   where
-    from : (f : LoadFault) → Loads contents name library failed (Err f) → Compiles contents name library failed (Err (of_load f))
+    from : (f : LoadFault) → Loads contents task.name task.library failed (Err f) → Compiles contents task failed (Err (of_load f))
     from load.Missing s = s
-    from (load.Refused r) s = told_map contents (λ files. IsLoadFault files name library r) (λ files. IsRefused files name library r) (λ files l. inl l) s
+    from (load.Refused r) s = told_map contents (λ files. IsLoadFault files task.name task.library r) (λ files. IsRefused files task r) (λ files l. inl l) s
     from load.Fault s = s
     from load.OutOfMemory s = tt
 
 -- a program that isn't written
-pub not_written : (contents : Option Contents) (name : List ℕ) (library : Option (List ℕ)) (failed : Type 0) (program : Program) (r : Result File CompileFault) (f : CompileFault)
-    → IsErrAnd r (λ e. e ≡ f) → Told contents (λ files. IsLoaded files name library program) → Writes program (Err f) → Compiles contents name library failed r
-not_written contents name library failed program (Ok x) f h l w = absurd h
-not_written contents name library failed program (Err e) f h l w = subst (λ (x : CompileFault). Compiles contents name library failed (Err x)) (sym h) (from f w)
+pub not_written : (contents : Option Contents) (task : Task) (failed : Type 0) (program : Program) (r : Result File CompileFault) (f : CompileFault)
+    → IsErrAnd r (λ e. e ≡ f) → Told contents (λ files. IsLoaded files task.name task.library program) → Writes program task.level (Err f) → Compiles contents task failed r
+not_written contents task failed program (Ok x) f h l w = absurd h
+not_written contents task failed program (Err e) f h l w = subst (λ (x : CompileFault). Compiles contents task failed (Err x)) (sym h) (from f w)
   where
-    from : (f : CompileFault) → Writes program (Err f) → Compiles contents name library failed (Err f)
+    from : (f : CompileFault) → Writes program task.level (Err f) → Compiles contents task failed (Err f)
     from fault.Missing w = absurd w
-    from (fault.Refused r) w = told_map contents (λ files. IsLoaded files name library program) (λ files. IsRefused files name library r) (λ files k. inr (program, k, w)) l
+    from (fault.Refused r) w = told_map contents (λ files. IsLoaded files task.name task.library program) (λ files. IsRefused files task r) (λ files k. inr (program, k, w)) l
     from fault.Fault w = absurd w
     from fault.OutOfMemory w = tt
 
-pub compiled : (contents : Option Contents) (name : List ℕ) (library : Option (List ℕ)) (program : Program) (f : File)
-    → Told contents (λ files. IsLoaded files name library program) → IsWritten program f → Told contents (λ files. IsCompiled files name library f)
-compiled contents name library program f l w =
-    told_map contents (λ files. IsLoaded files name library program) (λ files. IsCompiled files name library f) (λ files k. record { program = program; loaded = k; written = w }) l
+pub compiled : (contents : Option Contents) (task : Task) (program : Program) (f : File)
+    → Told contents (λ files. IsLoaded files task.name task.library program) → IsWritten program task.level f → Told contents (λ files. IsCompiled files task f)
+compiled contents task program f l w =
+    told_map contents (λ files. IsLoaded files task.name task.library program) (λ files. IsCompiled files task f) (λ files k. record { program = program; loaded = k; written = w }) l

@@ -1,14 +1,16 @@
 -- What the compilation of a source answers.
-use Rattle.std.specs.Prelude.{◌≡◌, ℕ, List, [], Option, Some, None, Result, Ok, Err, ⊤, ◌⊎◌, slice_get, unwrap_or}
+use Rattle.std.specs.Prelude.{◌≡◌, ℕ, List, [], ◌∷◌, Option, Some, None, Result, Ok, Err, ⊤, ◌⊎◌, slice_get, unwrap_or, codes}
 use Rattle.out_io.specs.Contents.{Contents}
 use Rattle.iden_files.specs.File.{File}
 use Rattle.cir_ast.specs.declared.program.Program.{Program}
 use Rattle.cir_ast.specs.declared.plain_program.Program.{Program as PlainProgram}
+use Rattle.cir_ast.specs.declared.plain_program.Main.{Main}
 use Rattle.cir_ast.specs.declared.refusal.Refusal.{Refusal}
-use Rattle.cir_ast.specs.declared.refusal.Kind.TheVariants.{NotInProfile}
+use Rattle.cir_ast.specs.declared.refusal.Kind.{Kind}
+use Rattle.cir_ast.specs.declared.refusal.Kind.TheVariants.{NotInProfile, Limit}
+use Rattle.cir_ast.specs.declared.refusal.Which.TheVariants.{Terms}
 use Rattle.cir_ast.specs.declared.refusal.Form.TheVariants.{Unbuilt}
 use Rattle.cir_ast.specs.Placed.{seen_program}
-use Rattle.cir_sources.specs.Faults.{refusal_at}
 use Rattle.out_io.specs.Calls.{Told}
 use Rattle.cir_names.specs.Loading.{IsLoaded, IsLoadFault}
 use Rattle.cir_subset.specs.declared.site.Site.{Site}
@@ -17,29 +19,45 @@ use Rattle.cir_subset.specs.Whole.{whole_of}
 use Rattle.cir_inst.specs.declared.circuit.Circuit.{Circuit}
 use Rattle.cir_inst.specs.declared.circuit.InstFault.TheVariants.{Refused as NotInstantiated}
 use Rattle.cir_inst.specs.Compiled.{Instantiates}
+use Rattle.cir_simplify.specs.declared.types.Level.{Level}
+use Rattle.cir_simplify.specs.declared.types.Simple.{Simple}
+use Rattle.cir_simplify.specs.Answer.{Simplifies}
+use Rattle.cir_simplify.specs.Turn.{simplified}
 use Rattle.cir_compile.specs.declared.fault.CompileFault.{CompileFault}
 use Rattle.cir_compile.specs.declared.fault.CompileFault.TheVariants as fault
-use Rattle.cir_compile.specs.Written.{file_of, Means}
+use Rattle.cir_compile.specs.Written.{rules_of, file_of, Means}
 
 -- the plain program is the whole one, all of whose forms are built
 pub record IsBuilt (program : Program) (plain : PlainProgram) : Type 0 where
   pub same : whole_of plain ≡ seen_program program
   pub built : first_unbuilt (seen_program program) ≡ None
 
--- the program is a plain one, whose circuit is written as the file
-pub record IsWritten (program : Program) (f : File) : Type 0 where
+-- the program is a plain one, whose circuit, simplified at the level, is written as the file
+pub record IsWritten (program : Program) (level : Level) (f : File) : Type 0 where
   pub plain : PlainProgram
   pub built : IsBuilt program plain
   pub circuit : Circuit
   pub instantiated : Instantiates plain (Ok circuit)
-  pub file : f ≡ file_of circuit
+  pub simple : Simple
+  pub simplified : Simplifies (rules_of level circuit) circuit.constraints (Ok simple)
+  pub file : f ≡ file_of circuit simple
   pub means : Means plain f
+
+-- a refusal at a place among the program's files, with the path of an instance
+abbrev pub refusal_of : List (List ℕ) → Site → Kind → List ℕ → Refusal
+refusal_of files site kind path = record {
+  kind = kind;
+  place = record {
+    file = unwrap_or (slice_get files site.file) [];
+    line = site.line;
+    column = site.column;
+    path = path;
+  };
+}
 
 -- a form that isn't built, at its place among the program's files
 abbrev pub unbuilt_at : Program → Site → Refusal
-unbuilt_at program site =
-    refusal_at (unwrap_or (slice_get program.files site.file) []) (NotInProfile Unbuilt)
-    record { line = site.line; column = site.column }
+unbuilt_at program site = refusal_of program.files site (NotInProfile Unbuilt) (codes "-")
 
 -- the program has a form that isn't built, at the first of them
 pub record IsUnbuilt (program : Program) (r : Refusal) : Type 0 where
@@ -53,37 +71,65 @@ pub record IsMeaningless (program : Program) (r : Refusal) : Type 0 where
   pub built : IsBuilt program plain
   pub instantiated : Instantiates plain (Err (NotInstantiated r))
 
--- what the compilation of a program answers; want of memory is free
-abbrev pub Writes : Program → Result File CompileFault → Type 0
-Writes program (Ok f) = IsWritten program f
-Writes program (Err (fault.Refused r)) = IsUnbuilt program r ⊎ IsMeaningless program r
-Writes program (Err fault.Missing) = ⊥
-Writes program (Err fault.Fault) = ⊥
-Writes program (Err fault.OutOfMemory) = ⊤
+-- where the statement of the main component stands; a program with a circuit has just one
+abbrev pub main_site : List Main → Site
+main_site [] = record { file = 0; line = 1; column = 1 }
+main_site (main ∷ mains) = record { file = main.file; line = main.line; column = main.column }
 
--- the source of this name loads as a program that is written as the file
-pub record IsCompiled (files : Contents) (name : List ℕ) (library : Option (List ℕ)) (f : File)
-    : Type 0 where
+-- too many terms are refused at the statement of the main component, with their count
+abbrev pub terms_refusal : PlainProgram → ℕ → Refusal
+terms_refusal plain count =
+    refusal_of plain.files (main_site plain.mains) (Limit Terms count) (codes "main")
+
+-- the program is a plain one, and simplification at the level comes to too many terms
+pub record IsTooLarge (program : Program) (level : Level) (r : Refusal) : Type 0 where
+  pub plain : PlainProgram
+  pub built : IsBuilt program plain
+  pub circuit : Circuit
+  pub instantiated : Instantiates plain (Ok circuit)
+  pub count : ℕ
+  pub terms : simplified (rules_of level circuit) circuit.constraints ≡ Err count
+  pub refusal : r ≡ terms_refusal plain count
+
+-- why a program that is loaded is refused
+abbrev pub IsUnwritten : Program → Level → Refusal → Type 0
+IsUnwritten program level r =
+    IsUnbuilt program r ⊎ IsMeaningless program r ⊎ IsTooLarge program level r
+
+-- what the compilation of a program answers; want of memory is free
+abbrev pub Writes : Program → Level → Result File CompileFault → Type 0
+Writes program level (Ok f) = IsWritten program level f
+Writes program level (Err (fault.Refused r)) = IsUnwritten program level r
+Writes program level (Err fault.Missing) = ⊥
+Writes program level (Err fault.Fault) = ⊥
+Writes program level (Err fault.OutOfMemory) = ⊤
+
+-- what is compiled: the source's name, the folder of libraries if any, and the level
+pub record Task : Type 0 where
+  pub name : List ℕ
+  pub library : Option (List ℕ)
+  pub level : Level
+
+-- the source loads as a program that is written as the file
+pub record IsCompiled (files : Contents) (task : Task) (f : File) : Type 0 where
   pub program : Program
-  pub loaded : IsLoaded files name library program
-  pub written : IsWritten program f
+  pub loaded : IsLoaded files task.name task.library program
+  pub written : IsWritten program task.level f
 
 -- the source doesn't load, or its program is refused
-abbrev pub IsRefused : Contents → List ℕ → Option (List ℕ) → Refusal → Type 0
-IsRefused files name library r =
-    IsLoadFault files name library r
-    ⊎ ((program : Program) × IsLoaded files name library program
-    × (IsUnbuilt program r ⊎ IsMeaningless program r))
+abbrev pub IsRefused : Contents → Task → Refusal → Type 0
+IsRefused files task r =
+    IsLoadFault files task.name task.library r
+    ⊎ ((program : Program) × IsLoaded files task.name task.library program
+    × IsUnwritten program task.level r)
 
 -- over the contents of a store, where it tells them; it fails only where the store did, and want of
 -- memory is free
-abbrev pub Compiles
-    : Option Contents → List ℕ → Option (List ℕ) → Type 0 → Result File CompileFault → Type 0
-Compiles contents name library failed (Ok f) =
-    Told contents (λ files. IsCompiled files name library f)
-Compiles contents name library failed (Err (fault.Refused r)) =
-    Told contents (λ files. IsRefused files name library r)
-Compiles contents name library failed (Err fault.Missing) =
-    Told contents (λ files. files name ≡ None)
-Compiles contents name library failed (Err fault.Fault) = failed
-Compiles contents name library failed (Err fault.OutOfMemory) = ⊤
+abbrev pub Compiles : Option Contents → Task → Type 0 → Result File CompileFault → Type 0
+Compiles contents task failed (Ok f) = Told contents (λ files. IsCompiled files task f)
+Compiles contents task failed (Err (fault.Refused r)) =
+    Told contents (λ files. IsRefused files task r)
+Compiles contents task failed (Err fault.Missing) =
+    Told contents (λ files. files task.name ≡ None)
+Compiles contents task failed (Err fault.Fault) = failed
+Compiles contents task failed (Err fault.OutOfMemory) = ⊤

@@ -1,6 +1,5 @@
 -- The file that a circuit is written as, and what its values mean for the source.
 use Rattle.std.specs.Prelude.{◌≡◌, ◌↔◌, ℕ, ◌+◌, ◌<◌, List, length, All, slice_index}
-use Rattle.std.specs.List.{range_with_len}
 use Rattle.gold_field.specs.Form.{Holds}
 use Rattle.gold_field.specs.declared.gold.TheConstants.{P}
 use Rattle.iden_files.specs.File.{File}
@@ -8,17 +7,25 @@ use Rattle.cir_ast.specs.declared.plain_program.Program.{Program}
 use Rattle.cir_lc.specs.Number.{Assignment}
 use Rattle.cir_inst.specs.declared.circuit.Circuit.{Circuit}
 use Rattle.cir_inst.specs.Meaning.Program.{Satisfies}
+use Rattle.cir_simplify.specs.declared.types.Level.{Level}
+use Rattle.cir_simplify.specs.declared.types.Rules.{Rules}
+use Rattle.cir_simplify.specs.declared.types.Simple.{Simple}
 
--- every signal is a wire, and its label is its number; all inputs are private
-abbrev pub file_of : Circuit → File
-file_of c = record {
-  wires = 1 + c.signals;
+-- signals 1 to outputs + inputs are main's own, and are never eliminated
+abbrev pub rules_of : Level → Circuit → Rules
+rules_of level c = record { level = level; kept = c.outputs + c.inputs; bound = c.signals + 1 }
+
+-- the wires are the signals that simplification keeps, and the label of each is its number; all
+-- inputs are private
+abbrev pub file_of : Circuit → Simple → File
+file_of c simple = record {
+  wires = length simple.wires;
   outputs = c.outputs;
   public_inputs = 0;
   private_inputs = c.inputs;
   label_count = 1 + c.signals;
-  labels = range_with_len 0 (1 + c.signals);
-  constraints = c.constraints;
+  labels = simple.wires;
+  constraints = simple.constraints;
 }
 
 -- values of the wires: numbers of the field, with 1 at wire 0

@@ -3,30 +3,34 @@ ghost use Rattle.std.specs.Option.{option_copied};
 ghost use Rattle.out_io.specs.Faults.{Rose};
 ghost use Rattle.iden_files.specs.File.{InLimits};
 ghost use Rattle.out_io.specs.Calls.{OnlyReads};
-ghost use Rattle.cir_compile.specs.Compiled.{Compiles, Writes, unbuilt_at};
+ghost use Rattle.cir_compile.specs.Compiled.{Compiles, Writes, main_site, refusal_of};
 
 use crate::fault::CompileFault;
 use crate::file::file_of;
+use cir_ast::plain_program::Main;
 use cir_ast::program::Program;
-use cir_ast::{Form, Kind, Place, Refusal, Text};
+use cir_ast::{Form, Kind, Place, Refusal, Text, Which};
 use cir_inst::instantiate;
 use cir_names::load;
+use cir_simplify::{Level, SimpFault, simplify};
 use cir_subset::{Site, converted, unbuilt};
 use iden_files::R1cs;
 use out_io::Store;
 use std::alloc::{AllocError, Global};
 
 /// The file of the constraints of the source of this name with all that it includes, beside it or in
-/// the folder of libraries; or its first refusal.
+/// the folder of libraries, simplified at the level; or its first refusal.
 pub fn compile<S: Store>(
     alloc: Global,
     store: &mut S,
     name: &str,
     library: Option<&str>,
+    level: Level,
 ) -> Result<R1cs, CompileFault>
     // The file is that of the program that the source means. Values satisfy it exactly when they
     // extend, by the labels of its wires, to an assignment that satisfies the program.
-    ensures compiles { Compiles (S.contents store.old) name.now (option_copied library.entry)
+    ensures compiles { Compiles (S.contents store.old)
+        record { name = name.now; library = option_copied library.entry; level = level }
         (Rose (S.faults store.old) (S.faults store.new)) result }
     ensures limits { IfOk result InLimits }
     ensures store { OnlyReads (S.contents store.old) (S.contents store.new)
@@ -34,38 +38,60 @@ pub fn compile<S: Store>(
         (S.never_fails store.old) (S.never_fails store.new) }
 {
     let program = load(alloc, store, name, library)?;
-    let file = written(alloc, program)?;
+    let file = written(alloc, program, level)?;
     Ok(file)
 }
 
 /// The file of the constraints of a program.
-fn written(alloc: Global, program: Program) -> Result<R1cs, CompileFault>
-    ensures writes { Writes program result }
+fn written(alloc: Global, program: Program, level: Level) -> Result<R1cs, CompileFault>
+    ensures writes { Writes program level result }
     ensures limits { IfOk result InLimits }
 {
     if let Some(site) = unbuilt(&program) {
-        let refusal = unbuilt_refusal(alloc, &program, site)?;
+        let kind = Kind::NotInProfile {
+            form: Form::Unbuilt,
+        };
+        let refusal = refusal_at(alloc, program.files.as_slice(), site, kind, b"-")?;
         return Err(CompileFault::Refused(refusal));
     }
     let plain = converted(alloc, program)?;
     let circuit = instantiate(alloc, &plain)?;
-    let file = file_of(alloc, circuit)?;
+    let list = circuit.constraints.as_slice();
+    let own = circuit.outputs + circuit.inputs;
+    let simple = match simplify(alloc, list, circuit.signals, own, level) {
+        Ok(simple) => simple,
+        Err(SimpFault::Terms { count }) => {
+            let kind = Kind::Limit {
+                which: Which::Terms,
+                count,
+            };
+            let site = main_site(plain.mains.as_slice());
+            let refusal = refusal_at(alloc, plain.files.as_slice(), site, kind, b"main")?;
+            return Err(CompileFault::Refused(refusal));
+        }
+        Err(SimpFault::OutOfMemory) => return Err(CompileFault::OutOfMemory),
+    };
+    let file = file_of(alloc, &circuit, simple)?;
     Ok(file)
 }
 
-/// The refusal of a form that isn't built.
-fn unbuilt_refusal(alloc: Global, program: &Program, site: Site) -> Result<Refusal, AllocError>
-    ensures { IfOk result (λ r. r ≡ unbuilt_at program.now site) }
+/// The refusal of this kind at a site of the program, with the path of an instance.
+fn refusal_at(
+    alloc: Global,
+    files: &[Text],
+    site: Site,
+    kind: Kind,
+    path: &[u8],
+) -> Result<Refusal, AllocError>
+    ensures { IfOk result (λ r. r ≡ refusal_of files.now site kind path.now) }
 {
-    let file = match program.files.get(site.file as usize) {
+    let file = match files.get(site.file as usize) {
         Some(name) => Text::from_slice(alloc, name.as_slice())?,
         None => Text::new(alloc),
     };
-    let path = Text::from_slice(alloc, b"-")?;
+    let path = Text::from_slice(alloc, path)?;
     Ok(Refusal {
-        kind: Kind::NotInProfile {
-            form: Form::Unbuilt,
-        },
+        kind,
         place: Place {
             file,
             line: site.line,
@@ -73,4 +99,22 @@ fn unbuilt_refusal(alloc: Global, program: &Program, site: Site) -> Result<Refus
             path,
         },
     })
+}
+
+/// Where the statement of the main component stands.
+fn main_site(mains: &[Main]) -> Site
+    ensures { result ≡ main_site mains.now }
+{
+    match mains {
+        [main, ..] => Site {
+            file: main.file,
+            line: main.line,
+            column: main.column,
+        },
+        [] => Site {
+            file: 0,
+            line: 1,
+            column: 1,
+        },
+    }
 }

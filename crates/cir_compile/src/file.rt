@@ -1,45 +1,44 @@
-ghost use Rattle.std.specs.Prelude.{◌≡◌, IfOk};
-ghost use Rattle.std.specs.List.{range_with_len};
-ghost use Rattle.iden_files.specs.File.{InLimits};
-ghost use Rattle.cir_inst.specs.Compiled.{IsWithinLimits};
+ghost use Rattle.std.specs.Prelude.{◌≡◌, ◌≤◌, IfOk};
+ghost use Rattle.iden_files.specs.File.{IsFile, InLimits};
 ghost use Rattle.cir_compile.specs.Written.{file_of};
 
 use cir_inst::Circuit;
+use cir_simplify::Simple;
 use iden_files::R1cs;
 use items::Items;
 use std::alloc::{AllocError, Global};
 
-/// The file of a circuit: every signal is a wire, and its label is its number.
-pub fn file_of(alloc: Global, circuit: Circuit) -> Result<R1cs, AllocError>
-    requires { IsWithinLimits circuit }
-    ensures file { IfOk result (λ f. f ≡ file_of circuit) }
-    ensures limits { IfOk result InLimits }
+/// The file of a circuit: the kept signals are the wires, and the label of each is its number.
+pub fn file_of(alloc: Global, circuit: &Circuit, simple: Simple) -> Result<R1cs, AllocError>
+    requires few { circuit.now.signals ≤ 1048575 }
+    requires file { IsFile (file_of circuit.now simple) }
+    requires limits { InLimits (file_of circuit.now simple) }
+    ensures { IfOk result (λ f. f ≡ file_of circuit.now simple) }
 {
-    let Circuit {
-        outputs,
-        inputs,
-        signals,
+    let Simple {
         constraints,
-    } = circuit;
-    let wires = 1 + signals;
-    let labels = wire_numbers(alloc, wires)?;
-    Ok(R1cs {
         wires,
-        outputs,
+        solved: _,
+    } = simple;
+    let labels = labels_of(alloc, wires.as_slice())?;
+    Ok(R1cs {
+        wires: labels.len() as u32,
+        outputs: circuit.outputs,
         public_inputs: 0,
-        private_inputs: inputs,
-        label_count: u64::from(wires),
+        private_inputs: circuit.inputs,
+        label_count: 1 + u64::from(circuit.signals),
         labels: Items::of(labels),
         constraints,
     })
 }
 
-fn wire_numbers(alloc: Global, wires: u32) -> Result<Vec<u64>, AllocError>
-    ensures { IfOk result (λ v. v.items ≡ range_with_len 0 wires) }
+/// The numbers of the signals, as wide as a file has them.
+fn labels_of(alloc: Global, signals: &[u32]) -> Result<Vec<u64>, AllocError>
+    ensures { IfOk result (λ v. v.items ≡ signals.now) }
 {
-    let mut labels = Vec::with_capacity(alloc, wires as usize)?;
-    for i in 0..wires {
-        labels.push(u64::from(i))?;
+    let mut labels = Vec::with_capacity(alloc, signals.len())?;
+    for signal in signals {
+        labels.push(u64::from(*signal))?;
     }
     Ok(labels)
 }

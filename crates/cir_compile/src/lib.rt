@@ -5,5 +5,6 @@ mod compiling;
 mod fault;
 mod file;
 
+pub use cir_simplify::Level;
 pub use compiling::compile;
 pub use fault::CompileFault;

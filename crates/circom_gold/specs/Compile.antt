@@ -10,7 +10,7 @@ use Rattle.cir_ast.specs.declared.plain_program.Program.{Program as PlainProgram
 use Rattle.cir_lc.specs.Number.{Assignment}
 use Rattle.cir_names.specs.Loading.{IsLoaded}
 use Rattle.cir_inst.specs.Meaning.Program.{Satisfies}
-use Rattle.cir_compile.specs.Compiled.{IsBuilt, IsCompiled, IsRefused}
+use Rattle.cir_compile.specs.Compiled.{Task, IsBuilt, IsCompiled, IsRefused}
 use Rattle.cir_compile.specs.Written.{AreValues}
 use Rattle.circom_gold.specs.Words.{Options}
 use Rattle.circom_gold.specs.declared.answer.Refusal.{Refusal}
@@ -18,14 +18,22 @@ use Rattle.circom_gold.specs.declared.answer.Refusal.TheVariants.{NoSuchFile, Ba
 use Rattle.circom_gold.specs.declared.stop.Stop.{Stop}
 use Rattle.circom_gold.specs.declared.stop.Stop.TheVariants.{Refused, StoreFailed, OutOfMemory}
 
+-- the source is compiled with these options
+abbrev pub task_of : List ℕ → Options → Task
+task_of source options = record {
+  name = source;
+  library = options.folder;
+  level = options.level;
+}
+
 -- what the source under the name, with all that it includes, compiles to: the file of its
 -- constraints; or there is no source under the name, or the refusal of the source
 abbrev pub Compiles : Contents → List ℕ → Options → Result File Refusal → Type 0
-Compiles files source options (Ok f) = IsCompiled files source options.folder f
+Compiles files source options (Ok f) = IsCompiled files (task_of source options) f
 Compiles files source options (Err (NoSuchFile missing)) =
     (files source ≡ None) × (missing ≡ source)
 Compiles files source options (Err (BadSource refusal)) =
-    IsRefused files source options.folder refusal
+    IsRefused files (task_of source options) refusal
 Compiles files source options (Err (BadFile name cause offset)) = ⊥
 
 -- what reading and compiling the source gave; it failed only where the store did, and want of

@@ -60,7 +60,7 @@ fn source_in<S: Store>(
         (S.faults store.old) (S.faults store.new)
         (S.never_fails store.old) (S.never_fails store.new) }
 {
-    match cir_compile::compile(alloc, store, name, options.folder) {
+    match cir_compile::compile(alloc, store, name, options.folder, options.level) {
         Ok(file) => Ok(file),
         Err(CompileFault::Missing) => Err(Stop::Refused(Refusal::NoSuchFile {
             name: Items::from_slice(alloc, name.as_bytes())?,

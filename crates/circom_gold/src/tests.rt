@@ -221,6 +221,11 @@ fn words_without_a_reading_get_the_usage_line(rt: HostRuntime) -> Result<(), Fai
         "check m.r1cs m.wtns --version",
         "compile t.circom m.r1cs --unknown",
         "compile t.circom m.r1cs -l -h",
+        "compile t.circom m.r1cs --O0 --O1",
+        "compile --O1 t.circom m.r1cs --O2",
+        "compile t.circom m.r1cs --O2 --O2",
+        "compile t.circom m.r1cs --O3",
+        "check m.r1cs m.wtns --O1",
     ] {
         let words = split(alloc, words)?;
         let mut store = store(alloc, &R1CS, &[1, 33, 3, 11])?;
@@ -297,6 +302,33 @@ fn line_of(alloc: Global, source: &str) -> Result<Vec<u8>, Fail> {
         return Err(Fail::new("the status and the line disagree"));
     }
     Ok(out.bytes)
+}
+
+const SQUARE: &str = "template T() {
+  signal input a; signal input b; signal output c; signal s; signal t;
+  s <== a + b; t <== s; c <== t*t;
+}
+component main = T();
+";
+
+// Without a level the answer is that of `--O1`, which makes s and t one wire; `--O2` leaves neither.
+#[test]
+fn a_level_solves_what_the_one_below_leaves(rt: HostRuntime) -> Result<(), Fail> {
+    for (words, source, line) in [
+        (" --O0", SQUARE, "compiled: wires 6, constraints 3\n"),
+        (" --O1", SQUARE, "compiled: wires 5, constraints 2\n"),
+        ("", SQUARE, "compiled: wires 5, constraints 2\n"),
+        (" --O2", SQUARE, "compiled: wires 4, constraints 1\n"),
+        (" --O2", DIFFERENT, "compiled: wires 3, constraints 2\n"),
+        (" --O0 -l inc", PRODUCT, "compiled: wires 4, constraints 1\n"),
+        (" --O1", PRODUCT, "compiled: wires 4, constraints 1\n"),
+    ] {
+        let alloc = rt.alloc();
+        let words = format!(in alloc; "compile t.circom m.r1cs{words}")?;
+        let said = line_over(alloc, words.as_str(), &[("t.circom", source)])?;
+        assert_eq!(rt; said.as_slice(), line.as_bytes(), "{words}");
+    }
+    Ok(())
 }
 
 #[test]

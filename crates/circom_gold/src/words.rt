@@ -1,16 +1,19 @@
 ghost use Rattle.std.specs.Prelude.{◌≡◌, true, IfOk, option_map};
 ghost use Rattle.clap.specs.Faults.{is_simple_and_free};
 ghost use Rattle.clap.specs.Simple.{app_of};
-ghost use Rattle.circom_gold.specs.Words.{texts, found, given, folder, check_form, compile_form, check_in, compile_in, options_in, meant_options};
+ghost use Rattle.circom_gold.specs.Words.{texts, found, given, folder, flag, check_form, compile_form, with_files, with_levels, check_in, compile_in, compile_with, is_set, level_in, options_in, meant_options};
 ghost use Rattle.circom_gold.specs.Matches.{rows_in, IsArg};
 
+use cir_compile::Level;
 use clap::error::ErrorKind;
-use clap::{Arg, ArgMatches};
+use clap::{Arg, ArgAction, ArgMatches};
 use std::alloc::{AllocError, Global};
 
 /// What the options of a command say.
 #[derive(Clone, Copy, Debug, PartialEq, Eq)]
 pub struct Options<'w> {
+    /// Which linear constraints are solved.
+    pub level: Level,
     /// The folder of `-l`, in which included files are looked for too.
     pub folder: Option<&'w str>,
 }
@@ -78,7 +81,16 @@ impl<'w> Command<'w> {
     fn compile_in(matches: &ArgMatches<'w>) -> Option<Command<'w>>
         ensures { option_map meant result ≡ compile_in (rows_in matches.now) }
     {
-        let options = options_in(matches);
+        match options_in(matches) {
+            None => None,
+            Some(options) => Command::compile_with(matches, options),
+        }
+    }
+
+    fn compile_with(matches: &ArgMatches<'w>, options: Options<'w>) -> Option<Command<'w>>
+        ensures { option_map meant result
+            ≡ compile_with (rows_in matches.now) (meant_options options.entry) }
+    {
         let source = matches.get_str("SRC")?;
         let out = matches.get_str("OUT")?;
         Some(Command::Compile {
@@ -89,12 +101,44 @@ impl<'w> Command<'w> {
     }
 }
 
+// Two levels have no reading.
 #[tactic(auto, using(crate::proofs::Forms::first_rows))]
-fn options_in<'w>(matches: &ArgMatches<'w>) -> Options<'w>
-    ensures { meant_options result ≡ options_in (rows_in matches.now) }
+fn options_in<'w>(matches: &ArgMatches<'w>) -> Option<Options<'w>>
+    ensures { option_map meant_options result ≡ options_in (rows_in matches.now) }
 {
-    Options {
-        folder: matches.get_str("DIR"),
+    match level_in(matches) {
+        None => None,
+        Some(level) => Some(Options {
+            level,
+            folder: matches.get_str("DIR"),
+        }),
+    }
+}
+
+fn level_in(matches: &ArgMatches<'_>) -> Option<Level>
+    ensures { result ≡ level_in (rows_in matches.now) }
+{
+    match (
+        is_set(matches, "O0"),
+        is_set(matches, "O1"),
+        is_set(matches, "O2"),
+    ) {
+        (true, false, false) => Some(Level::O0),
+        (false, true, false) => Some(Level::O1),
+        (false, false, true) => Some(Level::O2),
+        (false, false, false) => Some(Level::O1),
+        _ => None,
+    }
+}
+
+// Whether the flag stands among the words.
+#[tactic(auto, using(crate::proofs::Forms::first_rows))]
+fn is_set(matches: &ArgMatches<'_>, name: &str) -> bool
+    ensures { result ≡ is_set name.now (rows_in matches.now) }
+{
+    match matches.get_str(name) {
+        Some(text) => text == "true",
+        None => false,
     }
 }
 
@@ -112,6 +156,13 @@ fn folder<'w>(alloc: Global) -> Arg<'w>
     Arg::new(alloc, "DIR").short('l')
 }
 
+// `--NAME`, without a value.
+fn flag<'w>(alloc: Global, name: &'static str) -> Arg<'w>
+    ensures { IsArg (flag name.entry.now) result }
+{
+    Arg::new(alloc, name).long(name).action(ArgAction::SetTrue)
+}
+
 // `check R1CS WTNS`
 fn check_form<'w>(alloc: Global) -> Result<clap::Command<'w>, AllocError>
     ensures { IfOk result (λ form. app_of form ≡ check_form) }
@@ -122,14 +173,32 @@ fn check_form<'w>(alloc: Global) -> Result<clap::Command<'w>, AllocError>
     Ok(form)
 }
 
-// `compile SRC OUT [-l DIR]`
+// `compile SRC OUT [--O0, --O1 or --O2] [-l DIR]`
+#[tactic(auto, unfolding(crate::specs::Words::compile_form))]
 fn compile_form<'w>(alloc: Global) -> Result<clap::Command<'w>, AllocError>
-    ensures { IfOk result (λ form. app_of form ≡ compile_form) }
+    ensures form { IfOk result (λ form. app_of form ≡ compile_form) }
+    ensures simple { IfOk result (λ form. is_simple_and_free (app_of form) ≡ true) }
+{
+    let form = with_levels(alloc)?.arg(folder(alloc))?;
+    Ok(form)
+}
+
+fn with_levels<'w>(alloc: Global) -> Result<clap::Command<'w>, AllocError>
+    ensures { IfOk result (λ form. app_of form ≡ with_levels) }
+{
+    let form = with_files(alloc)?
+        .arg(flag(alloc, "O0"))?
+        .arg(flag(alloc, "O1"))?
+        .arg(flag(alloc, "O2"))?;
+    Ok(form)
+}
+
+fn with_files<'w>(alloc: Global) -> Result<clap::Command<'w>, AllocError>
+    ensures { IfOk result (λ form. app_of form ≡ with_files) }
 {
     let form = clap::Command::new(alloc, "compile")
         .arg(given(alloc, "SRC"))?
-        .arg(given(alloc, "OUT"))?
-        .arg(folder(alloc))?;
+        .arg(given(alloc, "OUT"))?;
     Ok(form)
 }
 

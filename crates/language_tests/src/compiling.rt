@@ -1,6 +1,6 @@
 use crate::loading::store_of;
 use cir_ast::{Form, Kind, Refusal};
-use cir_compile::{CompileFault, compile};
+use cir_compile::{CompileFault, Level, compile};
 use iden_files::write_r1cs;
 use std::alloc::Global;
 use std::test::Fail;
@@ -32,7 +32,7 @@ static PRODUCT_FILE: [u8; 168] = [
 fn a_product_is_written(rt: HostRuntime) -> Result<(), Fail> {
     let alloc = rt.alloc();
     let mut store = store_of(alloc, PRODUCT)?;
-    let file = compile(alloc, &mut store, "t.circom", None)?;
+    let file = compile(alloc, &mut store, "t.circom", None, Level::O0)?;
     let bytes = write_r1cs(alloc, &file)?;
     assert!(rt; bytes.as_slice() == PRODUCT_FILE.as_slice());
     Ok(())
@@ -45,7 +45,7 @@ fn refusal(alloc: Global, statements: &str) -> Result<Refusal, Fail> {
     source.push_str(statements)?;
     source.push_str("\n}\ncomponent main = T();\n")?;
     let mut store = store_of(alloc, source.as_str())?;
-    match compile(alloc, &mut store, "t.circom", None) {
+    match compile(alloc, &mut store, "t.circom", None, Level::O0) {
         Err(CompileFault::Refused(refusal)) => Ok(refusal),
         _ => Err(Fail::new("not refused")),
     }

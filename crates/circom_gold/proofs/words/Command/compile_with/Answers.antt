@@ -1,28 +1,26 @@
 use Rattle.std.proofs.Common.{rules, ◌≡◌, None, codes}
 use Rattle.clap.specs.Matches.{found_of}
-use Rattle.circom_gold.specs.Matches.{rows_in}
-use Rattle.circom_gold.specs.Words.{compile, options_in}
+use Rattle.circom_gold.specs.Words.{compile, meant_options}
 use Rattle.circom_gold.proofs.Forms.{no_first, no_second, both_found}
-use Rattle.circom_gold.proofs.words.Command.compile_in.Goals as goal
+use Rattle.circom_gold.proofs.words.Command.compile_with.Goals as goal
 
 pub returns-in_err-source : goal.returns-in_err-source
 returns-in_err-source c =
     let none : c.from_residual.result ≡ None = search rules in
     rw none
-    (no_first (λ source out. compile source out (options_in (rows_in c.args.matches.now)))
+    (no_first (λ source out. compile source out (meant_options c.args.options))
     (found_of c.args.matches.now) (codes "SRC") (codes "OUT") c.in_err-source.ensures)
 
 pub returns-in_err-out : goal.returns-in_err-out
 returns-in_err-out c =
     let none : c.from_residual-in_err-out.result ≡ None = search rules in
     rw none
-    (no_second (λ source out. compile source out (options_in (rows_in c.args.matches.now)))
+    (no_second (λ source out. compile source out (meant_options c.args.options))
     (found_of c.args.matches.now) (codes "SRC") (codes "OUT") c.in_ok-source.source.now
     c.in_ok-source.ensures c.in_err-out.ensures)
 
 pub returns : goal.returns
 returns c =
-    rw c.options_in-options.ensures
-    (both_found (λ source out. compile source out (options_in (rows_in c.args.matches.now)))
+    both_found (λ source out. compile source out (meant_options c.args.options))
     (found_of c.args.matches.now) (codes "SRC") (codes "OUT") c.in_ok-source.source.now
-    c.in_ok-out.out.now c.in_ok-source.ensures c.in_ok-out.ensures)
+    c.in_ok-out.out.now c.in_ok-source.ensures c.in_ok-out.ensures
