@@ -1,10 +1,11 @@
-use Rattle.std.proofs.Common.{◌∙◌, List, ℕ, Option, subst}
+use Rattle.std.proofs.Common.{◌∙◌, List, ℕ, Option, refl, subst}
 use Rattle.out_io.specs.Calls.{Course, course}
 use Rattle.out_io.specs.Contents.{Contents}
 use Rattle.circom_gold.specs.Reply.{Answers}
+use Rattle.circom_gold.specs.Run.{Writing}
 use Rattle.circom_gold.specs.Shown.{shown}
 use Rattle.circom_gold.specs.Words.{Command, command_of, texts}
-use Rattle.circom_gold.proofs.Replies.{stays_said, success_written}
+use Rattle.circom_gold.proofs.Replies.{stays_said, stays_wanting, success_written}
 use Rattle.circom_gold.proofs.program.run.Goals as goal
 
 pub returns-in-Ok-clause-kept : goal.returns-in-Ok-clause-kept
@@ -30,3 +31,18 @@ returns-in-Ok-clause-compiled g c = λ source out options is.
     (g.S.Store.contents c.answered.new.store) sink source options out (shown c.in-Ok.reply)
     (c.in-Ok.ensures.compiled source out options (c.in_ok-command.ensures ∙ is))
     c.in-Ok.ensures.files c.put_text.ensures.puts
+
+pub returns-in_err-reply-in-Err-Failed-clause-kept :
+    goal.returns-in_err-reply-in-Err-Failed-clause-kept
+returns-in_err-reply-in-Err-Failed-clause-kept g c =
+    let store : Course Contents =
+    course (g.S.Store.contents c.args.store.now) (g.S.Store.contents c.answered.new.store)
+    (g.S.Store.faults c.args.store.now) (g.S.Store.faults c.answered.new.store) in
+    let sink : Course (List ℕ) =
+    course (g.K.Sink.contents c.args.out.now) (g.K.Sink.contents c.args.out.now)
+    (g.K.Sink.faults c.args.out.now) (g.K.Sink.faults c.args.out.now) in
+    stays_wanting (command_of (texts c.args.words.now)) store sink
+    (subst
+    (λ (x : Option Command). Writing x (g.S.Store.contents c.args.store.now)
+    (g.S.Store.contents c.answered.new.store)) c.in_ok-command.ensures c.in-Err-Failed.ensures.kept)
+    refl
