@@ -14,7 +14,7 @@ use Rattle.cir_inst.specs.declared.circuit.Circuit.{Circuit}
 use Rattle.cir_inst.specs.Compiled.{Instantiates, IsWithinLimits}
 use Rattle.cir_simplify.specs.declared.types.Level.{Level}
 use Rattle.cir_simplify.specs.declared.types.Simple.{Simple}
-use Rattle.cir_simplify.specs.Answer.{IsOverWires}
+use Rattle.cir_simplify.specs.Answer.{IsOverWires, Simplifies}
 use Rattle.cir_simplify.specs.Index.{IsGood}
 use Rattle.cir_simplify.specs.Turn.{Simplified, simplified}
 use Rattle.cir_simplify.specs.Wires.{is_kept, is_left, keeps_all, kept_below, wire_of, renamed_in}
@@ -24,31 +24,46 @@ use Rattle.cir_compile.specs.Written.{rules_of, file_of}
 use Rattle.cir_compile.proofs.Simplified.{Fine, stays_fine, same_terms, list_below, left_is_kept, or_left, or_right}
 use Rattle.cir_compile.proofs.Wires.{few_kept, all_kept, place_below}
 
-normal_form : (o p : Option ℕ) (a b : List Term) (k : Constraint) → constant_of a ≡ o → constant_of b ≡ p → k.a ≡ kept_of o p a → k.b ≡ kept_of o p b → IsNormalForm k
+normal_form : (o p : Option ℕ) (a b : List Term) (k : Constraint) → constant_of a ≡ o
+    → constant_of b ≡ p → k.a ≡ kept_of o p a → k.b ≡ kept_of o p b → IsNormalForm k
 normal_form (Some x) p a b k e f g h = inl (g, h)
 normal_form None (Some y) a b k e f g h = inl (g, h)
 normal_form None None a b k e f g h = inr (ap constant_of g ∙ e, ap constant_of h ∙ f)
 
 good_of : (n : ℕ) (e : Equation) (k : Constraint) → IsConstraintOf n e k → IsGood n k
 good_of n e k c = record {
-  normal = normal_form (constant_of c.quad.a) (constant_of c.quad.b) c.quad.a c.quad.b k refl refl c.normal.left c.normal.right;
+  normal = normal_form (constant_of c.quad.a)
+      (constant_of c.quad.b) c.quad.a c.quad.b k refl refl c.normal.left c.normal.right;
   rises = (c.rises_left, c.rises_right, c.rises_product);
   within = c.within_constraint;
 }
 
-source_good : (n : ℕ) (es : List Equation) (ks : List Constraint) → IsSource n es ks → All (IsGood n) ks
+source_good : (n : ℕ) (es : List Equation) (ks : List Constraint) → IsSource n es ks
+    → All (IsGood n) ks
 source_good n [] [] s = All-nil (IsGood n)
 source_good n [] (k ∷ ks) s = absurd s
 source_good n (e ∷ es) [] s = absurd s
-source_good n (e ∷ es) (k ∷ ks) s = All-cons (IsGood n) k ks (good_of n e k s.0) (source_good n es ks s.1)
+source_good n (e ∷ es) (k ∷ ks) s = All-cons (IsGood n) k ks (good_of n e k s.0)
+    (source_good n es ks s.1)
 
-pub circuit_good : (p : PlainProgram) (c : Circuit) → Instantiates p (Ok c) → All (IsGood (c.signals + 1)) c.constraints
+pub circuit_good : (p : PlainProgram) (c : Circuit) → Instantiates p (Ok c)
+    → All (IsGood (c.signals + 1)) c.constraints
 circuit_good p c (m, h, is) =
     let same : 1 + m.signals ≡ c.signals + 1 = omega (arith, is.signals) in
-    subst (λ (n : ℕ). All (IsGood n) c.constraints) same (source_good (1 + m.signals) m.equations c.constraints is.source)
+    subst (λ (n : ℕ). All (IsGood n) c.constraints) same
+    (source_good (1 + m.signals) m.equations c.constraints is.source)
 
-pub is_file : (level : Level) (c : Circuit) (simple : Simple) (end : Simplified) → All (IsGood (c.signals + 1)) c.constraints
-    → IsWithinLimits c → simplified (rules_of level c) c.constraints ≡ Ok end → IsOverWires (rules_of level c) end simple
+-- what simplification of the list gave, as that of the circuit's
+pub of_circuit : (level : Level) (c : Circuit) (list : List Constraint) (simple : Simple)
+    → list ≡ c.constraints → Simplifies (rules_of level c) list (Ok simple)
+    → Simplifies (rules_of level c) c.constraints (Ok simple)
+of_circuit level c list simple same given = subst
+    (λ (ks : List Constraint). Simplifies (rules_of level c) ks (Ok simple)) same given
+
+pub is_file : (level : Level) (c : Circuit) (simple : Simple) (end : Simplified)
+    → All (IsGood (c.signals + 1)) c.constraints
+    → IsWithinLimits c → simplified (rules_of level c) c.constraints ≡ Ok end
+    → IsOverWires (rules_of level c) end simple
     → IsFile (file_of c simple)
 is_file level c simple end good limits ends over = record {
   labelled = refl;
@@ -57,8 +72,13 @@ is_file level c simple end good limits ends over = record {
       (λ x l e. omega (arith, place_below keeps (c.signals + 1) x l e, count))
       (λ x e. left_is_kept level (c.outputs + c.inputs) x end.list e));
   numbered =
-      omega
-      (arith, all_kept keeps (c.outputs + c.inputs + 1) own, wire_less keeps (c.outputs + c.inputs + 1) (c.signals + 1) (omega (arith, limits.public)), count);
+      omega (
+        arith,
+        all_kept keeps (c.outputs + c.inputs + 1) own,
+        wire_less keeps (c.outputs + c.inputs + 1) (c.signals + 1)
+            (omega (arith, limits.public)),
+        count,
+      );
 }
   where
     keeps : ℕ → Bool
@@ -71,17 +91,36 @@ is_file level c simple end good limits ends over = record {
     count = ap (λ (v : List ℕ). length v) over.wires
 
     own : (x : ℕ) → x < c.outputs + c.inputs + 1 → keeps x ≡ true
-    own x l = or_left (keeps_all level || nat_le x (c.outputs + c.inputs)) (is_left end.list x) (or_right (keeps_all level) (nat_le x (c.outputs + c.inputs)) (few x (c.outputs + c.inputs) (omega (arith, l))))
+    own x l = or_left (keeps_all level || nat_le x (c.outputs + c.inputs)) (is_left end.list x)
+        (or_right (keeps_all level) (nat_le x (c.outputs + c.inputs))
+        (few x (c.outputs + c.inputs) (omega (arith, l))))
 
-pub in_limits : (level : Level) (c : Circuit) (simple : Simple) (end : Simplified) → All (IsGood (c.signals + 1)) c.constraints
-    → IsWithinLimits c → simplified (rules_of level c) c.constraints ≡ Ok end → IsOverWires (rules_of level c) end simple
+pub in_limits : (level : Level) (c : Circuit) (simple : Simple) (end : Simplified)
+    → All (IsGood (c.signals + 1)) c.constraints
+    → IsWithinLimits c → simplified (rules_of level c) c.constraints ≡ Ok end
+    → IsOverWires (rules_of level c) end simple
     → InLimits (file_of c simple)
 in_limits level c simple end good limits ends over = record {
-  wires = omega (arith, few_kept keeps (c.signals + 1), ap (λ (v : List ℕ). length v) over.wires, limits.few_signals);
+  wires = omega (
+    arith,
+    few_kept keeps (c.signals + 1),
+    ap (λ (v : List ℕ). length v) over.wires,
+    limits.few_signals,
+  );
   constraints =
-      omega
-      (arith, ap (λ (v : List Constraint). length v) over.constraints, length-map end.list (renamed_in (wire_of keeps)), fine.few, limits.few_constraints);
-  terms = omega (arith, ap (λ (v : List Constraint). sum_by term_count v) over.constraints, same_terms (wire_of keeps) end.list, fine.terms);
+      omega (
+        arith,
+        ap (λ (v : List Constraint). length v) over.constraints,
+        length-map end.list (renamed_in (wire_of keeps)),
+        fine.few,
+        limits.few_constraints,
+      );
+  terms = omega (
+    arith,
+    ap (λ (v : List Constraint). sum_by term_count v) over.constraints,
+    same_terms (wire_of keeps) end.list,
+    fine.terms,
+  );
 }
   where
     keeps : ℕ → Bool

@@ -78,35 +78,47 @@ two_parts n s other small some = record {
     either true u v g h = g
     either false u v g h = h
 
-low_part : (n : ℕ) (s : Assignment) (other : ℕ → ℕ) (small : (k : ℕ) → other k < P) (some : 0 < n) (k : ℕ) → k < n → (two_parts n s other small some).at k ≡ s.at k
+low_part : (n : ℕ) (s : Assignment) (other : ℕ → ℕ) (small : (k : ℕ) → other k < P) (some : 0 < n)
+    (k : ℕ) → k < n → (two_parts n s other small some).at k ≡ s.at k
 unfolding two_parts
 low_part n s other small some k l = ap (λ (b : Bool). cond b (other k) (s.at k)) (many n k l)
 
-high_part : (n : ℕ) (s : Assignment) (other : ℕ → ℕ) (small : (k : ℕ) → other k < P) (some : 0 < n) (k : ℕ) → n ≤ k → (two_parts n s other small some).at k ≡ other k
+high_part : (n : ℕ) (s : Assignment) (other : ℕ → ℕ) (small : (k : ℕ) → other k < P) (some : 0 < n)
+    (k : ℕ) → n ≤ k → (two_parts n s other small some).at k ≡ other k
 unfolding two_parts
 high_part n s other small some k l = ap (λ (b : Bool). cond b (other k) (s.at k)) (few n k l)
 
--- values of the wires satisfy the constraints over wires exactly when they extend, by the labels of the wires
-pub by_labels : (keeps : ℕ → Bool) (n : ℕ) (f : File) (list : List Constraint) → 0 < n → All (ConstraintBelow n) list → f.labels ≡ kept_below keeps n → f.wires ≡ length f.labels → WiresKeepSolutions keeps list f.constraints
-    → (w : List ℕ) → AreValues f w → All (Holds (slice_index w)) f.constraints ↔ ((s : Assignment) × Extends f w s × HoldAll s list)
+-- values of the wires satisfy the constraints over wires exactly when they extend, by the labels
+-- of the wires
+pub by_labels : (keeps : ℕ → Bool) (n : ℕ) (f : File) (list : List Constraint) → 0 < n
+    → All (ConstraintBelow n) list → f.labels ≡ kept_below keeps n → f.wires ≡ length f.labels
+    → WiresKeepSolutions keeps list f.constraints
+    → (w : List ℕ) → AreValues f w
+    → All (Holds (slice_index w)) f.constraints ↔
+    ((s : Assignment) × Extends f w s × HoldAll s list)
 by_labels keeps n f list some below labels wires known w values = (forth, back)
   where
     wire_values : ℕ → ℕ
     wire_values = slice_index w
 
-    laws : All (λ k. Holds wire_values k) f.constraints ↔ ((t : Assignment) × ((x : ℕ) → keeps x ≡ true → t.at x ≡ wire_values (wire_of keeps x)) × HoldAll t list)
+    laws : All (λ k. Holds wire_values k) f.constraints ↔
+        ((t : Assignment) × ((x : ℕ) → keeps x ≡ true → t.at x ≡ wire_values (wire_of keeps x))
+        × HoldAll t list)
     laws = known wire_values values.one values.below
 
     label : (x : ℕ) → x < n → keeps x ≡ true → slice_index f.labels (wire_of keeps x) ≡ x
-    label x l e = ap (λ (v : List ℕ). slice_index v (wire_of keeps x)) labels ∙ label_of keeps n x l e
+    label x l e = ap (λ (v : List ℕ). slice_index v (wire_of keeps x)) labels
+        ∙ label_of keeps n x l e
 
-    forth : All (Holds wire_values) f.constraints → (s : Assignment) × Extends f w s × HoldAll s list
+    forth : All (Holds wire_values) f.constraints
+        → (s : Assignment) × Extends f w s × HoldAll s list
     forth holds =
         let found = laws.0 holds in (
           found.0,
           record {
             agrees = λ wire l.
-                let at : Labels keeps n wire = labelled keeps n wire (omega (arith, l, wires, ap (λ (v : List ℕ). length v) labels)) in
+                let at : Labels keeps n wire = labelled keeps n wire
+                (omega (arith, l, wires, ap (λ (v : List ℕ). length v) labels)) in
                 ap (λ (i : ℕ). found.0.at (slice_index f.labels i)) (sym at.place)
                 ∙ ap found.0.at (label at.signal at.below at.kept)
                 ∙ found.1 at.signal at.kept ∙ ap wire_values at.place;
@@ -121,10 +133,18 @@ by_labels keeps n f list some below labels wires known w values = (forth, back)
         | inl l ↦
             low_part n found.0 (λ k. wire_values (wire_of keeps k)) small some x l
             ∙ sym (ap found.0.at (label x l e))
-            ∙ found.1.agrees (wire_of keeps x) (omega (arith, place_below keeps n x l e, wires, ap (λ (v : List ℕ). length v) labels))
+            ∙ found.1.agrees (wire_of keeps x)
+            (omega (
+              arith,
+              place_below keeps n x l e,
+              wires,
+              ap (λ (v : List ℕ). length v) labels,
+            ))
         | inr l ↦ high_part n found.0 (λ k. wire_values (wire_of keeps k)) small some x l
       ],
-      λ k d h. holds_agrees n found.0.at whole.at (λ x l. sym (low_part n found.0 (λ k. wire_values (wire_of keeps k)) small some x l)) (slice_index_or list k d) (below k d h) (found.2 k d h),
+      λ k d h. holds_agrees n found.0.at whole.at
+          (λ x l. sym (low_part n found.0 (λ k. wire_values (wire_of keeps k)) small some x l))
+          (slice_index_or list k d) (below k d h) (found.2 k d h),
     )
       where
         small : (k : ℕ) → wire_values (wire_of keeps k) < P
@@ -134,9 +154,12 @@ by_labels keeps n f list some below labels wires known w values = (forth, back)
         whole = two_parts n found.0 (λ k. wire_values (wire_of keeps k)) small some
 
 pub means : (p : PlainProgram) (level : Level) (c : Circuit) (simple : Simple) (end : Simplified)
-    → All (IsGood (c.signals + 1)) c.constraints → All (ConstraintBelow (1 + c.signals)) c.constraints
-    → simplified (rules_of level c) c.constraints ≡ Ok end → IsOverWires (rules_of level c) end simple
-    → ((s : Assignment) → Satisfies p s ↔ All (Holds s.at) c.constraints) → Means p (file_of c simple)
+    → All (IsGood (c.signals + 1)) c.constraints
+    → All (ConstraintBelow (1 + c.signals)) c.constraints
+    → simplified (rules_of level c) c.constraints ≡ Ok end
+    → IsOverWires (rules_of level c) end simple
+    → ((s : Assignment) → Satisfies p s ↔ All (Holds s.at) c.constraints)
+    → Means p (file_of c simple)
 means p level c simple end good below ends wires satisfied w values = (
   λ holds. let found = known.0 holds in (found.0, found.1, (satisfied found.0).1 found.2),
   λ found. known.1 (found.0, found.1, (satisfied found.0).0 found.2),
@@ -146,43 +169,62 @@ means p level c simple end good below ends wires satisfied w values = (
     keeps = is_kept level (c.outputs + c.inputs) end.list
 
     law : WiresKeepSolutions keeps c.constraints simple.constraints
-    law = subst (WiresKeepSolutions keeps c.constraints) (sym wires.constraints) (over (rules_of level c) c.constraints end good ends)
+    law = subst (WiresKeepSolutions keeps c.constraints) (sym wires.constraints)
+        (over (rules_of level c) c.constraints end good ends)
 
-    known : All (Holds (slice_index w)) simple.constraints ↔ ((s : Assignment) × Extends (file_of c simple) w s × HoldAll s c.constraints)
+    known : All (Holds (slice_index w)) simple.constraints ↔
+        ((s : Assignment) × Extends (file_of c simple) w s × HoldAll s c.constraints)
     known =
         let same : c.signals + 1 ≡ 1 + c.signals = omega arith in
         by_labels keeps (1 + c.signals) (file_of c simple) c.constraints (omega arith) below
         (wires.wires ∙ ap (kept_below keeps) same) refl law w values
 
-told_map : (contents : Option Contents) (P Q : Contents → Type 0) → ((files : Contents) → P files → Q files) → Told contents P → Told contents Q
+told_map : (contents : Option Contents) (P Q : Contents → Type 0)
+    → ((files : Contents) → P files → Q files) → Told contents P → Told contents Q
 told_map None P Q f h = tt
 told_map (Some files) P Q f h = f files h
 
 -- a source that isn't loaded isn't compiled
-pub not_loaded : (contents : Option Contents) (task : Task) (failed : Type 0) (r : Result File CompileFault) (f : LoadFault)
-    → IsErrAnd r (λ e. e ≡ of_load f) → Loads contents task.name task.library failed (Err f) → Compiles contents task failed r
+pub not_loaded : (contents : Option Contents) (task : Task) (failed : Type 0)
+    (r : Result File CompileFault) (f : LoadFault)
+    → IsErrAnd r (λ e. e ≡ of_load f) → Loads contents task.name task.library failed (Err f)
+    → Compiles contents task failed r
 not_loaded contents task failed (Ok x) f h s = absurd h
-not_loaded contents task failed (Err e) f h s = subst (λ (x : CompileFault). Compiles contents task failed (Err x)) (sym h) (from f s)
+not_loaded contents task failed (Err e) f h s = subst
+    (λ (x : CompileFault). Compiles contents task failed (Err x)) (sym h) (from f s)
   where
-    from : (f : LoadFault) → Loads contents task.name task.library failed (Err f) → Compiles contents task failed (Err (of_load f))
+    from : (f : LoadFault) → Loads contents task.name task.library failed (Err f)
+        → Compiles contents task failed (Err (of_load f))
     from load.Missing s = s
-    from (load.Refused r) s = told_map contents (λ files. IsLoadFault files task.name task.library r) (λ files. IsRefused files task r) (λ files l. inl l) s
+    from (load.Refused r) s = told_map contents
+        (λ files. IsLoadFault files task.name task.library r) (λ files. IsRefused files task r)
+        (λ files l. inl l) s
     from load.Fault s = s
     from load.OutOfMemory s = tt
 
 -- a program that isn't written
-pub not_written : (contents : Option Contents) (task : Task) (failed : Type 0) (program : Program) (r : Result File CompileFault) (f : CompileFault)
-    → IsErrAnd r (λ e. e ≡ f) → Told contents (λ files. IsLoaded files task.name task.library program) → Writes program task.level (Err f) → Compiles contents task failed r
+pub not_written : (contents : Option Contents) (task : Task) (failed : Type 0) (program : Program)
+    (r : Result File CompileFault) (f : CompileFault)
+    → IsErrAnd r (λ e. e ≡ f)
+    → Told contents (λ files. IsLoaded files task.name task.library program)
+    → Writes program task.level (Err f) → Compiles contents task failed r
 not_written contents task failed program (Ok x) f h l w = absurd h
-not_written contents task failed program (Err e) f h l w = subst (λ (x : CompileFault). Compiles contents task failed (Err x)) (sym h) (from f w)
+not_written contents task failed program (Err e) f h l w = subst
+    (λ (x : CompileFault). Compiles contents task failed (Err x)) (sym h) (from f w)
   where
-    from : (f : CompileFault) → Writes program task.level (Err f) → Compiles contents task failed (Err f)
+    from : (f : CompileFault) → Writes program task.level (Err f)
+        → Compiles contents task failed (Err f)
     from fault.Missing w = absurd w
-    from (fault.Refused r) w = told_map contents (λ files. IsLoaded files task.name task.library program) (λ files. IsRefused files task r) (λ files k. inr (program, k, w)) l
+    from (fault.Refused r) w = told_map contents
+        (λ files. IsLoaded files task.name task.library program) (λ files. IsRefused files task r)
+        (λ files k. inr (program, k, w)) l
     from fault.Fault w = absurd w
     from fault.OutOfMemory w = tt
 
 pub compiled : (contents : Option Contents) (task : Task) (program : Program) (f : File)
-    → Told contents (λ files. IsLoaded files task.name task.library program) → IsWritten program task.level f → Told contents (λ files. IsCompiled files task f)
+    → Told contents (λ files. IsLoaded files task.name task.library program)
+    → IsWritten program task.level f → Told contents (λ files. IsCompiled files task f)
 compiled contents task program f l w =
-    told_map contents (λ files. IsLoaded files task.name task.library program) (λ files. IsCompiled files task f) (λ files k. record { program = program; loaded = k; written = w }) l
+    told_map contents (λ files. IsLoaded files task.name task.library program)
+    (λ files. IsCompiled files task f)
+    (λ files k. record { program = program; loaded = k; written = w }) l

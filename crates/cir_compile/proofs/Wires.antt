@@ -15,8 +15,12 @@ one n b e = ap (λ (v : Bool). cond v (n ∷ []) []) e
 pub few_kept : (keeps : ℕ → Bool) (n : ℕ) → length (kept_below keeps n) ≤ n
 few_kept keeps zero = omega arith
 few_kept keeps (suc n) =
-    omega
-    (arith, few_kept keeps n, at_most n (keeps n), length-append (kept_below keeps n) (cond (keeps n) (n ∷ []) []))
+    omega (
+      arith,
+      few_kept keeps n,
+      at_most n (keeps n),
+      length-append (kept_below keeps n) (cond (keeps n) (n ∷ []) []),
+    )
 
 -- all kept
 pub all_kept : (keeps : ℕ → Bool) (n : ℕ) → ((x : ℕ) → x < n → keeps x ≡ true)
@@ -31,11 +35,17 @@ all_kept keeps (suc n) h =
     )
 
 -- the places below n are those of the list
-pub place_below : (keeps : ℕ → Bool) (n x : ℕ) → x < n → keeps x ≡ true → wire_of keeps x < length (kept_below keeps n)
+pub place_below : (keeps : ℕ → Bool) (n x : ℕ) → x < n → keeps x ≡ true
+    → wire_of keeps x < length (kept_below keeps n)
 place_below keeps zero x l e = absurd (omega arith)
 place_below keeps (suc n) x l e =
     elim (cases_lt x n) [
-      | inl p ↦ omega (arith, place_below keeps n x p e, length-append (kept_below keeps n) (cond (keeps n) (n ∷ []) []))
+      | inl p ↦
+          omega (
+            arith,
+            place_below keeps n x p e,
+            length-append (kept_below keeps n) (cond (keeps n) (n ∷ []) []),
+          )
       | inr p ↦
           let same : x ≡ n = omega (arith, p) in
           omega (
@@ -47,18 +57,23 @@ place_below keeps (suc n) x l e =
     ]
 
 -- the label of a kept signal's wire is its number
-pub label_of : (keeps : ℕ → Bool) (n x : ℕ) → x < n → keeps x ≡ true → slice_index (kept_below keeps n) (wire_of keeps x) ≡ x
+pub label_of : (keeps : ℕ → Bool) (n x : ℕ) → x < n → keeps x ≡ true
+    → slice_index (kept_below keeps n) (wire_of keeps x) ≡ x
 label_of keeps zero x l e = absurd (omega arith)
 label_of keeps (suc n) x l e =
     elim (cases_lt x n) [
       | inl p ↦
-          get_or_append_left (kept_below keeps n) (cond (keeps n) (n ∷ []) []) 0 (wire_of keeps x) (place_below keeps n x p e)
+          get_or_append_left (kept_below keeps n) (cond (keeps n) (n ∷ []) []) 0 (wire_of keeps x)
+          (place_below keeps n x p e)
           ∙ label_of keeps n x p e
       | inr p ↦
           let same : x ≡ n = omega (arith, p) in
-          let here : slice_index (kept_below keeps n ++ cond (keeps n) (n ∷ []) []) (wire_of keeps n) ≡ n =
-          last (kept_below keeps n) (cond (keeps n) (n ∷ []) []) (wire_of keeps n) n refl (one n (keeps n) (sym (ap keeps same) ∙ e)) in
-          ap (λ (y : ℕ). slice_index (kept_below keeps n ++ cond (keeps n) (n ∷ []) []) (wire_of keeps y)) same ∙ here ∙ sym same
+          let here : slice_index (kept_below keeps n ++ cond (keeps n) (n ∷ []) [])
+          (wire_of keeps n) ≡ n =
+          last (kept_below keeps n) (cond (keeps n) (n ∷ []) []) (wire_of keeps n) n refl
+          (one n (keeps n) (sym (ap keeps same) ∙ e)) in
+          ap (λ (y : ℕ). slice_index (kept_below keeps n ++ cond (keeps n) (n ∷ []) [])
+          (wire_of keeps y)) same ∙ here ∙ sym same
     ]
   where
     last : (xs ys : List ℕ) (i n : ℕ) → length xs ≡ i → ys ≡ n ∷ [] → slice_index (xs ++ ys) i ≡ n
@@ -73,17 +88,25 @@ pub record Labels (keeps : ℕ → Bool) (n wire : ℕ) : Type 0 where
   pub kept : keeps signal ≡ true
   pub place : wire_of keeps signal ≡ wire
 
-pub labelled : (keeps : ℕ → Bool) (n wire : ℕ) → wire < length (kept_below keeps n) → Labels keeps n wire
+pub labelled : (keeps : ℕ → Bool) (n wire : ℕ) → wire < length (kept_below keeps n)
+    → Labels keeps n wire
 labelled keeps zero wire l = absurd (omega arith)
 labelled keeps (suc n) wire l =
     elim (cases_lt wire (length (kept_below keeps n))) [
       | inl p ↦
           let found : Labels keeps n wire = labelled keeps n wire p in
-          record { signal = found.signal; below = omega (arith, found.below); kept = found.kept; place = found.place }
+          record {
+            signal = found.signal;
+            below = omega
+                (arith, found.below);
+            kept = found.kept;
+            place = found.place;
+          }
       | inr p ↦ at_end (keeps n) refl p
     ]
   where
-    at_end : (b : Bool) → keeps n ≡ b → length (kept_below keeps n) ≤ wire → Labels keeps (suc n) wire
+    at_end : (b : Bool) → keeps n ≡ b → length (kept_below keeps n) ≤ wire
+        → Labels keeps (suc n) wire
     at_end true e p = record {
       signal = n;
       below = omega arith;

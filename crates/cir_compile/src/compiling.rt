@@ -18,8 +18,9 @@ use iden_files::R1cs;
 use out_io::Store;
 use std::alloc::{AllocError, Global};
 
-/// The file of the constraints of the source of this name with all that it includes, beside it or in
-/// the folder of libraries, simplified at the level; or its first refusal.
+/// The file of the constraints of the source of this name with all that it includes, beside it or
+/// in the folder of libraries, simplified at the level; or its first refusal. Too many terms in
+/// simplification are refused at the statement of the main component.
 pub fn compile<S: Store>(
     alloc: Global,
     store: &mut S,

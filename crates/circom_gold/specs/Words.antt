@@ -42,8 +42,8 @@ folder = record (new_rule (codes "DIR")) { short = Some 108 }
 abbrev pub flag : List ℕ → Rule
 flag name = record (new_rule name) { long = Some name; action = Some SetTrue }
 
--- `check R1CS WTNS` and `compile SRC OUT [--O0, --O1 or --O2] [-l DIR]`, as `clap` sees them: simple
--- commands without subcommands
+-- `check R1CS WTNS` and `compile SRC OUT [--O0, --O1 or --O2] [-l DIR]`, as `clap` sees them:
+-- simple commands without subcommands
 abbrev pub check_form : App
 check_form =
     with_rule (with_rule (new_app (codes "check")) (given (codes "R1CS"))) (given (codes "WTNS"))

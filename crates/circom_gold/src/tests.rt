@@ -311,7 +311,8 @@ const SQUARE: &str = "template T() {
 component main = T();
 ";
 
-// Without a level the answer is that of `--O1`, which makes s and t one wire; `--O2` leaves neither.
+// Without a level the answer is that of `--O1`, which makes s and t one wire; `--O2` leaves none
+// of the two.
 #[test]
 fn a_level_solves_what_the_one_below_leaves(rt: HostRuntime) -> Result<(), Fail> {
     for (words, source, line) in [
@@ -320,7 +321,11 @@ fn a_level_solves_what_the_one_below_leaves(rt: HostRuntime) -> Result<(), Fail>
         ("", SQUARE, "compiled: wires 5, constraints 2\n"),
         (" --O2", SQUARE, "compiled: wires 4, constraints 1\n"),
         (" --O2", DIFFERENT, "compiled: wires 3, constraints 2\n"),
-        (" --O0 -l inc", PRODUCT, "compiled: wires 4, constraints 1\n"),
+        (
+            " --O0 -l inc",
+            PRODUCT,
+            "compiled: wires 4, constraints 1\n",
+        ),
         (" --O1", PRODUCT, "compiled: wires 4, constraints 1\n"),
     ] {
         let alloc = rt.alloc();

@@ -2,10 +2,14 @@ use Rattle.cir_compile.proofs.Meaning.{not_loaded, not_written, compiled}
 use Rattle.cir_compile.proofs.compiling.compile.Goals as goal
 
 pub returns-in_err-program-clause-compiles : goal.returns-in_err-program-clause-compiles
-returns-in_err-program-clause-compiles g c = not_loaded _ _ _ _ _ c.from_residual.ensures.1 c.in_err-program.ensures.loads
+returns-in_err-program-clause-compiles g c =
+    not_loaded _ _ _ _ _ c.from_residual.ensures.1 c.in_err-program.ensures.loads
 
 pub returns-in_err-file-clause-compiles : goal.returns-in_err-file-clause-compiles
-returns-in_err-file-clause-compiles g c = not_written _ _ _ _ _ _ c.from_residual-in_err-file.ensures.1 c.in_ok-program.ensures.loads c.in_err-file.ensures.writes
+returns-in_err-file-clause-compiles g c =
+    not_written _ _ _ _ _ _ c.from_residual-in_err-file.ensures.1 c.in_ok-program.ensures.loads
+    c.in_err-file.ensures.writes
 
 pub returns-clause-compiles : goal.returns-clause-compiles
-returns-clause-compiles g c = compiled _ _ _ _ c.in_ok-program.ensures.loads c.in_ok-file.ensures.writes
+returns-clause-compiles g c =
+    compiled _ _ _ _ c.in_ok-program.ensures.loads c.in_ok-file.ensures.writes

@@ -1,48 +1,51 @@
-use Rattle.std.proofs.Common.{rules, ◌≡◌, ◌+◌, List, All, None, Ok, sym, subst}
-use Rattle.gold_field.specs.declared.form.Constraint.{Constraint}
+use Rattle.std.proofs.Common.{rules, ◌≡◌, ◌+◌, All, None, sym, subst}
 use Rattle.iden_files.specs.File.{InLimits}
 use Rattle.cir_ast.specs.Placed.{seen_program}
 use Rattle.cir_subset.specs.Unbuilt.{first_unbuilt}
 use Rattle.cir_lc.specs.Normal.{IsConstraintWithin}
 use Rattle.cir_lc.specs.Sparse.{IsNormalForm}
-use Rattle.cir_simplify.specs.Answer.{Simplifies}
-use Rattle.cir_compile.specs.Written.{rules_of, Means}
-use Rattle.cir_compile.proofs.Circuits.{circuit_good, is_file, in_limits}
+use Rattle.cir_compile.specs.Written.{Means}
+use Rattle.cir_compile.proofs.Circuits.{of_circuit, circuit_good, is_file, in_limits}
 use Rattle.cir_compile.proofs.Meaning.{means}
 use Rattle.cir_compile.proofs.compiling.written.Goals as goal
 
 pub simplify-requires-clause-normal : goal.simplify-requires-clause-normal
 simplify-requires-clause-normal c =
-    subst (All IsNormalForm) (sym c.as_slice-list.ensures)
-    (λ k d l. (circuit_good c.in_ok-plain.plain c.in_ok-circuit.circuit c.in_ok-circuit.ensures.meaning k d l).normal)
+    let good =
+    circuit_good c.in_ok-plain.plain c.in_ok-circuit.circuit c.in_ok-circuit.ensures.meaning in
+    subst (All IsNormalForm) (sym c.as_slice-list.ensures) (λ k d l. (good k d l).normal)
 
 pub simplify-requires-clause-within : goal.simplify-requires-clause-within
 simplify-requires-clause-within c =
-    subst (All (IsConstraintWithin (c.in_ok-circuit.circuit.signals + 1))) (sym c.as_slice-list.ensures)
-    (λ k d l. (circuit_good c.in_ok-plain.plain c.in_ok-circuit.circuit c.in_ok-circuit.ensures.meaning k d l).within)
+    let good =
+    circuit_good c.in_ok-plain.plain c.in_ok-circuit.circuit c.in_ok-circuit.ensures.meaning in
+    subst (All (IsConstraintWithin (c.in_ok-circuit.circuit.signals + 1)))
+    (sym c.as_slice-list.ensures) (λ k d l. (good k d l).within)
 
 pub file_of-requires-clause-file : goal.file_of-requires-clause-file
 file_of-requires-clause-file c =
     let circuit = c.in_ok-circuit.circuit in
-    let known : Simplifies (rules_of c.args.level circuit) circuit.constraints (Ok c.in-Ok.simple) =
-    subst (λ (list : List Constraint). Simplifies (rules_of c.args.level circuit) list (Ok c.in-Ok.simple)) c.as_slice-list.ensures c.in-Ok.ensures in
+    let known =
+    of_circuit c.args.level circuit _ c.in-Ok.simple c.as_slice-list.ensures c.in-Ok.ensures in
     is_file c.args.level circuit c.in-Ok.simple known.0
-    (circuit_good c.in_ok-plain.plain circuit c.in_ok-circuit.ensures.meaning) c.in_ok-circuit.ensures.fits known.1 known.2
+    (circuit_good c.in_ok-plain.plain circuit c.in_ok-circuit.ensures.meaning)
+    c.in_ok-circuit.ensures.fits known.1 known.2
 
 pub file_of-requires-clause-limits : goal.file_of-requires-clause-limits
 file_of-requires-clause-limits c =
     let circuit = c.in_ok-circuit.circuit in
-    let known : Simplifies (rules_of c.args.level circuit) circuit.constraints (Ok c.in-Ok.simple) =
-    subst (λ (list : List Constraint). Simplifies (rules_of c.args.level circuit) list (Ok c.in-Ok.simple)) c.as_slice-list.ensures c.in-Ok.ensures in
+    let known =
+    of_circuit c.args.level circuit _ c.in-Ok.simple c.as_slice-list.ensures c.in-Ok.ensures in
     in_limits c.args.level circuit c.in-Ok.simple known.0
-    (circuit_good c.in_ok-plain.plain circuit c.in_ok-circuit.ensures.meaning) c.in_ok-circuit.ensures.fits known.1 known.2
+    (circuit_good c.in_ok-plain.plain circuit c.in_ok-circuit.ensures.meaning)
+    c.in_ok-circuit.ensures.fits known.1 known.2
 
 pub returns-clause-writes : goal.returns-clause-writes
 returns-clause-writes c =
     let circuit = c.in_ok-circuit.circuit in
     let built : first_unbuilt (seen_program c.args.program) ≡ None = search rules in
-    let known : Simplifies (rules_of c.args.level circuit) circuit.constraints (Ok c.in-Ok.simple) =
-    subst (λ (list : List Constraint). Simplifies (rules_of c.args.level circuit) list (Ok c.in-Ok.simple)) c.as_slice-list.ensures c.in-Ok.ensures in
+    let known =
+    of_circuit c.args.level circuit _ c.in-Ok.simple c.as_slice-list.ensures c.in-Ok.ensures in
     record {
       plain = c.in_ok-plain.plain;
       built = record { same = c.in_ok-plain.ensures; built = built };
@@ -53,15 +56,16 @@ returns-clause-writes c =
       file = c.in_ok-file.ensures;
       means = subst (Means c.in_ok-plain.plain) (sym c.in_ok-file.ensures)
           (means c.in_ok-plain.plain c.args.level circuit c.in-Ok.simple known.0
-          (circuit_good c.in_ok-plain.plain circuit c.in_ok-circuit.ensures.meaning) c.in_ok-circuit.ensures.fits.below
-          known.1 known.2 c.in_ok-circuit.ensures.satisfied);
+          (circuit_good c.in_ok-plain.plain circuit c.in_ok-circuit.ensures.meaning)
+          c.in_ok-circuit.ensures.fits.below known.1 known.2 c.in_ok-circuit.ensures.satisfied);
     }
 
 pub returns-clause-limits : goal.returns-clause-limits
 returns-clause-limits c =
     let circuit = c.in_ok-circuit.circuit in
-    let known : Simplifies (rules_of c.args.level circuit) circuit.constraints (Ok c.in-Ok.simple) =
-    subst (λ (list : List Constraint). Simplifies (rules_of c.args.level circuit) list (Ok c.in-Ok.simple)) c.as_slice-list.ensures c.in-Ok.ensures in
+    let known =
+    of_circuit c.args.level circuit _ c.in-Ok.simple c.as_slice-list.ensures c.in-Ok.ensures in
     subst InLimits (sym c.in_ok-file.ensures)
     (in_limits c.args.level circuit c.in-Ok.simple known.0
-    (circuit_good c.in_ok-plain.plain circuit c.in_ok-circuit.ensures.meaning) c.in_ok-circuit.ensures.fits known.1 known.2)
+    (circuit_good c.in_ok-plain.plain circuit c.in_ok-circuit.ensures.meaning)
+    c.in_ok-circuit.ensures.fits known.1 known.2)
