@@ -1,8 +1,8 @@
 -- Reading a binary format from left to right.
 --
--- A reading takes the bytes that are left, and answers the value at their front with the bytes after it,
--- or a refusal. Where a refusal names a place in the file, the reading is told where the bytes end: the
--- place of the next byte is that end less the number of bytes that are left.
+-- A reading takes the bytes that are left, and answers the value at their front with the bytes
+-- after it, or a refusal. Where a refusal names a place in the file, the reading is told where the
+-- bytes end: the place of the next byte is that end less the number of bytes that are left.
 use Rattle.std.specs.Prelude.{◌≡◌, ℕ, zero, suc, List, [], ◌∷◌, length, take, drop, Bool, true, false}
 use Rattle.std.specs.Prelude.{Option, Some, None, Result, Ok, Err, nat_lt, if◌then◌else◌}
 use Rattle.std.specs.Int.{Width, byte_len, from_le_bytes}
@@ -54,14 +54,14 @@ abbrev pub Takes : {X Y : Type 0} → (X → Y) → Option X → List ℕ → Li
 Takes view None old new reading = (reading ≡ None) × (new ≡ old)
 Takes view (Some x) old new reading = reading ≡ Some (view x, new)
 
--- A reading is refused so, where a call failed for this refusal. A call that found no memory (None) says
--- nothing of it.
+-- A reading is refused so, where a call failed for this refusal. A call that found no memory (None)
+-- says nothing of it.
 abbrev pub Fails : {Y R : Type 0} → Option R → Result Y R → Type 0
 Fails None reading = Unit {0}
 Fails (Some refusal) reading = reading ≡ Err refusal
 
--- What a call answered, seen by view, is what the definition gives, unless memory ran out; why tells the
--- refusal that a fault stands for.
+-- What a call answered, seen by view, is what the definition gives, unless memory ran out; why
+-- tells the refusal that a fault stands for.
 abbrev pub Gives : {X Y F R : Type 0} → (F → Option R) → (X → Y) → Result X F → Result Y R → Type 0
 Gives why view (Ok x) reading = reading ≡ Ok (view x)
 Gives why view (Err fault) reading = Fails (why fault) reading

@@ -41,7 +41,8 @@ impl<'a> Reader<'a> {
 
     /// The next bytes as they are.
     pub fn bytes(&mut self, count: usize) -> Option<&'a [u8]>
-        ensures taken { Takes (λ x. x.now) result self.old.rest.now self.new.rest.now (front_of count self.old.rest.now) }
+        ensures taken { Takes (λ x. x.now) result self.old.rest.now self.new.rest.now
+            (front_of count self.old.rest.now) }
         ensures end { self.new.end ≡ self.old.end }
     {
         if self.rest.len() < count {
@@ -54,7 +55,8 @@ impl<'a> Reader<'a> {
 
     /// A reader of the next bytes alone.
     pub fn part(&mut self, count: usize) -> Option<Reader<'a>>
-        ensures taken { Takes (λ x. x.rest.now) result self.old.rest.now self.new.rest.now (front_of count self.old.rest.now) }
+        ensures taken { Takes (λ x. x.rest.now) result self.old.rest.now self.new.rest.now
+            (front_of count self.old.rest.now) }
         ensures part_end { IfSome result (λ x. x.end ≡ self.new.end - length self.new.rest.now) }
         ensures end { self.new.end ≡ self.old.end }
     {
@@ -64,7 +66,8 @@ impl<'a> Reader<'a> {
     }
 
     pub fn u32(&mut self) -> Option<u32>
-        ensures taken { Takes (λ x. x) result self.old.rest.now self.new.rest.now (number_of w32 self.old.rest.now) }
+        ensures taken { Takes (λ x. x) result self.old.rest.now self.new.rest.now
+            (number_of w32 self.old.rest.now) }
         ensures end { self.new.end ≡ self.old.end }
     {
         if self.rest.len() < 4 {
@@ -76,7 +79,8 @@ impl<'a> Reader<'a> {
     }
 
     pub fn u64(&mut self) -> Option<u64>
-        ensures taken { Takes (λ x. x) result self.old.rest.now self.new.rest.now (number_of w64 self.old.rest.now) }
+        ensures taken { Takes (λ x. x) result self.old.rest.now self.new.rest.now
+            (number_of w64 self.old.rest.now) }
         ensures end { self.new.end ≡ self.old.end }
     {
         if self.rest.len() < 8 {

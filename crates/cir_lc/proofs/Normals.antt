@@ -17,7 +17,8 @@ use Rattle.cir_lc.proofs.Totals.{total-nil, total-cons}
 use Rattle.cir_lc.proofs.Values.{value-total}
 
 -- the first factor is a constant
-pub normal_left : (q : Quad) (n : Constraint) (k : ℕ) → Some k ≡ constant_of q.a → IsLinear k q.b q.c n → IsNormal q n
+pub normal_left : (q : Quad) (n : Constraint) (k : ℕ) → Some k ≡ constant_of q.a
+    → IsLinear k q.b q.c n → IsNormal q n
 normal_left q n k h l = record {
   left = l.left ∙ ap (λ (o : Option ℕ). kept_of o (constant_of q.b) q.a) h;
   right = l.right ∙ ap (λ (o : Option ℕ). kept_of o (constant_of q.b) q.b) h;
@@ -25,25 +26,31 @@ normal_left q n k h l = record {
 }
 
 -- the second is, and the first isn't
-pub normal_right : (q : Quad) (n : Constraint) (k : ℕ) → None ≡ constant_of q.a → Some k ≡ constant_of q.b → IsLinear k q.a q.c n → IsNormal q n
+pub normal_right : (q : Quad) (n : Constraint) (k : ℕ) → None ≡ constant_of q.a
+    → Some k ≡ constant_of q.b → IsLinear k q.a q.c n → IsNormal q n
 normal_right q n k h g l = record {
   left = l.left ∙ both (λ o p. kept_of o p q.a);
   right = l.right ∙ both (λ o p. kept_of o p q.b);
-  rest = l.rest ∙ ap (λ (o : Option ℕ). negated (rest_of o (Some k) q)) h ∙ ap (λ (o : Option ℕ). negated (rest_of (constant_of q.a) o q)) g;
+  rest = l.rest ∙ ap (λ (o : Option ℕ). negated (rest_of o (Some k) q)) h
+      ∙ ap (λ (o : Option ℕ). negated (rest_of (constant_of q.a) o q)) g;
 }
   where
-    both : (f : Option ℕ → Option ℕ → List Term) → f None (Some k) ≡ f (constant_of q.a) (constant_of q.b)
+    both : (f : Option ℕ → Option ℕ → List Term)
+        → f None (Some k) ≡ f (constant_of q.a) (constant_of q.b)
     both f = ap (λ (o : Option ℕ). f o (Some k)) h ∙ ap (λ (o : Option ℕ). f (constant_of q.a) o) g
 
 -- neither is
-pub normal_neither : (q : Quad) (n : Constraint) → None ≡ constant_of q.a → None ≡ constant_of q.b → n.a ≡ q.a → n.b ≡ q.b → value_of n.c ≡ negated (value_of q.c) → IsNormal q n
+pub normal_neither : (q : Quad) (n : Constraint) → None ≡ constant_of q.a → None ≡ constant_of q.b
+    → n.a ≡ q.a → n.b ≡ q.b → value_of n.c ≡ negated (value_of q.c) → IsNormal q n
 normal_neither q n h g ea eb ec = record {
   left = ea ∙ both (λ o p. kept_of o p q.a);
   right = eb ∙ both (λ o p. kept_of o p q.b);
-  rest = ec ∙ ap (λ (o : Option ℕ). negated (rest_of o None q)) h ∙ ap (λ (o : Option ℕ). negated (rest_of (constant_of q.a) o q)) g;
+  rest = ec ∙ ap (λ (o : Option ℕ). negated (rest_of o None q)) h
+      ∙ ap (λ (o : Option ℕ). negated (rest_of (constant_of q.a) o q)) g;
 }
   where
-    both : (f : Option ℕ → Option ℕ → List Term) → f None None ≡ f (constant_of q.a) (constant_of q.b)
+    both : (f : Option ℕ → Option ℕ → List Term)
+        → f None None ≡ f (constant_of q.a) (constant_of q.b)
     both f = ap (λ (o : Option ℕ). f o None) h ∙ ap (λ (o : Option ℕ). f (constant_of q.a) o) g
 
 -- minus c is what makes 0 of c
@@ -63,73 +70,98 @@ unfolding value_of
 value_small ts s = mod-lt _ (lit< tt)
 
 -- a list of no signal but 0 has the value of its coefficient
-some_test : (t : Term) (k : ℕ) (b : Bool) → t.signal == 0 ≡ b → cond b (Some t.coef) None ≡ Some k → (t.signal ≡ 0) × (t.coef ≡ k)
+some_test : (t : Term) (k : ℕ) (b : Bool) → t.signal == 0 ≡ b → cond b (Some t.coef) None ≡ Some k
+    → (t.signal ≡ 0) × (t.coef ≡ k)
 some_test t k true h e = (eqb-true t.signal 0 h, cc)
 some_test t k false h e = cc
 
-constant_value : (ts : List Term) (k : ℕ) (s : Assignment) → constant_of ts ≡ Some k → value_of ts s ≡ k % P
+constant_value : (ts : List Term) (k : ℕ) (s : Assignment) → constant_of ts ≡ Some k
+    → value_of ts s ≡ k % P
 constant_value [] k s h =
     let e : 0 ≡ k = cc in
     value-total s [] ∙ ap (λ (n : ℕ). n % P) (total-nil s.at ∙ e)
 constant_value (t ∷ []) k s h =
     let e : (t.signal ≡ 0) × (t.coef ≡ k) = some_test t k (t.signal == 0) refl h in
     let one : s.at t.signal ≡ 1 = ap (λ (n : ℕ). s.at n) e.0 ∙ s.one in
-    let all : total s.at (t ∷ []) ≡ k = total-cons s.at t [] ∙ omega (arith, total-nil s.at, e.1, ap (λ (n : ℕ). t.coef * n) one) in
+    let all : total s.at (t ∷ []) ≡ k =
+    total-cons s.at t [] ∙ omega (arith, total-nil s.at, e.1, ap (λ (n : ℕ). t.coef * n) one) in
     value-total s (t ∷ []) ∙ ap (λ (n : ℕ). n % P) all
 constant_value (t ∷ (u ∷ ts)) k s h = cc
 
 -- the numbers of a constraint without a product
 linear_means : (m r w d : ℕ) → m ≡ 0 → d ≡ ((P - 1) * r) % P → r < P → w ≡ r → (m ≡ d) ↔ (w ≡ 0)
 linear_means m r w d e f l g =
-    let b : (0 ≡ ((P - 1) * r) % P) ↔ ((0 + r) % P ≡ 0) = balance 0 r (lit< tt) l in
-    (λ h. let z : (0 + r) % P ≡ 0 = b.0 (sym e ∙ h ∙ f) in omega arith, λ h. e ∙ b.1 (omega arith) ∙ sym f)
+    let b : (0 ≡ ((P - 1) * r) % P) ↔ ((0 + r) % P ≡ 0) = balance 0 r (lit< tt) l in (
+      λ h. let z : (0 + r) % P ≡ 0 = b.0 (sym e ∙ h ∙ f) in omega arith,
+      λ h. e ∙ b.1 (omega arith)
+          ∙ sym f,
+    )
 
 product_left : (a b c k : ℕ) → a ≡ k % P → ((a * b) % P + c) % P ≡ (c + (k * b) % P) % P
 product_left a b c k e =
-    ap (λ (n : ℕ). (n + c) % P) (ap (λ (x : ℕ). (x * b) % P) e ∙ mul-mod_first k b P) ∙ ap (λ (n : ℕ). n % P) (add_comm ((k * b) % P) c)
+    ap (λ (n : ℕ). (n + c) % P) (ap (λ (x : ℕ). (x * b) % P) e ∙ mul-mod_first k b P)
+    ∙ ap (λ (n : ℕ). n % P) (add_comm ((k * b) % P) c)
 
 -- no product is left
-none_left : (n : Constraint) (s : Assignment) → n.a ≡ [] → n.b ≡ [] → (value_at s.at n.a * value_at s.at n.b) % P ≡ 0
+none_left : (n : Constraint) (s : Assignment) → n.a ≡ [] → n.b ≡ []
+    → (value_at s.at n.a * value_at s.at n.b) % P ≡ 0
 none_left n s e f = rw (e, f) refl
 
 -- the constraint holds where a * b + c is 0
-means_by : (q : Quad) (n : Constraint) (s : Assignment) (o p : Option ℕ) → constant_of q.a ≡ o → constant_of q.b ≡ p → IsNormal q n → Holds s.at n ↔ (value_of_quad q s ≡ 0)
+means_by : (q : Quad) (n : Constraint) (s : Assignment) (o p : Option ℕ) → constant_of q.a ≡ o
+    → constant_of q.b ≡ p → IsNormal q n → Holds s.at n ↔ (value_of_quad q s ≡ 0)
 unfolding value_of added scaled multiplied negated
 means_by q n s (Some k) p e f h =
     let left : n.a ≡ [] = h.left ∙ ap (λ (o : Option ℕ). kept_of o (constant_of q.b) q.a) e in
     let right : n.b ≡ [] = h.right ∙ ap (λ (o : Option ℕ). kept_of o (constant_of q.b) q.b) e in
     let rest : value_of n.c s ≡ negated (rest_of (Some k) (constant_of q.b) q) s =
-    ap (λ (f : Number). f s) h.rest ∙ ap (λ (o : Option ℕ). negated (rest_of o (constant_of q.b) q) s) e in
-    linear_means _ (added (value_of q.c) (scaled k (value_of q.b)) s) _ _ (none_left n s left right) rest (mod-lt _ (lit< tt))
+    ap (λ (f : Number). f s) h.rest
+    ∙ ap (λ (o : Option ℕ). negated (rest_of o (constant_of q.b) q) s) e in
+    linear_means _ (added (value_of q.c) (scaled k (value_of q.b)) s) _ _
+    (none_left n s left right) rest (mod-lt _ (lit< tt))
     (product_left (value_of q.a s) (value_of q.b s) (value_of q.c s) k (constant_value q.a k s e))
 means_by q n s None (Some k) e f h =
-    let left : n.a ≡ [] = h.left ∙ ap (λ (o : Option ℕ). kept_of o (constant_of q.b) q.a) e ∙ ap (λ (o : Option ℕ). kept_of None o q.a) f in
-    let right : n.b ≡ [] = h.right ∙ ap (λ (o : Option ℕ). kept_of o (constant_of q.b) q.b) e ∙ ap (λ (o : Option ℕ). kept_of None o q.b) f in
+    let left : n.a ≡ [] = h.left ∙ ap (λ (o : Option ℕ). kept_of o (constant_of q.b) q.a) e
+    ∙ ap (λ (o : Option ℕ). kept_of None o q.a) f in
+    let right : n.b ≡ [] = h.right ∙ ap (λ (o : Option ℕ). kept_of o (constant_of q.b) q.b) e
+    ∙ ap (λ (o : Option ℕ). kept_of None o q.b) f in
     let rest : value_of n.c s ≡ negated (rest_of None (Some k) q) s =
-    ap (λ (f : Number). f s) h.rest ∙ ap (λ (o : Option ℕ). negated (rest_of o (constant_of q.b) q) s) e
+    ap (λ (f : Number). f s) h.rest
+    ∙ ap (λ (o : Option ℕ). negated (rest_of o (constant_of q.b) q) s) e
     ∙ ap (λ (o : Option ℕ). negated (rest_of None o q) s) f in
-    linear_means _ (added (value_of q.c) (scaled k (value_of q.a)) s) _ _ (none_left n s left right) rest (mod-lt _ (lit< tt))
+    linear_means _ (added (value_of q.c) (scaled k (value_of q.a)) s) _ _
+    (none_left n s left right) rest (mod-lt _ (lit< tt))
     (ap (λ (n : ℕ). (n % P + value_of q.c s) % P) (mul_comm (value_of q.a s) (value_of q.b s))
     ∙ product_left (value_of q.b s) (value_of q.a s) (value_of q.c s) k (constant_value q.b k s f))
 means_by q n s None None e f h =
-    let left : n.a ≡ q.a = h.left ∙ ap (λ (o : Option ℕ). kept_of o (constant_of q.b) q.a) e ∙ ap (λ (o : Option ℕ). kept_of None o q.a) f in
-    let right : n.b ≡ q.b = h.right ∙ ap (λ (o : Option ℕ). kept_of o (constant_of q.b) q.b) e ∙ ap (λ (o : Option ℕ). kept_of None o q.b) f in
+    let left : n.a ≡ q.a = h.left ∙ ap (λ (o : Option ℕ). kept_of o (constant_of q.b) q.a) e
+    ∙ ap (λ (o : Option ℕ). kept_of None o q.a) f in
+    let right : n.b ≡ q.b = h.right ∙ ap (λ (o : Option ℕ). kept_of o (constant_of q.b) q.b) e
+    ∙ ap (λ (o : Option ℕ). kept_of None o q.b) f in
     let rest : value_of n.c s ≡ negated (rest_of None None q) s =
-    ap (λ (f : Number). f s) h.rest ∙ ap (λ (o : Option ℕ). negated (rest_of o (constant_of q.b) q) s) e
+    ap (λ (f : Number). f s) h.rest
+    ∙ ap (λ (o : Option ℕ). negated (rest_of o (constant_of q.b) q) s) e
     ∙ ap (λ (o : Option ℕ). negated (rest_of None o q) s) f in
-    let b = balance ((value_of q.a s * value_of q.b s) % P) (value_of q.c s) (mod-lt _ (lit< tt)) (value_small q.c s) in
-    let product : (value_at s.at n.a * value_at s.at n.b) % P ≡ (value_of q.a s * value_of q.b s) % P = rw (left, right) refl in
+    let b = balance ((value_of q.a s * value_of q.b s) % P) (value_of q.c s) (mod-lt _ (lit< tt))
+    (value_small q.c s) in
+    let product : (value_at s.at n.a * value_at s.at n.b) % P
+    ≡ (value_of q.a s * value_of q.b s) % P = rw (left, right) refl in
     (λ g. b.0 (sym product ∙ g ∙ rest), λ g. product ∙ b.1 g ∙ sym rest)
 
-pub normal_means : (q : Quad) (n : Constraint) → IsNormal q n → (s : Assignment) → Holds s.at n ↔ (value_of_quad q s ≡ 0)
+pub normal_means : (q : Quad) (n : Constraint) → IsNormal q n → (s : Assignment)
+    → Holds s.at n ↔ (value_of_quad q s ≡ 0)
 normal_means q n h s = means_by q n s (constant_of q.a) (constant_of q.b) refl refl h
 
 -- the product alone
-product_alone : (a b : List Term) (s : Assignment) → added (multiplied (value_of a) (value_of b)) (value_of []) s ≡ multiplied (value_of a) (value_of b) s
+product_alone : (a b : List Term) (s : Assignment)
+    → added (multiplied (value_of a) (value_of b)) (value_of []) s
+    ≡ multiplied (value_of a) (value_of b) s
 unfolding added multiplied value_of
 product_alone a b s = omega (arith, mod-mod (value_of a s * value_of b s) P)
 
-pub times_value : (a b ca cb c : List Term) → ca ≡ a → cb ≡ b → c ≡ [] → added (multiplied (value_of ca) (value_of cb)) (value_of c) ≡ multiplied (value_of a) (value_of b)
+pub times_value : (a b ca cb c : List Term) → ca ≡ a → cb ≡ b → c ≡ []
+    → added (multiplied (value_of ca) (value_of cb)) (value_of c)
+    ≡ multiplied (value_of a) (value_of b)
 times_value a b ca cb c e f g = rw (e, f, g) (λ i s. product_alone a b s i)
 
 pub scaled_minus : (k : ℕ) (f : Number) → k ≡ (P - 1) % P → scaled k f ≡ negated f
@@ -137,7 +169,9 @@ unfolding scaled negated
 scaled_minus k f h = ap (λ (n : ℕ). λ (s : Assignment). (n * f s) % P) h
 
 pub none_within : (m : ℕ) (ts : List Term) → ts ≡ [] → IsWithin m ts
-none_within m ts e = All-same (λ (t : Term). (t.signal < m) × (t.coef < P)) ts [] e (All-nil (λ (t : Term). (t.signal < m) × (t.coef < P)))
+none_within m ts e =
+    All-same (λ (t : Term). (t.signal < m) × (t.coef < P)) ts [] e
+    (All-nil (λ (t : Term). (t.signal < m) × (t.coef < P)))
 
 pub same_within : (m : ℕ) (ts us : List Term) → ts ≡ us → IsWithin m us → IsWithin m ts
 same_within m ts us e h = All-same (λ (t : Term). (t.signal < m) × (t.coef < P)) ts us e h

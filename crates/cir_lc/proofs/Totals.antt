@@ -8,7 +8,8 @@ pub total-nil : (s : ℕ → ℕ) → total s [] ≡ 0
 unfolding total
 total-nil s = refl
 
-pub total-cons : (s : ℕ → ℕ) (t : Term) (ts : List Term) → total s (t ∷ ts) ≡ t.coef * s t.signal + total s ts
+pub total-cons : (s : ℕ → ℕ) (t : Term) (ts : List Term)
+    → total s (t ∷ ts) ≡ t.coef * s t.signal + total s ts
 unfolding total
 total-cons s t ts = sum_by-cons (λ (t : Term). t.coef * s t.signal) t ts
 

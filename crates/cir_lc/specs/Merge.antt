@@ -13,8 +13,10 @@ total s terms = sum_by (λ t. t.coef * s t.signal) terms
 pub record IsMerged (a b out left right : List Term) : Type 0 where
   pub rises_left : RisesFrom 0 (out ++ left)
   pub rises_right : RisesFrom 0 (out ++ right)
-  pub value : (s : ℕ → ℕ) → (total s out + (total s left + total s right)) % P ≡ (total s a + total s b) % P
-  pub within : (n : ℕ) → IsWithin n a → IsWithin n b → IsWithin n out × IsWithin n left × IsWithin n right
+  pub value : (s : ℕ → ℕ) → (total s out + (total s left + total s right)) % P
+      ≡ (total s a + total s b) % P
+  pub within : (n : ℕ) → IsWithin n a → IsWithin n b → IsWithin n out × IsWithin n left
+      × IsWithin n right
 
 -- `out` is k times a but for the rest of a
 pub record IsScaled (k : ℕ) (a out rest : List Term) : Type 0 where

@@ -20,9 +20,11 @@ pub fn subst(alloc: Global, c: &Constraint, signal: u32, by: &Lc) -> Result<Cons
     requires { 0 < signal }
     ensures value { IfOk result (λ r. (s : Assignment)
         → Holds s.at r ↔ Holds (with_number signal (value_of by.now s) s).at c.now) }
-    ensures form { IfOk result (λ r. (n : ℕ) → signal < n → IsConstraintWithin n c.now → IsWithin n by.now
+    ensures form { IfOk result (λ r. (n : ℕ) → signal < n → IsConstraintWithin n c.now
+        → IsWithin n by.now
         → r ≡ substitute n signal by.now c.now) }
-    ensures within { IfOk result (λ r. (n : ℕ) → signal < n → IsConstraintWithin n c.now → IsWithin n by.now
+    ensures within { IfOk result (λ r. (n : ℕ) → signal < n → IsConstraintWithin n c.now
+        → IsWithin n by.now
         → IsConstraintWithin n r) }
     ensures normal { IfOk result (λ r. IsNormalForm r) }
     ensures rises { IfOk result (λ r. IsRising r) }
@@ -40,8 +42,10 @@ pub fn subst(alloc: Global, c: &Constraint, signal: u32, by: &Lc) -> Result<Cons
 // `f` with `by` in place of the signal.
 fn changed(alloc: Global, f: &Lc, signal: u32, by: &Lc) -> Result<Lc, AllocError>
     requires { 0 < signal }
-    ensures value { IfOk result (λ g. value_of g ≡ substituted signal (value_of by.now) (value_of f.now)) }
-    ensures within { IfOk result (λ g. (n : ℕ) → signal < n → IsWithin n f.now → IsWithin n by.now → IsWithin n g) }
+    ensures value { IfOk result
+        (λ g. value_of g ≡ substituted signal (value_of by.now) (value_of f.now)) }
+    ensures within { IfOk result (λ g. (n : ℕ) → signal < n → IsWithin n f.now → IsWithin n by.now
+        → IsWithin n g) }
     ensures rises { IfOk result (λ g. RisesFrom 0 g) }
 {
     let k = coef(f, signal);

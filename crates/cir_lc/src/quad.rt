@@ -19,7 +19,8 @@ pub struct Quad {
 
 /// `a * b + 0`.
 pub fn times(alloc: Global, a: &Lc, b: &Lc) -> Result<Quad, AllocError>
-    ensures value { IfOk result (λ q. value_of_quad q ≡ multiplied (value_of a.now) (value_of b.now)) }
+    ensures value { IfOk result
+        (λ q. value_of_quad q ≡ multiplied (value_of a.now) (value_of b.now)) }
     ensures left { IfOk result (λ q. q.a ≡ a.now) }
     ensures right { IfOk result (λ q. q.b ≡ b.now) }
     ensures rest { IfOk result (λ q. q.c ≡ []) }
@@ -33,9 +34,11 @@ pub fn times(alloc: Global, a: &Lc, b: &Lc) -> Result<Quad, AllocError>
     })
 }
 
-/// The normal constraint of `a * b + c = 0`: where a factor names no signal but 0, the product goes into `C`.
+/// The normal constraint of `a * b + c = 0`: where a factor names no signal but 0, the product goes
+/// into `C`.
 pub fn normal(alloc: Global, q: &Quad) -> Result<Constraint, AllocError>
-    ensures value { IfOk result (λ n. (s : Assignment) → Holds s.at n ↔ (value_of_quad q.now s ≡ 0)) }
+    ensures value { IfOk result (λ n. (s : Assignment)
+        → Holds s.at n ↔ (value_of_quad q.now s ≡ 0)) }
     ensures shape { IfOk result (λ n. IsNormal q.now n) }
     ensures within { IfOk result (λ n. (m : ℕ) → IsQuadWithin m q.now → IsConstraintWithin m n) }
     ensures normal { IfOk result (λ n. IsNormalForm n) }
@@ -76,7 +79,8 @@ fn constant(a: &Lc) -> Option<Gold>
 // The constraint of `k * factor + c = 0`.
 fn linear(alloc: Global, c: &Lc, factor: &Lc, k: Gold) -> Result<Constraint, AllocError>
     ensures shape { IfOk result (IsLinear k factor.now c.now) }
-    ensures within { IfOk result (λ n. (m : ℕ) → IsWithin m factor.now → IsWithin m c.now → IsConstraintWithin m n) }
+    ensures within { IfOk result (λ n. (m : ℕ) → IsWithin m factor.now → IsWithin m c.now
+        → IsConstraintWithin m n) }
 {
     let product = scale(alloc, factor, k)?;
     let sum = add(alloc, c, &product)?;

@@ -10,7 +10,8 @@ use std::alloc::{AllocError, Global};
 /// `a + b`.
 pub fn add(alloc: Global, a: &Lc, b: &Lc) -> Result<Lc, AllocError>
     ensures value { IfOk result (λ f. value_of f ≡ added (value_of a.now) (value_of b.now)) }
-    ensures within { IfOk result (λ f. (n : ℕ) → IsWithin n a.now → IsWithin n b.now → IsWithin n f) }
+    ensures within { IfOk result (λ f. (n : ℕ) → IsWithin n a.now → IsWithin n b.now
+        → IsWithin n f) }
 {
     let terms = merged(alloc, a.as_slice(), b.as_slice())?;
     Ok(Lc::of(terms))

@@ -31,7 +31,8 @@ negative_class (Linear f) = refl
 negative_class (Quadratic a b c) = refl
 negative_class Opaque = refl
 
-product_classes : (x y : Value) → class_of (product_of x y) ≡ product_class (class_of x) (class_of y)
+product_classes : (x y : Value)
+    → class_of (product_of x y) ≡ product_class (class_of x) (class_of y)
 product_classes (Known j) (Known k) = refl
 product_classes (Known j) (Linear g) = refl
 product_classes (Known j) (Quadratic a b c) = refl
@@ -46,7 +47,8 @@ product_classes (Quadratic a b c) (Quadratic d e f) = refl
 product_classes (Quadratic a b c) Opaque = refl
 product_classes Opaque y = refl
 
-quotient_classes : (x y : Value) → class_of (quotient_of x y) ≡ quotient_class (class_of x) (class_of y)
+quotient_classes : (x y : Value)
+    → class_of (quotient_of x y) ≡ quotient_class (class_of x) (class_of y)
 quotient_classes (Known j) (Known k) = refl
 quotient_classes (Linear f) (Known k) = refl
 quotient_classes (Quadratic a b c) (Known k) = refl
@@ -56,7 +58,9 @@ quotient_classes x (Quadratic a b c) = refl
 quotient_classes x Opaque = refl
 
 -- the answer on two numbers is a number, where there is one
-known_classes : (op : Op2) (x y : Value) → ((j k : ℕ) → x ≡ Known j → y ≡ Known k → class_of (known_or_opaque (binary_of op j k)) ≡ Class'.Known) → class_of (known_of op x y) ≡ known_class (class_of x) (class_of y)
+known_classes : (op : Op2) (x y : Value)
+    → ((j k : ℕ) → x ≡ Known j → y ≡ Known k → class_of (known_or_opaque (binary_of op j k))
+    ≡ Class'.Known) → class_of (known_of op x y) ≡ known_class (class_of x) (class_of y)
 known_classes op (Known j) (Known k) h = h j k refl refl
 known_classes op (Known j) (Linear g) h = refl
 known_classes op (Known j) (Quadratic a b c) h = refl
@@ -70,7 +74,8 @@ cond_some true v w e = cc
 cond_some false v w e = (refl, cc)
 
 -- where a divisor isn't refused, the value is that of the quotient, and no known divisor is 0
-pub divided_is : (y v w : Value) → divided y v ≡ Some w → (v ≡ w) × ((k : ℕ) → y ≡ Known k → (k == 0) ≡ false)
+pub divided_is : (y v w : Value) → divided y v ≡ Some w
+    → (v ≡ w) × ((k : ℕ) → y ≡ Known k → (k == 0) ≡ false)
 divided_is (Known k) v w e =
     let h = cond_some (k == 0) v w e in
     (h.1, λ n same. let kn : k ≡ n = cc in ap (λ (m : ℕ). m == 0) (sym kn) ∙ h.0)
@@ -78,20 +83,25 @@ divided_is (Linear f) v w e = (cc, λ k h. cc)
 divided_is (Quadratic a b c) v w e = (cc, λ k h. cc)
 divided_is Opaque v w e = (cc, λ k h. cc)
 
-class_cond : (b : Bool) (x y : Value) (c d : Class) → class_of x ≡ c → class_of y ≡ d → class_of (cond b x y) ≡ cond b c d
+class_cond : (b : Bool) (x y : Value) (c d : Class) → class_of x ≡ c → class_of y ≡ d
+    → class_of (cond b x y) ≡ cond b c d
 class_cond true x y c d h k = h
 class_cond false x y c d h k = k
 
 power_classes_by : (x : Value) (e : ℕ) → class_of (V.power_by x e) ≡ power_by (class_of x) e
 power_classes_by (Known j) e =
-    class_cond (e == 0) _ _ _ _ refl (class_cond (e == 1) _ _ _ _ refl (class_cond (e == 2) _ _ _ _ refl refl))
+    class_cond (e == 0) _ _ _ _ refl
+    (class_cond (e == 1) _ _ _ _ refl (class_cond (e == 2) _ _ _ _ refl refl))
 power_classes_by (Linear f) e =
-    class_cond (e == 0) _ _ _ _ refl (class_cond (e == 1) _ _ _ _ refl (class_cond (e == 2) _ _ _ _ refl refl))
+    class_cond (e == 0) _ _ _ _ refl
+    (class_cond (e == 1) _ _ _ _ refl (class_cond (e == 2) _ _ _ _ refl refl))
 power_classes_by (Quadratic a b c) e =
-    class_cond (e == 0) _ _ _ _ refl (class_cond (e == 1) _ _ _ _ refl (class_cond (e == 2) _ _ _ _ refl refl))
+    class_cond (e == 0) _ _ _ _ refl
+    (class_cond (e == 1) _ _ _ _ refl (class_cond (e == 2) _ _ _ _ refl refl))
 power_classes_by Opaque e = refl
 
-power_classes : (x y : Value) → class_of (power_of x y) ≡ power_class (class_of x) (class_of y) (known_number y)
+power_classes : (x y : Value)
+    → class_of (power_of x y) ≡ power_class (class_of x) (class_of y) (known_number y)
 power_classes x (Known e) = power_classes_by x e
 power_classes x (Linear g) = refl
 power_classes x (Quadratic a b c) = refl
@@ -100,20 +110,30 @@ power_classes x Opaque = refl
 some_is : {A : Type 0} (x y : A) → Some x ≡ Some y → x ≡ y
 some_is x y e = cc
 
-always : (op : Op2) (x y v : Value) → Some (known_of op x y) ≡ Some v → ((j k : ℕ) → class_of (known_or_opaque (binary_of op j k)) ≡ Class'.Known) → class_of v ≡ known_class (class_of x) (class_of y)
+always : (op : Op2) (x y v : Value) → Some (known_of op x y) ≡ Some v
+    → ((j k : ℕ) → class_of (known_or_opaque (binary_of op j k)) ≡ Class'.Known)
+    → class_of v ≡ known_class (class_of x) (class_of y)
 always op x y v e h = ap class_of (sym (some_is _ _ e)) ∙ known_classes op x y (λ j k _ _. h j k)
 
-pub classes : (op : Op2) (x y v : Value) → result_of op x y ≡ Some v → class_of v ≡ class_by op (class_of x) (class_of y) (known_number y)
+pub classes : (op : Op2) (x y v : Value) → result_of op x y ≡ Some v
+    → class_of v ≡ class_by op (class_of x) (class_of y) (known_number y)
 classes Add x y v e = ap class_of (sym (some_is _ _ e)) ∙ sum_classes x y
-classes Sub x y v e = ap class_of (sym (some_is _ _ e)) ∙ sum_classes x (negative_of y) ∙ ap (sum_class (class_of x)) (negative_class y)
+classes Sub x y v e = ap class_of (sym (some_is _ _ e)) ∙ sum_classes x (negative_of y)
+    ∙ ap (sum_class (class_of x)) (negative_class y)
 classes Mul x y v e = ap class_of (sym (some_is _ _ e)) ∙ product_classes x y
 classes Div x y v e = ap class_of (sym (divided_is y _ v e).0) ∙ quotient_classes x y
 classes Quot x y v e =
     let d = divided_is y _ v e in
-    ap class_of (sym d.0) ∙ known_classes Quot x y (λ j k _ same. ap (λ b. class_of (known_or_opaque (cond b None (Some (j / k))))) (d.1 k same))
+    ap class_of (sym d.0)
+    ∙ known_classes Quot x y
+    (λ j k _ same. ap (λ b. class_of (known_or_opaque (cond b None (Some (j / k)))))
+    (d.1 k same))
 classes Rem x y v e =
     let d = divided_is y _ v e in
-    ap class_of (sym d.0) ∙ known_classes Rem x y (λ j k _ same. ap (λ b. class_of (known_or_opaque (cond b None (Some (j % k))))) (d.1 k same))
+    ap class_of (sym d.0)
+    ∙ known_classes Rem x y
+    (λ j k _ same. ap (λ b. class_of (known_or_opaque (cond b None (Some (j % k)))))
+    (d.1 k same))
 classes Pow x y v e = ap class_of (sym (some_is _ _ e)) ∙ power_classes x y
 classes Shl x y v e = always Shl x y v e (λ j k. refl)
 classes Shr x y v e = always Shr x y v e (λ j k. refl)

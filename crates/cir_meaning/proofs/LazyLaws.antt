@@ -63,42 +63,51 @@ truth_class (Linear f) h = cc
 truth_class (Quadratic a b c) h = cc
 truth_class Opaque h = cc
 
-and_class_by : (b : Bool) (y : Value) → class_of y ≡ Class'.Known → class_of (lazy_result (cond b (Decided 0) Right) y) ≡ Class'.Known
+and_class_by : (b : Bool) (y : Value) → class_of y ≡ Class'.Known
+    → class_of (lazy_result (cond b (Decided 0) Right) y) ≡ Class'.Known
 and_class_by true y h = refl
 and_class_by false y h = truth_class y h
 
-or_class_by : (b : Bool) (y : Value) → class_of y ≡ Class'.Known → class_of (lazy_result (cond b Right (Decided 1)) y) ≡ Class'.Known
+or_class_by : (b : Bool) (y : Value) → class_of y ≡ Class'.Known
+    → class_of (lazy_result (cond b Right (Decided 1)) y) ≡ Class'.Known
 or_class_by true y h = truth_class y h
 or_class_by false y h = refl
 
-pub and_class : (x y : Value) → class_of x ≡ Class'.Known → class_of y ≡ Class'.Known → class_of (lazy_result (and_left x) y) ≡ Class'.Known
+pub and_class : (x y : Value) → class_of x ≡ Class'.Known → class_of y ≡ Class'.Known
+    → class_of (lazy_result (and_left x) y) ≡ Class'.Known
 and_class (Known k) y g h = and_class_by (k == 0) y h
 and_class (Linear f) y g h = cc
 and_class (Quadratic a b c) y g h = cc
 and_class Opaque y g h = cc
 
-pub or_class : (x y : Value) → class_of x ≡ Class'.Known → class_of y ≡ Class'.Known → class_of (lazy_result (or_left x) y) ≡ Class'.Known
+pub or_class : (x y : Value) → class_of x ≡ Class'.Known → class_of y ≡ Class'.Known
+    → class_of (lazy_result (or_left x) y) ≡ Class'.Known
 or_class (Known k) y g h = or_class_by (k == 0) y h
 or_class (Linear f) y g h = cc
 or_class (Quadratic a b c) y g h = cc
 or_class Opaque y g h = cc
 
 module _ (s : Assignment) where
-  truth_is : (y : Value) → class_of (truth_of y) ≢ Class'.Opaque → number_of (truth_of y) s ≡ truth_number (number_of y s)
+  truth_is : (y : Value) → class_of (truth_of y) ≢ Class'.Opaque
+      → number_of (truth_of y) s ≡ truth_number (number_of y s)
   unfolding constant
   truth_is (Known k) h = refl
   truth_is (Linear f) h = absurd (h refl)
   truth_is (Quadratic a b c) h = absurd (h refl)
   truth_is Opaque h = absurd (h refl)
 
-  and_by : (b : Bool) (y : Value) → class_of (lazy_result (cond b (Decided 0) Right) y) ≢ Class'.Opaque
-      → number_of (lazy_result (cond b (Decided 0) Right) y) s ≡ cond b 0 (truth_number (number_of y s))
+  and_by : (b : Bool) (y : Value) → class_of (lazy_result (cond b (Decided 0) Right) y)
+      ≢ Class'.Opaque
+      → number_of (lazy_result (cond b (Decided 0) Right) y) s
+      ≡ cond b 0 (truth_number (number_of y s))
   unfolding constant
   and_by true y h = refl
   and_by false y h = truth_is y h
 
-  or_by : (b : Bool) (y : Value) → class_of (lazy_result (cond b Right (Decided 1)) y) ≢ Class'.Opaque
-      → number_of (lazy_result (cond b Right (Decided 1)) y) s ≡ cond b (truth_number (number_of y s)) 1
+  or_by : (b : Bool) (y : Value) → class_of (lazy_result (cond b Right (Decided 1)) y)
+      ≢ Class'.Opaque
+      → number_of (lazy_result (cond b Right (Decided 1)) y) s
+      ≡ cond b (truth_number (number_of y s)) 1
   unfolding constant
   or_by true y h = truth_is y h
   or_by false y h = refl
@@ -119,12 +128,14 @@ module _ (s : Assignment) where
   or_is (Quadratic a b c) y h = absurd (h refl)
   or_is Opaque y h = absurd (h refl)
 
-  choice_by : (b : Bool) (x y : Value) → number_of (chosen (cond b Second First) x y) s ≡ cond b (number_of y s) (number_of x s)
+  choice_by : (b : Bool) (x y : Value) → number_of (chosen (cond b Second First) x y) s
+      ≡ cond b (number_of y s) (number_of x s)
   choice_by true x y = refl
   choice_by false x y = refl
 
   pub choice_is : (c x y : Value) → class_of c ≡ Class'.Known
-      → number_of (chosen (side_of c) x y) s ≡ choice_number (number_of c s) (number_of x s) (number_of y s)
+      → number_of (chosen (side_of c) x y) s
+      ≡ choice_number (number_of c s) (number_of x s) (number_of y s)
   unfolding constant
   choice_is (Known k) x y h = choice_by (k == 0) x y
   choice_is (Linear f) x y h = cc

@@ -40,7 +40,8 @@ first_power n = pow-suc n 0 ∙ ap (λ (k : ℕ). k * n) (pow-zero n) ∙ omega 
 second_power : (n : ℕ) → n ^ 2 ≡ n * n
 second_power n = pow-suc n 1 ∙ ap (λ (k : ℕ). k * n) (first_power n)
 
-pub unary_classes : (op : Op1) (x : Value) → class_of (unary_result op x) ≡ unary_class op (class_of x)
+pub unary_classes : (op : Op1) (x : Value)
+    → class_of (unary_result op x) ≡ unary_class op (class_of x)
 unary_classes Neg x = negative_class x
 unary_classes Not (Known k) = refl
 unary_classes Not (Linear f) = refl
@@ -61,11 +62,13 @@ opaque_sum (Linear f) Opaque e = refl
 opaque_sum (Quadratic a b c) Opaque e = refl
 opaque_sum Opaque Opaque e = refl
 
-opaque_right : (x y : Value) → class_of y ≡ Class'.Opaque → class_of (difference_of x y) ≡ Class'.Opaque
+opaque_right : (x y : Value) → class_of y ≡ Class'.Opaque
+    → class_of (difference_of x y) ≡ Class'.Opaque
 opaque_right x y e = opaque_sum x (negative_of y) (negative_class y ∙ e)
 
 module _ (s : Assignment) where
-  sum_number : (x y : Value) → class_of (sum_of x y) ≢ Class'.Opaque → (number_of x s + number_of y s) % P ≡ number_of (sum_of x y) s
+  sum_number : (x y : Value) → class_of (sum_of x y) ≢ Class'.Opaque
+      → (number_of x s + number_of y s) % P ≡ number_of (sum_of x y) s
   unfolding constant added multiplied
   sum_number (Known j) (Known k) h = refl
   sum_number (Known j) (Linear g) h = refl
@@ -90,7 +93,8 @@ module _ (s : Assignment) where
   below Opaque v = omega arith
 
   -- k times a * b + c
-  scaled_parts : (k a b c : ℕ) → (k * ((a * b % P + c) % P)) % P ≡ ((k * a % P * b) % P + k * c % P) % P
+  scaled_parts : (k a b c : ℕ) → (k * ((a * b % P + c) % P)) % P
+      ≡ ((k * a % P * b) % P + k * c % P) % P
   scaled_parts k a b c =
       let ring : k * (a * b + c) ≡ k * a * b + k * c = grind arith in
       mul-mod_second k (a * b % P + c) P
@@ -101,7 +105,8 @@ module _ (s : Assignment) where
       ∙ sym (mod-add-mod (k * a * b) P (k * c)) ∙ sym (add-mod-mod (k * a * b % P) (k * c) P)
       ∙ ap (λ (n : ℕ). (n + k * c % P) % P) (sym (mul-mod_first (k * a) b P))
 
-  negative_number : (y : Value) → IsValue y → class_of y ≢ Class'.Opaque → number_of (negative_of y) s ≡ (P - number_of y s) % P
+  negative_number : (y : Value) → IsValue y → class_of y ≢ Class'.Opaque
+      → number_of (negative_of y) s ≡ (P - number_of y s) % P
   unfolding constant added multiplied negated
   negative_number (Known k) v h = refl
   negative_number (Linear f) v h = minus (f s) (v s)
@@ -109,13 +114,15 @@ module _ (s : Assignment) where
       sym (scaled_parts (P - 1) (a s) (b s) (c s)) ∙ minus ((a s * b s % P + c s) % P) (omega arith)
   negative_number Opaque v h = absurd (h refl)
 
-  product_number : (x y : Value) → class_of (product_of x y) ≢ Class'.Opaque → (number_of x s * number_of y s) % P ≡ number_of (product_of x y) s
+  product_number : (x y : Value) → class_of (product_of x y) ≢ Class'.Opaque
+      → (number_of x s * number_of y s) % P ≡ number_of (product_of x y) s
   unfolding constant added multiplied scaled
   product_number (Known j) (Known k) h = refl
   product_number (Known j) (Linear g) h = refl
   product_number (Known j) (Quadratic a b c) h = scaled_parts j (a s) (b s) (c s)
   product_number (Known j) Opaque h = absurd (h refl)
-  product_number (Linear f) (Known k) h = let e : f s * k ≡ k * f s = grind arith in ap (λ (n : ℕ). n % P) e
+  product_number (Linear f) (Known k) h =
+      let e : f s * k ≡ k * f s = grind arith in ap (λ (n : ℕ). n % P) e
   product_number (Linear f) (Linear g) h =
       let e : f s * g s % P + 0 ≡ f s * g s % P = omega arith in
       let small : f s * g s % P < P = omega arith in
@@ -130,12 +137,15 @@ module _ (s : Assignment) where
   product_number (Quadratic a b c) Opaque h = absurd (h refl)
   product_number Opaque y h = absurd (h refl)
 
-  known_by : (op : Op2) (j k : ℕ) (o : Option ℕ) → binary_of op j k ≡ o → class_of (known_or_opaque o) ≢ Class'.Opaque → binary_of op j k ≡ Some (number_of (known_or_opaque o) s)
+  known_by : (op : Op2) (j k : ℕ) (o : Option ℕ) → binary_of op j k ≡ o
+      → class_of (known_or_opaque o) ≢ Class'.Opaque
+      → binary_of op j k ≡ Some (number_of (known_or_opaque o) s)
   unfolding constant
   known_by op j k None e h = absurd (h refl)
   known_by op j k (Some n) e h = e
 
-  known_numbers : (op : Op2) (x y : Value) → class_of (known_of op x y) ≢ Class'.Opaque → binary_of op (number_of x s) (number_of y s) ≡ Some (number_of (known_of op x y) s)
+  known_numbers : (op : Op2) (x y : Value) → class_of (known_of op x y) ≢ Class'.Opaque
+      → binary_of op (number_of x s) (number_of y s) ≡ Some (number_of (known_of op x y) s)
   unfolding constant
   known_numbers op (Known j) (Known k) h = known_by op j k (binary_of op j k) refl h
   known_numbers op (Known j) (Linear g) h = absurd (h refl)
@@ -150,16 +160,21 @@ module _ (s : Assignment) where
   power_zero n e h = ap (λ (k : ℕ). n ^ k % P) h ∙ ap (λ (k : ℕ). k % P) (pow-zero n)
 
   power_one : (n e : ℕ) → n < P → e ≡ 1 → n ^ e % P ≡ n
-  power_one n e small h = ap (λ (k : ℕ). n ^ k % P) h ∙ ap (λ (k : ℕ). k % P) (first_power n) ∙ mod-eq_of_lt small
+  power_one n e small h =
+      ap (λ (k : ℕ). n ^ k % P) h ∙ ap (λ (k : ℕ). k % P) (first_power n) ∙ mod-eq_of_lt small
 
   power_two : (n e : ℕ) → e ≡ 2 → n ^ e % P ≡ n * n % P
   power_two n e h = ap (λ (k : ℕ). n ^ k % P) h ∙ ap (λ (k : ℕ). k % P) (second_power n)
 
-  power_cond : (b : Bool) (n : ℕ) (x y : Value) → (b ≡ true → class_of x ≢ Class'.Opaque → n ≡ number_of x s) → (b ≡ false → class_of y ≢ Class'.Opaque → n ≡ number_of y s) → class_of (cond b x y) ≢ Class'.Opaque → n ≡ number_of (cond b x y) s
+  power_cond : (b : Bool) (n : ℕ) (x y : Value)
+      → (b ≡ true → class_of x ≢ Class'.Opaque → n ≡ number_of x s)
+      → (b ≡ false → class_of y ≢ Class'.Opaque → n ≡ number_of y s)
+      → class_of (cond b x y) ≢ Class'.Opaque → n ≡ number_of (cond b x y) s
   power_cond true n x y h k c = h refl c
   power_cond false n x y h k c = k refl c
 
-  power_numbers : (x : Value) (e : ℕ) → IsValue x → class_of (power_by x e) ≢ Class'.Opaque → (number_of x s) ^ e % P ≡ number_of (power_by x e) s
+  power_numbers : (x : Value) (e : ℕ) → IsValue x → class_of (power_by x e) ≢ Class'.Opaque
+      → (number_of x s) ^ e % P ≡ number_of (power_by x e) s
   unfolding constant
   power_numbers (Known j) e v =
       power_cond (e == 0) _ _ _ (λ t _. power_zero j e (eqb-true e 0 t)) (λ _.
@@ -168,10 +183,14 @@ module _ (s : Assignment) where
   power_numbers (Linear f) e v =
       power_cond (e == 0) _ _ _ (λ t _. power_zero (f s) e (eqb-true e 0 t)) (λ _.
       power_cond (e == 1) _ _ _ (λ t _. power_one (f s) e (v s) (eqb-true e 1 t)) (λ _.
-      power_cond (e == 2) _ _ _ (λ t h. power_two (f s) e (eqb-true e 2 t) ∙ product_number (Linear f) (Linear f) h) (λ _ h. absurd (h refl))))
+      power_cond (e == 2) _ _ _ (λ t h. power_two (f s) e (eqb-true e 2 t)
+      ∙ product_number (Linear f) (Linear f) h) (λ _ h. absurd (h refl))))
   power_numbers (Quadratic a b c) e v =
-      power_cond (e == 0) _ _ _ (λ t _. power_zero (number_of (Quadratic a b c) s) e (eqb-true e 0 t)) (λ _.
-      power_cond (e == 1) _ _ _ (λ t _. power_one (number_of (Quadratic a b c) s) e (below (Quadratic a b c) v) (eqb-true e 1 t)) (λ _.
+      power_cond (e == 0) _ _ _
+      (λ t _. power_zero (number_of (Quadratic a b c) s) e (eqb-true e 0 t)) (λ _.
+      power_cond (e == 1) _ _ _
+      (λ t _. power_one (number_of (Quadratic a b c) s) e (below (Quadratic a b c) v)
+      (eqb-true e 1 t)) (λ _.
       power_cond (e == 2) _ _ _ (λ t h. absurd (h refl)) (λ _ h. absurd (h refl))))
   power_numbers Opaque e v = λ h. absurd (h refl)
 
@@ -179,51 +198,81 @@ module _ (s : Assignment) where
   same_some a b e = cc
 
   -- a law of the result, at the value that it is
-  at_value : (u v : Value) (o : Option ℕ) → u ≡ v → class_of v ≢ Class'.Opaque → (class_of u ≢ Class'.Opaque → o ≡ Some (number_of u s)) → o ≡ Some (number_of v s)
-  at_value u v o e h law = subst (λ w. class_of w ≢ Class'.Opaque → o ≡ Some (number_of w s)) e law h
+  at_value : (u v : Value) (o : Option ℕ) → u ≡ v → class_of v ≢ Class'.Opaque
+      → (class_of u ≢ Class'.Opaque → o ≡ Some (number_of u s)) → o ≡ Some (number_of v s)
+  at_value u v o e h law =
+      subst (λ w. class_of w ≢ Class'.Opaque → o ≡ Some (number_of w s)) e law h
 
-  pub difference_number : (x y : Value) → IsValue y → class_of (difference_of x y) ≢ Class'.Opaque → (number_of x s + (P - number_of y s)) % P ≡ number_of (difference_of x y) s
+  pub difference_number : (x y : Value) → IsValue y → class_of (difference_of x y) ≢ Class'.Opaque
+      → (number_of x s + (P - number_of y s)) % P ≡ number_of (difference_of x y) s
   difference_number x y v h =
       sym (add-mod-mod (number_of x s) (P - number_of y s) P)
-      ∙ ap (λ (n : ℕ). (number_of x s + n) % P) (sym (negative_number y v (λ e. h (opaque_right x y e))))
+      ∙ ap (λ (n : ℕ). (number_of x s + n) % P)
+      (sym (negative_number y v (λ e. h (opaque_right x y e))))
       ∙ sum_number x (negative_of y) h
 
-  quotient_number : (x y : Value) → ((k : ℕ) → y ≡ Known k → (k == 0) ≡ false) → class_of (quotient_of x y) ≢ Class'.Opaque → binary_of Div (number_of x s) (number_of y s) ≡ Some (number_of (quotient_of x y) s)
+  quotient_number : (x y : Value) → ((k : ℕ) → y ≡ Known k → (k == 0) ≡ false)
+      → class_of (quotient_of x y) ≢ Class'.Opaque → binary_of Div (number_of x s) (number_of y s)
+      ≡ Some (number_of (quotient_of x y) s)
   unfolding constant
   quotient_number x (Known k) nz h =
-      ap (λ b. cond b None (Some (number_of x s * inverse_of k % P))) (nz k refl) ∙ ap Some (product_number x (Known (inverse_of k)) h)
+      ap (λ b. cond b None (Some (number_of x s * inverse_of k % P))) (nz k refl)
+      ∙ ap Some (product_number x (Known (inverse_of k)) h)
   quotient_number x (Linear g) nz h = absurd (h refl)
   quotient_number x (Quadratic a b c) nz h = absurd (h refl)
   quotient_number x Opaque nz h = absurd (h refl)
 
-  power_number : (x y : Value) → IsValue x → class_of (power_of x y) ≢ Class'.Opaque → binary_of Pow (number_of x s) (number_of y s) ≡ Some (number_of (power_of x y) s)
+  power_number : (x y : Value) → IsValue x → class_of (power_of x y) ≢ Class'.Opaque
+      → binary_of Pow (number_of x s) (number_of y s) ≡ Some (number_of (power_of x y) s)
   unfolding constant
   power_number x (Known e) v h = ap Some (power_numbers x e v h)
   power_number x (Linear g) v h = absurd (h refl)
   power_number x (Quadratic a b c) v h = absurd (h refl)
   power_number x Opaque v h = absurd (h refl)
 
-  pub numbers : (op : Op2) (x y v : Value) → IsValue x → IsValue y → result_of op x y ≡ Some v → class_of v ≢ Class'.Opaque → binary_of op (number_of x s) (number_of y s) ≡ Some (number_of v s)
-  numbers Add x y v i j e h = at_value (sum_of x y) v _ (same_some _ _ e) h (λ k. ap Some (sum_number x y k))
-  numbers Sub x y v i j e h = at_value (difference_of x y) v _ (same_some _ _ e) h (λ k. ap Some (difference_number x y j k))
-  numbers Mul x y v i j e h = at_value (product_of x y) v _ (same_some _ _ e) h (λ k. ap Some (product_number x y k))
-  numbers Div x y v i j e h = let d = divided_is y (quotient_of x y) v e in at_value (quotient_of x y) v _ d.0 h (quotient_number x y d.1)
-  numbers Quot x y v i j e h = let d = divided_is y (known_of Quot x y) v e in at_value (known_of Quot x y) v _ d.0 h (known_numbers Quot x y)
-  numbers Rem x y v i j e h = let d = divided_is y (known_of Rem x y) v e in at_value (known_of Rem x y) v _ d.0 h (known_numbers Rem x y)
+  pub numbers : (op : Op2) (x y v : Value) → IsValue x → IsValue y → result_of op x y ≡ Some v
+      → class_of v ≢ Class'.Opaque → binary_of op (number_of x s) (number_of y s)
+      ≡ Some (number_of v s)
+  numbers Add x y v i j e h =
+      at_value (sum_of x y) v _ (same_some _ _ e) h (λ k. ap Some (sum_number x y k))
+  numbers Sub x y v i j e h =
+      at_value (difference_of x y) v _ (same_some _ _ e) h
+      (λ k. ap Some (difference_number x y j k))
+  numbers Mul x y v i j e h =
+      at_value (product_of x y) v _ (same_some _ _ e) h (λ k. ap Some (product_number x y k))
+  numbers Div x y v i j e h = let d = divided_is y (quotient_of x y) v e
+      in at_value (quotient_of x y) v _ d.0 h (quotient_number x y d.1)
+  numbers Quot x y v i j e h = let d = divided_is y (known_of Quot x y) v e
+      in at_value (known_of Quot x y) v _ d.0 h (known_numbers Quot x y)
+  numbers Rem x y v i j e h = let d = divided_is y (known_of Rem x y) v e
+      in at_value (known_of Rem x y) v _ d.0 h (known_numbers Rem x y)
   numbers Pow x y v i j e h = at_value (power_of x y) v _ (same_some _ _ e) h (power_number x y i)
-  numbers Shl x y v i j e h = at_value (known_of Shl x y) v _ (same_some _ _ e) h (known_numbers Shl x y)
-  numbers Shr x y v i j e h = at_value (known_of Shr x y) v _ (same_some _ _ e) h (known_numbers Shr x y)
-  numbers And x y v i j e h = at_value (known_of And x y) v _ (same_some _ _ e) h (known_numbers And x y)
-  numbers Xor x y v i j e h = at_value (known_of Xor x y) v _ (same_some _ _ e) h (known_numbers Xor x y)
-  numbers Or x y v i j e h = at_value (known_of Or x y) v _ (same_some _ _ e) h (known_numbers Or x y)
-  numbers Lt x y v i j e h = at_value (known_of Lt x y) v _ (same_some _ _ e) h (known_numbers Lt x y)
-  numbers Le x y v i j e h = at_value (known_of Le x y) v _ (same_some _ _ e) h (known_numbers Le x y)
-  numbers Gt x y v i j e h = at_value (known_of Gt x y) v _ (same_some _ _ e) h (known_numbers Gt x y)
-  numbers Ge x y v i j e h = at_value (known_of Ge x y) v _ (same_some _ _ e) h (known_numbers Ge x y)
-  numbers Eq x y v i j e h = at_value (known_of Eq x y) v _ (same_some _ _ e) h (known_numbers Eq x y)
-  numbers Ne x y v i j e h = at_value (known_of Ne x y) v _ (same_some _ _ e) h (known_numbers Ne x y)
+  numbers Shl x y v i j e h =
+      at_value (known_of Shl x y) v _ (same_some _ _ e) h (known_numbers Shl x y)
+  numbers Shr x y v i j e h =
+      at_value (known_of Shr x y) v _ (same_some _ _ e) h (known_numbers Shr x y)
+  numbers And x y v i j e h =
+      at_value (known_of And x y) v _ (same_some _ _ e) h (known_numbers And x y)
+  numbers Xor x y v i j e h =
+      at_value (known_of Xor x y) v _ (same_some _ _ e) h (known_numbers Xor x y)
+  numbers Or x y v i j e h =
+      at_value (known_of Or x y) v _ (same_some _ _ e) h (known_numbers Or x y)
+  numbers Lt x y v i j e h =
+      at_value (known_of Lt x y) v _ (same_some _ _ e) h (known_numbers Lt x y)
+  numbers Le x y v i j e h =
+      at_value (known_of Le x y) v _ (same_some _ _ e) h (known_numbers Le x y)
+  numbers Gt x y v i j e h =
+      at_value (known_of Gt x y) v _ (same_some _ _ e) h (known_numbers Gt x y)
+  numbers Ge x y v i j e h =
+      at_value (known_of Ge x y) v _ (same_some _ _ e) h (known_numbers Ge x y)
+  numbers Eq x y v i j e h =
+      at_value (known_of Eq x y) v _ (same_some _ _ e) h (known_numbers Eq x y)
+  numbers Ne x y v i j e h =
+      at_value (known_of Ne x y) v _ (same_some _ _ e) h (known_numbers Ne x y)
 
-  pub unary_numbers : (op : Op1) (x : Value) → IsValue x → class_of (unary_result op x) ≢ Class'.Opaque → unary_of op (number_of x s) ≡ number_of (unary_result op x) s
+  pub unary_numbers : (op : Op1) (x : Value) → IsValue x
+      → class_of (unary_result op x) ≢ Class'.Opaque
+      → unary_of op (number_of x s) ≡ number_of (unary_result op x) s
   unfolding constant
   unary_numbers Neg x v h = sym (negative_number x v (λ e. h (negative_class x ∙ e)))
   unary_numbers Not (Known k) v h = refl

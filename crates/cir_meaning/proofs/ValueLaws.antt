@@ -60,7 +60,8 @@ quotient_value x (Linear g) v = tt
 quotient_value x (Quadratic a b c) v = tt
 quotient_value x Opaque v = tt
 
-answer_value : (op : Op2) (j k : ℕ) (o : Option ℕ) → j < P → binary_of op j k ≡ o → IsValue (known_or_opaque o)
+answer_value : (op : Op2) (j k : ℕ) (o : Option ℕ) → j < P → binary_of op j k ≡ o
+    → IsValue (known_or_opaque o)
 answer_value op j k None h e = tt
 answer_value op j k (Some n) h e = binary_below op j k n h e
 
@@ -79,10 +80,13 @@ cond_value false x y v w = w
 
 -- the powers 0, 1 and 2, and the others
 powers : (x : Value) (e : ℕ) → IsValue x
-    → IsValue (cond (e == 0) (Known 1) (cond (e == 1) x (cond (e == 2) (product_of x x) (known_of Pow x (Known e)))))
+    → IsValue
+    (cond (e == 0) (Known 1)
+    (cond (e == 1) x (cond (e == 2) (product_of x x) (known_of Pow x (Known e)))))
 powers x e v =
     cond_value (e == 0) _ _ (omega arith)
-    (cond_value (e == 1) _ _ v (cond_value (e == 2) _ _ (product_value x x v v) (known_value Pow x (Known e) v)))
+    (cond_value (e == 1) _ _ v
+    (cond_value (e == 2) _ _ (product_value x x v v) (known_value Pow x (Known e) v)))
 
 power_by_value : (x : Value) (e : ℕ) → IsValue x → IsValue (power_by x e)
 power_by_value (Known k) e v = powers (Known k) e v
@@ -99,13 +103,17 @@ power_value x Opaque v = tt
 is_value : (u v : Value) → IsValue u → Some u ≡ Some v → IsValue v
 is_value u v h e = let same : u ≡ v = cc in subst IsValue same h
 
-pub result_value : (op : Op2) (x y v : Value) → IsValue x → IsValue y → result_of op x y ≡ Some v → IsValue v
+pub result_value : (op : Op2) (x y v : Value) → IsValue x → IsValue y → result_of op x y ≡ Some v
+    → IsValue v
 result_value Add x y v i j e = is_value _ v (sum_value x y i j) e
 result_value Sub x y v i j e = is_value _ v (sum_value x (negative_of y) i (negative_value y j)) e
 result_value Mul x y v i j e = is_value _ v (product_value x y i j) e
-result_value Div x y v i j e = subst IsValue (divided_is y (quotient_of x y) v e).0 (quotient_value x y i)
-result_value Quot x y v i j e = subst IsValue (divided_is y (known_of Quot x y) v e).0 (known_value Quot x y i)
-result_value Rem x y v i j e = subst IsValue (divided_is y (known_of Rem x y) v e).0 (known_value Rem x y i)
+result_value Div x y v i j e =
+    subst IsValue (divided_is y (quotient_of x y) v e).0 (quotient_value x y i)
+result_value Quot x y v i j e =
+    subst IsValue (divided_is y (known_of Quot x y) v e).0 (known_value Quot x y i)
+result_value Rem x y v i j e =
+    subst IsValue (divided_is y (known_of Rem x y) v e).0 (known_value Rem x y i)
 result_value Pow x y v i j e = is_value _ v (power_value x y i) e
 result_value Shl x y v i j e = is_value _ v (known_value Shl x y i) e
 result_value Shr x y v i j e = is_value _ v (known_value Shr x y i) e

@@ -1,4 +1,5 @@
--- The class of an operator's result, by the classes of its operands. Cancellation doesn't lower a class.
+-- The class of an operator's result, by the classes of its operands. Cancellation doesn't lower a
+-- class.
 use Rattle.std.specs.Prelude.{ℕ, Option, Some, None, if◌then◌else◌, ◌==◌}
 use Rattle.gold_field.specs.declared.operators.Op1.{Op1}
 use Rattle.gold_field.specs.declared.operators.Op1.TheVariants.{Neg, Not, Compl}
@@ -20,7 +21,8 @@ sum_class Quadratic Quadratic = Opaque
 sum_class Quadratic Opaque = Opaque
 sum_class Opaque y = Opaque
 
--- a product: a known factor keeps the class of the other, and two linear factors make a quadratic one
+-- a product: a known factor keeps the class of the other, and two linear factors make a quadratic
+-- one
 abbrev pub product_class : Class → Class → Class
 product_class Known y = y
 product_class Linear Known = Linear
@@ -50,11 +52,12 @@ known_class Linear y = Opaque
 known_class Quadratic y = Opaque
 known_class Opaque y = Opaque
 
--- a power whose exponent is a known number: the powers 0, 1 and 2 of a base that isn't opaque are 1, the
--- base, and the product of the base with itself
+-- a power whose exponent is a known number: the powers 0, 1 and 2 of a base that isn't opaque are
+-- 1, the base, and the product of the base with itself
 abbrev pub power_by : Class → ℕ → Class
 power_by Opaque e = Opaque
-power_by x e = if e == 0 then Known else (if e == 1 then x else (if e == 2 then product_class x x else known_class x Known))
+power_by x e = if e == 0 then Known
+    else (if e == 1 then x else (if e == 2 then product_class x x else known_class x Known))
 
 abbrev pub power_class : Class → Class → Option ℕ → Class
 power_class x Known (Some e) = power_by x e

@@ -1,4 +1,5 @@
--- The constraints of a source: equations between values, and the source list, whose constraints stand for them.
+-- The constraints of a source: equations between values, and the source list, whose constraints
+-- stand for them.
 use Rattle.std.specs.Prelude.{◌≡◌, ℕ, ◌+◌, ◌-◌, ◌%◌, ◌<◌, List, [], ◌∷◌, sum_by, Option, Some, None}
 use Rattle.gold_field.specs.declared.form.Constraint.{Constraint}
 use Rattle.gold_field.specs.declared.gold.TheConstants.{P}
@@ -53,7 +54,8 @@ IsSource n [] (k ∷ ks) = ⊥
 IsSource n (e ∷ es) [] = ⊥
 IsSource n (e ∷ es) (k ∷ ks) = IsConstraintOf n e k × IsSource n es ks
 
--- the terms of the normal constraint of a * b + c = 0, where there are n signals with signal 0: a constant factor goes into C
+-- the terms of the normal constraint of a * b + c = 0, where there are n signals with signal 0: a
+-- constant factor goes into C
 abbrev pub terms_by : ℕ → Option ℕ → Option ℕ → Parts → ℕ
 terms_by n (Some k) _ p = terms_below n (negated (added p.c (scaled k p.b)))
 terms_by n None (Some k) p = terms_below n (negated (added p.c (scaled k p.a)))

@@ -1,5 +1,5 @@
--- The value of an expression at an assignment: its numbers are functions of the assignment. There are no
--- linear combinations in it.
+-- The value of an expression at an assignment: its numbers are functions of the assignment. There
+-- are no linear combinations in it.
 use Rattle.std.specs.Prelude.{ℕ, ◌*◌, ◌-◌, ◌%◌, ◌+◌, ◌<◌, Option, Some, None, if◌then◌else◌, ◌==◌}
 use Rattle.gold_field.specs.declared.gold.TheConstants.{P}
 use Rattle.gold_field.specs.declared.operators.Op1.{Op1}
@@ -99,7 +99,8 @@ known_of op Opaque y = Opaque
 -- a power: by a known 0, 1 or 2 the number 1, the base, and the base times itself
 abbrev pub power_by : Value → ℕ → Value
 power_by Opaque e = Opaque
-power_by x e = if e == 0 then Known 1 else (if e == 1 then x else (if e == 2 then product_of x x else known_of Pow x (Known e)))
+power_by x e = if e == 0 then Known 1
+    else (if e == 1 then x else (if e == 2 then product_of x x else known_of Pow x (Known e)))
 
 abbrev pub power_of : Value → Value → Value
 power_of x (Known e) = power_by x e
@@ -147,8 +148,8 @@ unary_result Neg x = negative_of x
 unary_result Not x = known_unary Not x
 unary_result Compl x = known_unary Compl x
 
--- what is known of a lazy operator by its left side: the answer, that the right side decides, or that
--- the right side is shaded
+-- what is known of a lazy operator by its left side: the answer, that the right side decides, or
+-- that the right side is shaded
 pub data Lazy : Type 0 where
   Decided : ℕ → Lazy
   Right : Lazy
@@ -179,7 +180,8 @@ lazy_result (Decided n) y = Known n
 lazy_result Right y = truth_of y
 lazy_result Shaded y = Opaque
 
--- which side of `?:` a condition chooses, if that is known; else both are shaded, and the value is opaque
+-- which side of `?:` a condition chooses, if that is known; else both are shaded, and the value is
+-- opaque
 pub data Side : Type 0 where
   First : Side
   Second : Side

@@ -1,5 +1,5 @@
-/// How an expression depends on the signals, in rising order: not at all, by a linear combination, by
-/// `a * b + c` of three linear combinations, or in any other way.
+/// How an expression depends on the signals, in rising order: not at all, by a linear combination,
+/// by `a * b + c` of three linear combinations, or in any other way.
 #[derive(Clone, Copy, Debug, PartialEq, Eq)]
 pub enum Class {
     Known,

@@ -1,5 +1,5 @@
-//! Laws over the values of expressions and the constraints of a source, each the contract of a function that
-//! does nothing.
+//! Laws over the values of expressions and the constraints of a source, each the contract of a
+//! function that does nothing.
 
 ghost use Rattle.std.specs.Prelude.{◌≡◌, ◌≢◌, ◌↔◌, ◌+◌, ◌<◌, ℕ, Some, List, All, length, sum_by};
 ghost use Rattle.gold_field.specs.declared.form.Constraint.{Constraint};
@@ -24,20 +24,26 @@ pub fn classes_are_the_table()
 /// The number of an operator's result is the operator's on the numbers of its operands, at each
 /// assignment; of an opaque result no number is told.
 pub fn numbers_are_the_operators()
-    ensures { (op : Op2) (x y v : Value) (s : Assignment) → IsValue x → IsValue y → result_of op x y ≡ Some v →
-        class_of v ≢ Class.Opaque → binary_of op (number_of x s) (number_of y s) ≡ Some (number_of v s) }
+    ensures { (op : Op2) (x y v : Value) (s : Assignment) → IsValue x → IsValue y
+        → result_of op x y ≡ Some v →
+        class_of v ≢ Class.Opaque → binary_of op (number_of x s) (number_of y s)
+        ≡ Some (number_of v s) }
 {}
 
-/// The same of the operators of one operand: `-` keeps the class, and `!` and `~` are of known numbers alone.
+/// The same of the operators of one operand: `-` keeps the class, and `!` and `~` are of known
+/// numbers alone.
 pub fn unary_operators()
-    ensures class { (op : Op1) (x : Value) → class_of (unary_result op x) ≡ unary_class op (class_of x) }
+    ensures class { (op : Op1) (x : Value)
+        → class_of (unary_result op x) ≡ unary_class op (class_of x) }
     ensures number { (op : Op1) (x : Value) (s : Assignment) → IsValue x →
-        class_of (unary_result op x) ≢ Class.Opaque → unary_of op (number_of x s) ≡ number_of (unary_result op x) s }
+        class_of (unary_result op x) ≢ Class.Opaque
+        → unary_of op (number_of x s) ≡ number_of (unary_result op x) s }
 {}
 
 /// The operators give values of the field, so a law on values holds of nested expressions too.
 pub fn results_are_values()
-    ensures binary { (op : Op2) (x y v : Value) → IsValue x → IsValue y → result_of op x y ≡ Some v →
+    ensures binary { (op : Op2) (x y v : Value) → IsValue x → IsValue y → result_of op x y ≡ Some v
+        →
         IsValue v }
     ensures unary { (op : Op1) (x : Value) → IsValue x → IsValue (unary_result op x) }
     ensures and { (x y : Value) → IsValue (lazy_result (and_left x) y) }
@@ -45,10 +51,12 @@ pub fn results_are_values()
     ensures choice { (c x y : Value) → IsValue x → IsValue y → IsValue (chosen (side_of c) x y) }
 {}
 
-/// `&&`: a result that isn't opaque is the operator's on the numbers of its sides, at each assignment. Known
-/// sides have a known one. A known left side of 0 decides, and one that isn't known shades the right side.
+/// `&&`: a result that isn't opaque is the operator's on the numbers of its sides, at each
+/// assignment. Known sides have a known one. A known left side of 0 decides, and one that isn't
+/// known shades the right side.
 pub fn conjunctions()
-    ensures number { (x y : Value) (s : Assignment) → class_of (lazy_result (and_left x) y) ≢ Class.Opaque →
+    ensures number { (x y : Value) (s : Assignment) → class_of (lazy_result (and_left x) y)
+        ≢ Class.Opaque →
         number_of (lazy_result (and_left x) y) s ≡ and_number (number_of x s) (number_of y s) }
     ensures known { (x y : Value) → class_of x ≡ Class.Known → class_of y ≡ Class.Known →
         class_of (lazy_result (and_left x) y) ≡ Class.Known }
@@ -58,7 +66,8 @@ pub fn conjunctions()
 
 /// The same of `||`, which a known left side that isn't 0 decides.
 pub fn disjunctions()
-    ensures number { (x y : Value) (s : Assignment) → class_of (lazy_result (or_left x) y) ≢ Class.Opaque →
+    ensures number { (x y : Value) (s : Assignment) → class_of (lazy_result (or_left x) y)
+        ≢ Class.Opaque →
         number_of (lazy_result (or_left x) y) s ≡ or_number (number_of x s) (number_of y s) }
     ensures known { (x y : Value) → class_of x ≡ Class.Known → class_of y ≡ Class.Known →
         class_of (lazy_result (or_left x) y) ≡ Class.Known }
@@ -66,27 +75,32 @@ pub fn disjunctions()
     ensures shaded { (x : Value) → class_of x ≢ Class.Known → or_left x ≡ Shaded }
 {}
 
-/// `?:`: a known condition chooses one side, by the condition's number; one that isn't known shades both.
+/// `?:`: a known condition chooses one side, by the condition's number; one that isn't known shades
+/// both.
 pub fn choices()
     ensures number { (c x y : Value) (s : Assignment) → class_of c ≡ Class.Known →
-        number_of (chosen (side_of c) x y) s ≡ choice_number (number_of c s) (number_of x s) (number_of y s) }
+        number_of (chosen (side_of c) x y) s
+        ≡ choice_number (number_of c s) (number_of x s) (number_of y s) }
     ensures shaded { (c : Value) → class_of c ≢ Class.Known → side_of c ≡ Both }
 {}
 
 /// Where the difference of two values is `a * b + c`, this is left minus right at each assignment.
 pub fn parts_are_the_difference()
-    ensures { (x y : Value) (p : Parts) → IsValue x → IsValue y → parts_of (difference_of x y) ≡ Some p →
+    ensures { (x y : Value) (p : Parts) → IsValue x → IsValue y
+        → parts_of (difference_of x y) ≡ Some p →
         IsDifference record { left = number_of x; right = number_of y; parts = p } }
 {}
 
 /// Equations have one source list.
 pub fn one_source_list()
-    ensures { (n : ℕ) (es : List Equation) (ks js : List Constraint) → IsSource n es ks → IsSource n es js → ks ≡ js }
+    ensures { (n : ℕ) (es : List Equation) (ks js : List Constraint) → IsSource n es ks
+        → IsSource n es js → ks ≡ js }
 {}
 
 /// The source list holds at just the assignments at which the two sides of each equation are equal.
 pub fn source_list_holds()
-    ensures { (n : ℕ) (es : List Equation) (ks : List Constraint) (s : Assignment) → All IsDifference es →
+    ensures { (n : ℕ) (es : List Equation) (ks : List Constraint) (s : Assignment)
+        → All IsDifference es →
         IsSource n es ks → All (IsEqualAt s) es ↔ All (Holds s.at) ks }
 {}
 

@@ -34,7 +34,8 @@ pub record IsNamed (n : SignalName) : Type 0 where
 
 -- the element's name has the indices of its place
 abbrev pub IsNameOf : SignalName → List ℕ → Type 0
-IsNameOf n text = (declared dims index : List ℕ) → IsBase declared dims n.base → place_of dims index ≡ Some n.place → text ≡ declared ++ brackets index
+IsNameOf n text = (declared dims index : List ℕ) → IsBase declared dims n.base
+    → place_of dims index ≡ Some n.place → text ≡ declared ++ brackets index
 
 -- signal `s` is in the table, and has a name
 pub record HasName (signals : Signals) (s : ℕ) : Type 0 where
@@ -45,4 +46,5 @@ pub record HasName (signals : Signals) (s : ℕ) : Type 0 where
 
 -- the name of signal s, wherever it has an entry
 abbrev pub NamesSignal : Signals → ℕ → List ℕ → Type 0
-NamesSignal signals s text = (n : SignalName) → slice_get signals.names (s - 1) ≡ Some n → IsNameOf n text
+NamesSignal signals s text =
+    (n : SignalName) → slice_get signals.names (s - 1) ≡ Some n → IsNameOf n text

@@ -15,7 +15,8 @@ abbrev pub place_of : List ℕ → List ℕ → Option ℕ
 place_of [] [] = Some 0
 place_of [] (i ∷ is) = None
 place_of (d ∷ ds) [] = None
-place_of (d ∷ ds) (i ∷ is) = if nat_lt i d then counted_on (i * elements ds) (place_of ds is) else None
+place_of (d ∷ ds) (i ∷ is) =
+    if nat_lt i d then counted_on (i * elements ds) (place_of ds is) else None
 
 -- each index is below its dimension
 abbrev pub IsInside : List ℕ → List ℕ → Type 0

@@ -1,4 +1,5 @@
--- How the parts of a base are read: its declared name to the first `[`, and the numbers in brackets.
+-- How the parts of a base are read: its declared name to the first `[`, and the numbers in
+-- brackets.
 use Rattle.std.specs.Prelude.{ℕ, ◌+◌, ◌-◌, ◌*◌, ◌%◌, ◌^◌, if◌then◌else◌, ◌==◌, List, [], ◌∷◌, ◌++◌}
 
 abbrev pub bracket_at : List ℕ → ℕ

@@ -9,8 +9,8 @@ pub struct Shape {
     pub dims: Items<u32>,
 }
 
-/// The place of an element in row order. `None` where the number of indices is another than that of the
-/// dimensions, or an index is past its dimension.
+/// The place of an element in row order. `None` where the number of indices is another than that of
+/// the dimensions, or an index is past its dimension.
 pub fn flat(shape: &Shape, index: &[u64]) -> Option<u32>
     requires { elements shape.now.dims ≤ 2 ^ 32 }
     ensures { result ≡ place_of shape.now.dims index.now }

@@ -29,8 +29,9 @@ pub struct InputShape {
     pub count: u32,
 }
 
-/// The name of a signal in the instance of its number. The base is the declared name, followed for an
-/// array by its dimensions in brackets, as `in[2][2]`; `place` is the element's place in row order.
+/// The name of a signal in the instance of its number. The base is the declared name, followed for
+/// an array by its dimensions in brackets, as `in[2][2]`; `place` is the element's place in row
+/// order.
 #[derive(Debug, Drop)]
 pub struct SignalName {
     pub instance: u32,
@@ -39,8 +40,8 @@ pub struct SignalName {
 }
 
 impl Signals {
-    /// The name of a signal in its instance: the declared name, followed for an element of an array by
-    /// its indices in brackets, as `in[1][0]`.
+    /// The name of a signal in its instance: the declared name, followed for an element of an array
+    /// by its indices in brackets, as `in[1][0]`.
     pub fn name(&self, alloc: Global, signal: u32) -> Result<Text, AllocError>
         requires { HasName self.now signal }
         ensures { IfOk result (NamesSignal self.now signal) }

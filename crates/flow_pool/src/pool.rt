@@ -1,8 +1,8 @@
 use crate::state::PoolState;
 use std::sync::{Condvar, Mutex, Wait};
 
-/// Ready strands, which any number of threads share. No clause says what the lock holds at a call, and
-/// no answer of the engine rests on it.
+/// Ready strands, which any number of threads share. No clause says what the lock holds at a call,
+/// and no answer of the engine rests on it.
 #[derive(Drop)]
 pub struct Pool {
     state: Mutex<PoolState>,

@@ -29,8 +29,8 @@ impl Model for PoolState {
 }
 
 impl PoolState {
-    /// A pool for so many strands, of which these are ready at once. All memory that it needs is taken
-    /// here.
+    /// A pool for so many strands, of which these are ready at once. All memory that it needs is
+    /// taken here.
     pub fn make(alloc: Global, strands: u32, ready: &[u32]) -> Result<PoolState, AllocError>
         requires { length ready.now ≤ strands }
         ensures { IfOk result (λ p. p ≡ opening strands ready.now) }
@@ -74,7 +74,8 @@ impl PoolState {
         self.ready.pop()
     }
 
-    /// One more worker rests. True where it is the last one and no strand is left: then the pool closes.
+    /// One more worker rests. True where it is the last one and no strand is left: then the pool
+    /// closes.
     pub fn rest(&mut self) -> bool
         ensures end { result ≡ at_end (with_rest self.old) }
         ensures state { self.new ≡ after_rest self.old }

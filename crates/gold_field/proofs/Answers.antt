@@ -32,7 +32,8 @@ rest_below a b h = omega (arith, h, mod-le a b)
 some_below : (m v : ℕ) → m < P → Some m ≡ Some v → v < P
 some_below m v h e = let same : m ≡ v = cc in subst (λ n. n < P) same h
 
-divided_below : (zero_divisor : Bool) (m v : ℕ) → m < P → cond zero_divisor None (Some m) ≡ Some v → v < P
+divided_below : (zero_divisor : Bool) (m v : ℕ) → m < P → cond zero_divisor None (Some m) ≡ Some v
+    → v < P
 divided_below true m v h e = cc
 divided_below false m v h e = some_below m v h e
 

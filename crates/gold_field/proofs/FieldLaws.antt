@@ -17,15 +17,18 @@ product_of_rests q a b = sym (mul-mod a b q)
 
 pub sum_assoc : (q a b c : ℕ) → ((a + b) % q + c) % q ≡ (a + (b + c) % q) % q
 sum_assoc q a b c =
-    mod-add-mod (a + b) q c ∙ ap (λ (y : ℕ). y % q) (add_assoc a b c) ∙ sym (add-mod-mod a (b + c) q)
+    mod-add-mod (a + b) q c ∙ ap (λ (y : ℕ). y % q) (add_assoc a b c)
+    ∙ sym (add-mod-mod a (b + c) q)
 
 pub product_assoc : (q a b c : ℕ) → ((a * b) % q * c) % q ≡ (a * ((b * c) % q)) % q
 product_assoc q a b c =
-    mul-mod_first (a * b) c q ∙ ap (λ (y : ℕ). y % q) (mul_assoc a b c) ∙ sym (mul-mod_second a (b * c) q)
+    mul-mod_first (a * b) c q ∙ ap (λ (y : ℕ). y % q) (mul_assoc a b c)
+    ∙ sym (mul-mod_second a (b * c) q)
 
 pub product_over_sum : (q a b c : ℕ) → (a * ((b + c) % q)) % q ≡ ((a * b) % q + (a * c) % q) % q
 product_over_sum q a b c =
-    mul-mod_second a (b + c) q ∙ ap (λ (y : ℕ). y % q) (mul-add a b c) ∙ sym (sum_of_rests q (a * b) (a * c))
+    mul-mod_second a (b + c) q ∙ ap (λ (y : ℕ). y % q) (mul-add a b c)
+    ∙ sym (sum_of_rests q (a * b) (a * c))
 
 -- a and q - a cancel
 pub opposite : (q a : ℕ) → 0 < q → (a + (q - a % q)) % q ≡ 0
@@ -43,7 +46,8 @@ negative_sum q a h =
 pub difference_back : (q a b : ℕ) → b ≤ q → ((a + (q - b)) % q + b) % q ≡ a % q
 difference_back q a b h =
     let whole : a + (q - b) + b ≡ q * 1 + a = omega arith in
-    mod-add-mod (a + (q - b)) q b ∙ ap (λ (y : ℕ). y % q) whole ∙ plus_zero (q * 1) a q (mul-mod_right q 1)
+    mod-add-mod (a + (q - b)) q b ∙ ap (λ (y : ℕ). y % q) whole
+    ∙ plus_zero (q * 1) a q (mul-mod_right q 1)
 
 -- the difference of two representatives is 0 exactly where they are equal
 pub difference_zero : (q a b : ℕ) → a < q → b < q → (a + (q - b)) % q ≡ 0 → a ≡ b
@@ -65,10 +69,12 @@ sum_cancel q a b c pos e = sym (back b) ∙ ap (λ (y : ℕ). (y + (q - a % q)) 
     back : (y : ℕ) → ((a + y) % q + (q - a % q)) % q ≡ y % q
     back y =
         let order : a + y + (q - a % q) ≡ a + (q - a % q) + y = omega arith in
-        mod-add-mod (a + y) q (q - a % q) ∙ ap (λ (z : ℕ). z % q) order ∙ plus_zero (a + (q - a % q)) y q (opposite q a pos)
+        mod-add-mod (a + y) q (q - a % q) ∙ ap (λ (z : ℕ). z % q) order
+        ∙ plus_zero (a + (q - a % q)) y q (opposite q a pos)
 
 -- a factor with an inverse cancels
-pub unit_cancel : (q a r b c : ℕ) → 1 < q → (a * r) % q ≡ 1 → (a * b) % q ≡ (a * c) % q → b % q ≡ c % q
+pub unit_cancel : (q a r b c : ℕ) → 1 < q → (a * r) % q ≡ 1 → (a * b) % q ≡ (a * c) % q
+    → b % q ≡ c % q
 unit_cancel q a r b c large unit e =
     sym (through b) ∙ ap (λ (y : ℕ). (r * y) % q) e ∙ through c
   where
@@ -84,13 +90,15 @@ pub unit_at : (q : ℕ) → IsPrime q → (a : ℕ) → a % q ≢ 0 → (a * a ^
 unit_at q p a unit =
     let large : 2 ≤ q = p.large in
     let one_more : suc (q - 2) ≡ q - 1 = omega arith in
-    ap (λ (y : ℕ). y % q) (sym (pow-succ' a (q - 2)) ∙ ap (λ (y : ℕ). a ^ y) one_more) ∙ fermat q p a unit
+    ap (λ (y : ℕ). y % q) (sym (pow-succ' a (q - 2)) ∙ ap (λ (y : ℕ). a ^ y) one_more)
+    ∙ fermat q p a unit
 
 -- every number that is not 0 modulo P has an inverse
 pub has_inverse : (a : ℕ) → a % P ≢ 0 → (r : ℕ) × ((a * r) % P ≡ 1)
 has_inverse a unit = (a ^ (P - 2), unit_at P p_prime a unit)
 
-product_cancel_at : (q : ℕ) → IsPrime q → (a b c : ℕ) → a % q ≢ 0 → (a * b) % q ≡ (a * c) % q → b % q ≡ c % q
+product_cancel_at : (q : ℕ) → IsPrime q → (a b c : ℕ) → a % q ≢ 0 → (a * b) % q ≡ (a * c) % q
+    → b % q ≡ c % q
 product_cancel_at q p a b c unit e =
     let large : 2 ≤ q = p.large in
     unit_cancel q a (a ^ (q - 2)) b c (omega arith) (unit_at q p a unit) e

@@ -1,4 +1,5 @@
--- A number with a power 2 ^ t that is -1 has no small period, and so a number with such a witness is prime.
+-- A number with a power 2 ^ t that is -1 has no small period, and so a number with such a witness
+-- is prime.
 use Rattle.std.proofs.Common.{◌≡◌, ◌≢◌, ℕ, zero, suc, ◌+◌, ◌-◌, ◌*◌, ◌/◌, ◌%◌, ◌^◌, ◌<◌, ◌≤◌, ◌⊎◌, inl, inr, refl, sym, ◌∙◌, ap, arith, pow-suc, mod-eq_of_lt, div-add-mod'}
 use Rattle.std.proofs.Math.Nat.{two-pow-succ, mod-mod_of_dvd, mul-add-mod_self_right, mul-mod_right, pow-zero}
 use Rattle.std.proofs.lemmas.Nat.{pow-mod, mul-pow, mul-mod, mul-mod_second, pow-add, pow_pos, mul-le}
@@ -27,7 +28,8 @@ squared-power q (suc n) x =
 pub pow_swap : (x k n : ℕ) → (x ^ k) ^ n ≡ (x ^ n) ^ k
 pow_swap x zero n = ap (λ (y : ℕ). y ^ n) (pow-zero x) ∙ one_pow n ∙ sym (pow-zero (x ^ n))
 pow_swap x (suc k) n =
-    ap (λ (y : ℕ). y ^ n) (pow-suc x k) ∙ mul-pow (x ^ k) x n ∙ ap (λ (y : ℕ). y * x ^ n) (pow_swap x k n)
+    ap (λ (y : ℕ). y ^ n) (pow-suc x k) ∙ mul-pow (x ^ k) x n
+    ∙ ap (λ (y : ℕ). y * x ^ n) (pow_swap x k n)
     ∙ sym (pow-suc (x ^ n) k)
 
 square_lem : (q m : ℕ) → q ≡ m + 2 → (q - 1) * (q - 1) ≡ m * q + 1
@@ -35,7 +37,8 @@ square_lem q m e = let less : q - 1 ≡ m + 1 = omega arith in rw (less, e) (ome
 
 minus_one_square : (q x : ℕ) → 2 < q → x % q ≡ q - 1 → (x * x) % q ≡ 1
 minus_one_square q x l e =
-    mul-mod x x q ∙ ap (λ (y : ℕ). (y * y) % q) e ∙ ap (λ (y : ℕ). y % q) (square_lem q (q - 2) (omega arith))
+    mul-mod x x q ∙ ap (λ (y : ℕ). (y * y) % q) e
+    ∙ ap (λ (y : ℕ). y % q) (square_lem q (q - 2) (omega arith))
     ∙ mul-add-mod_self_right (q - 2) q 1 ∙ mod-eq_of_lt {n = 1} {m = q} (omega arith)
 
 -- an odd power of -1 is -1
@@ -45,10 +48,12 @@ odd_power q x (suc m) l e =
     let more : suc (suc m + suc m) ≡ suc (m + m) + 2 = omega arith in
     let two : x ^ 2 ≡ x * x = pow-suc x 1 ∙ ap (λ (y : ℕ). y * x) (pow_one x) in
     let parts : x ^ suc (suc m + suc m) ≡ x ^ suc (m + m) * (x * x) =
-    ap (λ (y : ℕ). x ^ y) more ∙ pow-add x (suc (m + m)) 2 ∙ ap (λ (y : ℕ). x ^ suc (m + m) * y) two in
+    ap (λ (y : ℕ). x ^ y) more ∙ pow-add x (suc (m + m)) 2
+    ∙ ap (λ (y : ℕ). x ^ suc (m + m) * y) two in
     let same : x ^ suc (m + m) * 1 ≡ x ^ suc (m + m) = omega arith in
     ap (λ (y : ℕ). y % q) parts ∙ sym (mul-mod_second (x ^ suc (m + m)) (x * x) q)
-    ∙ ap (λ (y : ℕ). (x ^ suc (m + m) * y) % q) (minus_one_square q x l e) ∙ ap (λ (y : ℕ). y % q) same
+    ∙ ap (λ (y : ℕ). (x ^ suc (m + m) * y) % q) (minus_one_square q x l e)
+    ∙ ap (λ (y : ℕ). y % q) same
     ∙ odd_power q x m l e
 
 half : (k : ℕ) → ((m : ℕ) × (k ≡ m + m)) ⊎ ((m : ℕ) × (k ≡ suc (m + m)))
@@ -62,11 +67,13 @@ odd_case t q h m l e one =
     let left : ((h ^ k) ^ n) % q ≡ 1 =
     sym (pow-mod (h ^ k) n q) ∙ ap (λ (y : ℕ). (y ^ n) % q) one ∙ ap (λ (y : ℕ). y % q) (one_pow n)
     ∙ mod-eq_of_lt {n = 1} {m = q} (omega arith) in
-    let right : ((h ^ k) ^ n) % q ≡ q - 1 = ap (λ (y : ℕ). y % q) (pow_swap h k n) ∙ odd_power q (h ^ n) m l e in
+    let right : ((h ^ k) ^ n) % q ≡ q - 1 =
+    ap (λ (y : ℕ). y % q) (pow_swap h k n) ∙ odd_power q (h ^ n) m l e in
     omega arith
 
 -- where the power 2 ^ t is -1, no power below 2 ^ (t + 1) is 1
-pub no_period : (t q h : ℕ) → 2 < q → (h ^ (2 ^ t)) % q ≡ q - 1 → (k : ℕ) → 0 < k → k < 2 ^ suc t → (h ^ k) % q ≢ 1
+pub no_period : (t q h : ℕ) → 2 < q → (h ^ (2 ^ t)) % q ≡ q - 1 → (k : ℕ) → 0 < k → k < 2 ^ suc t
+    → (h ^ k) % q ≢ 1
 no_period zero q h l e k pos low one =
     let is : k ≡ 1 = omega arith in
     let first : h ^ k ≡ h ^ (2 ^ 0) = ap (λ (y : ℕ). h ^ y) is in
@@ -76,7 +83,8 @@ no_period (suc t) q h l e k pos low one =
     elim (half k) [
       | inl p ↦
           let square : ((h * h) ^ (2 ^ t)) % q ≡ q - 1 =
-          ap (λ (y : ℕ). y % q) (pow_square h (2 ^ t) ∙ ap (λ (y : ℕ). h ^ y) (sym (two-pow-succ t))) ∙ e in
+          ap (λ (y : ℕ). y % q) (pow_square h (2 ^ t)
+          ∙ ap (λ (y : ℕ). h ^ y) (sym (two-pow-succ t))) ∙ e in
           let here : ((h * h) ^ p.0) % q ≡ 1 =
           ap (λ (y : ℕ). y % q) (pow_square h p.0 ∙ ap (λ (y : ℕ). h ^ y) (sym p.1)) ∙ one in
           let double : 2 ^ suc (suc t) ≡ 2 ^ suc t + 2 ^ suc t = two-pow-succ (suc t) in
@@ -107,11 +115,18 @@ least n zero = inl (λ d l h. absurd (omega arith))
 least n (suc k) =
     elim (least n k) [
       | inr found ↦
-          inr (record { d = found.d; large = found.large; below = omega arith; divides = found.divides; none = found.none })
+          inr (record {
+            d = found.d;
+            large = found.large;
+            below = omega arith;
+            divides = found.divides;
+            none = found.none;
+          })
       | inl none ↦ elim (cases_lt k 2) [
         | inl small ↦ inl (λ d l h. absurd (omega arith))
         | inr two ↦ elim (cases_eq (n % k) 0) [
-          | inl is ↦ inr (record { d = k; large = two; below = omega arith; divides = is; none = none })
+          | inl is ↦
+              inr (record { d = k; large = two; below = omega arith; divides = is; none = none })
           | inr is_not ↦ inl (none_more n k none is_not)
         ]
       ]
@@ -124,7 +139,8 @@ divides_through n q d e h =
     ap (λ (y : ℕ). y % d) whole ∙ times_zero (n / q) q d h
 
 prime_least : (n q : ℕ) → 2 ≤ q → n % q ≡ 0 → NoneBelow n q → IsPrime q
-prime_least n q l e none = record { large = l; whole = λ d two low h. none d two low (divides_through n q d e h) }
+prime_least n q l e none =
+    record { large = l; whole = λ d two low h. none d two low (divides_through n q d e h) }
 
 cofactor_two : (p q e : ℕ) → p ≡ e * q → q < p → 2 ≤ e
 cofactor_two p q zero whole below = absurd (omega arith)
@@ -154,36 +170,43 @@ minus_one_mod : (p e q : ℕ) → p ≡ e * q → 2 < q → 0 < e → (p - 1) % 
 minus_one_mod p zero q whole l pos = absurd (omega arith)
 minus_one_mod p (suc e) q whole l pos =
     let parts : p - 1 ≡ e * q + (q - 1) = omega arith in
-    ap (λ (y : ℕ). y % q) parts ∙ mul-add-mod_self_right e q (q - 1) ∙ mod-eq_of_lt {n = q - 1} {m = q} (omega arith)
+    ap (λ (y : ℕ). y % q) parts ∙ mul-add-mod_self_right e q (q - 1)
+    ∙ mod-eq_of_lt {n = q - 1} {m = q} (omega arith)
 
 zero_power : (q x n : ℕ) → x % q ≡ 0 → 0 < n → (x ^ n) % q ≡ 0
 zero_power q x zero e pos = absurd (omega arith)
 zero_power q x (suc n) e pos = ap (λ (y : ℕ). y % q) (pow-suc x n) ∙ times_zero (x ^ n) x q e
 
 -- a least divisor q of p would be prime and below 2 ^ (t + 1), against Fermat
-refuted : (p t h : ℕ) → p < 2 ^ suc t * 2 ^ suc t → p % 2 ≡ 1 → squared p t h ≡ p - 1 → (q : ℕ) → 2 ≤ q → q < p → p % q ≡ 0 → NoneBelow p q → ⊥
+refuted : (p t h : ℕ) → p < 2 ^ suc t * 2 ^ suc t → p % 2 ≡ 1 → squared p t h ≡ p - 1 → (q : ℕ)
+    → 2 ≤ q → q < p → p % q ≡ 0 → NoneBelow p q → ⊥
 refuted p t h low odd power q large below divides none =
     let parts : p / q * q + p % q ≡ p = div-add-mod' p q in
     let e : ℕ = p / q in
     let whole : p ≡ e * q = omega arith in
     let not_two : q ≢ 2 =
-    λ (is : q ≡ 2). let zero_two : p % 2 ≡ 0 = ap (λ (y : ℕ). p % y) (sym is) ∙ divides in omega arith in
+    λ (is : q ≡ 2). let zero_two : p % 2 ≡ 0 =
+    ap (λ (y : ℕ). p % y) (sym is) ∙ divides in omega arith in
     let two : 2 < q = omega arith in
     let many : 2 ≤ e = cofactor_two p q e whole below in
     let high : q ≤ e = cofactor_large p q e whole many none in
     let small : q < 2 ^ suc t = too_large p q e (2 ^ suc t) whole high low in
     let one_less : p - 1 < p = omega arith in
     let at_p : (h ^ (2 ^ t)) % p ≡ p - 1 =
-    sym (squared-power p t h) ∙ ap (λ (y : ℕ). y % p) power ∙ mod-eq_of_lt {n = p - 1} {m = p} one_less in
+    sym (squared-power p t h) ∙ ap (λ (y : ℕ). y % p) power
+    ∙ mod-eq_of_lt {n = p - 1} {m = p} one_less in
     let at_q : (h ^ (2 ^ t)) % q ≡ q - 1 =
     sym (mod-mod_of_dvd q (h ^ (2 ^ t)) (dvd_of_mod-eq-zero q divides)) ∙ ap (λ (y : ℕ). y % q) at_p
     ∙ minus_one_mod p e q whole two (omega arith) in
     let unit : h % q ≢ 0 =
-    λ (none_left : h % q ≡ 0). let gone : (h ^ (2 ^ t)) % q ≡ 0 = zero_power q h (2 ^ t) none_left (pow_pos t) in omega arith in
-    no_period t q h two at_q (q - 1) (omega arith) (omega arith) (fermat q (prime_least p q large divides none) h unit)
+    λ (none_left : h % q ≡ 0). let gone : (h ^ (2 ^ t)) % q ≡ 0 =
+    zero_power q h (2 ^ t) none_left (pow_pos t) in omega arith in
+    no_period t q h two at_q (q - 1) (omega arith) (omega arith)
+    (fermat q (prime_least p q large divides none) h unit)
 
 -- p is prime where it is odd, below 2 ^ (2t + 2), and h ^ (2 ^ t) is -1
-pub prime_by : (p t h : ℕ) → 2 ≤ p → p < 2 ^ suc t * 2 ^ suc t → p % 2 ≡ 1 → squared p t h ≡ p - 1 → IsPrime p
+pub prime_by : (p t h : ℕ) → 2 ≤ p → p < 2 ^ suc t * 2 ^ suc t → p % 2 ≡ 1 → squared p t h ≡ p - 1
+    → IsPrime p
 prime_by p t h large low odd power =
     record {
       large = large;

@@ -1,4 +1,5 @@
--- The order P of the field is prime, and what follows: no zero divisors, Fermat's theorem, inverses.
+-- The order P of the field is prime, and what follows: no zero divisors, Fermat's theorem,
+-- inverses.
 use Rattle.std.proofs.Common.{◌≡◌, ◌≢◌, ℕ, suc, ◌+◌, ◌-◌, ◌*◌, ◌/◌, ◌%◌, ◌^◌, ◌<◌, ◌≤◌, ◌⊎◌, refl, sym, ◌∙◌, ap, arith, mod-eq_of_lt, lit<, lit≤, div-add-mod'}
 use Rattle.std.proofs.Math.Nat.{pow-succ', two-pow-succ}
 use Rattle.std.proofs.lemmas.Nat.{mul-mod_second, mul-mod_first, pow-mod}
@@ -25,7 +26,8 @@ fermat_times q p a pos low =
     let self : a % q ≡ a = mod-eq_of_lt {n = a} {m = q} low in
     let unit : a % q ≢ 0 = omega arith in
     let one_more : suc (q - 2) ≡ q - 1 = omega arith in
-    ap (λ (y : ℕ). y % q) (sym (pow-succ' a (q - 2)) ∙ ap (λ (y : ℕ). a ^ y) one_more) ∙ fermat q p a unit
+    ap (λ (y : ℕ). y % q) (sym (pow-succ' a (q - 2)) ∙ ap (λ (y : ℕ). a ^ y) one_more)
+    ∙ fermat q p a unit
 
 -- Fermat's theorem: a times a ^ (P - 2) is 1
 pub p_fermat : (a : ℕ) → 0 < a → a < P → (a * a ^ (P - 2)) % P ≡ 1
@@ -47,7 +49,8 @@ even_turn q a x r even =
     ∙ mul-mod_second a ((x * x) ^ (r / 2)) q
     ∙ ap (λ (y : ℕ). (a * y) % q) (pow_square x (r / 2) ∙ ap (λ (y : ℕ). x ^ y) whole)
 
-pub odd_turn : (q a x r : ℕ) → r % 2 ≡ 1 → ((a * x) % q * ((x * x) % q) ^ (r / 2)) % q ≡ (a * x ^ r) % q
+pub odd_turn : (q a x r : ℕ) → r % 2 ≡ 1 → ((a * x) % q * ((x * x) % q) ^ (r / 2)) % q
+    ≡ (a * x ^ r) % q
 odd_turn q a x r odd =
     let parts : r / 2 * 2 + r % 2 ≡ r = div-add-mod' r 2 in
     let whole : suc (r / 2 + r / 2) ≡ r = omega arith in

@@ -5,7 +5,8 @@ use Rattle.std.proofs.lemmas.Nat.{pow-add}
 
 past_by : (a j w : ℕ) → a * 2 ^ (j + w) % 2 ^ w ≡ 0
 past_by a j w =
-    ap (λ (y : ℕ). a * y % 2 ^ w) (pow-add 2 j w) ∙ ap (λ (y : ℕ). y % 2 ^ w) (sym (mul_assoc a (2 ^ j) (2 ^ w)))
+    ap (λ (y : ℕ). a * y % 2 ^ w) (pow-add 2 j w)
+    ∙ ap (λ (y : ℕ). y % 2 ^ w) (sym (mul_assoc a (2 ^ j) (2 ^ w)))
     ∙ mul-mod_left (a * 2 ^ j) (2 ^ w)
 
 pub left_past : (q a k : ℕ) → 64 ≤ k → a * 2 ^ k % 2 ^ 64 % q ≡ 0 % q

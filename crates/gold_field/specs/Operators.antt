@@ -1,5 +1,5 @@
--- The operators of Circom over the field: a table over whole numbers. Operands are numbers from 0 to p - 1.
--- Every answer is one again. Truth is "not 0", and a test answers 1 or 0.
+-- The operators of Circom over the field: a table over whole numbers. Operands are numbers from 0
+-- to p - 1. Every answer is one again. Truth is "not 0", and a test answers 1 or 0.
 use Rattle.std.specs.Prelude.{ℕ, ◌+◌, ◌-◌, ◌*◌, ◌/◌, ◌%◌, ◌^◌, Bool, not, if◌then◌else◌, ◌==◌, nat_le, Option, Some, None, ℤ, pos, ◌-ℤ◌, int_lt, bit_and, bit_or, bit_xor}
 use Rattle.gold_field.specs.declared.gold.TheConstants.{P}
 use Rattle.gold_field.specs.declared.operators.Op1.{Op1}

@@ -12,8 +12,8 @@ pub struct Term {
     pub coef: Gold,
 }
 
-/// A linear combination of signals, in sparse form: its terms by rising signal, none with coefficient 0.
-/// So a linear combination has one form only.
+/// A linear combination of signals, in sparse form: its terms by rising signal, none with
+/// coefficient 0. So a linear combination has one form only.
 #[derive(Debug, Drop)]
 pub struct Lc {
     terms: Vec<Term>,

@@ -1,4 +1,5 @@
-//! Laws of the field, for proofs that cite a call: each function does nothing, and its contract is the law.
+//! Laws of the field, for proofs that cite a call: each function does nothing, and its contract is
+//! the law.
 
 ghost use Rattle.std.specs.Prelude.{◌≡◌, ◌≢◌, ℕ, ◌+◌, ◌-◌, ◌*◌, ◌%◌, ◌^◌, ◌<◌, ◌≤◌, ◌⊎◌, Some};
 ghost use Rattle.gold_field.specs.declared.operators.Op1.{Op1};
@@ -32,13 +33,15 @@ pub fn inverse()
     ensures { (a r : ℕ) → a ≢ 0 → a < P → r ≡ a ^ (P - 2) % P → (a * r) % P ≡ 1 }
 {}
 
-/// A sum and a product are those of representatives; sums and products associate, and products distribute.
+/// A sum and a product are those of representatives; sums and products associate, and products
+/// distribute.
 pub fn arithmetic()
     ensures sum { (a b : ℕ) → (a % P + b % P) % P ≡ (a + b) % P }
     ensures product { (a b : ℕ) → (a % P * (b % P)) % P ≡ (a * b) % P }
     ensures sum_assoc { (a b c : ℕ) → ((a + b) % P + c) % P ≡ (a + (b + c) % P) % P }
     ensures product_assoc { (a b c : ℕ) → ((a * b) % P * c) % P ≡ (a * ((b * c) % P)) % P }
-    ensures product_over_sum { (a b c : ℕ) → (a * ((b + c) % P)) % P ≡ ((a * b) % P + (a * c) % P) % P }
+    ensures product_over_sum { (a b c : ℕ)
+        → (a * ((b + c) % P)) % P ≡ ((a * b) % P + (a * c) % P) % P }
     ensures difference { (a b : ℕ) → b ≤ P → ((a + (P - b)) % P + b) % P ≡ a % P }
 {}
 

@@ -3,7 +3,8 @@ ghost use Rattle.gold_field.specs.Operators.{val, truth, left, right, shifted_le
 
 use crate::gold::{Gold, P, reduced};
 
-/// The largest number that comparisons take as positive, (p - 1) / 2. A shift by more goes the other way.
+/// The largest number that comparisons take as positive, (p - 1) / 2. A shift by more goes the
+/// other way.
 pub const HALF: u64 = 9223372034707292160;
 
 /// The operators of one operand.

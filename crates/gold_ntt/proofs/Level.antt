@@ -14,26 +14,33 @@ use Rattle.gold_ntt.proofs.Values.{poly_point}
 use Rattle.gold_ntt.proofs.Sums.{sum_to-suc, sum_to-zero, sum_same}
 
 poly_same : (n : ℕ) (c d : ℕ → ℕ) (x : ℕ) → ((i : ℕ) → i < n → c i ≡ d i) → poly n c x ≡ poly n d x
-poly_same n c d x h = sum_same n (λ i. c i * x ^ i) (λ i. d i * x ^ i) (λ i l. ap (λ (y : ℕ). y * x ^ i) (h i l))
+poly_same n c d x h =
+    sum_same n (λ i. c i * x ^ i) (λ i. d i * x ^ i) (λ i l. ap (λ (y : ℕ). y * x ^ i) (h i l))
 
 -- a half's value, with the coefficients named in the whole block
-half_value : (q m : ℕ) (c d : ℕ → ℕ) (x e : ℕ) → e ≡ poly m c x % q → ((i : ℕ) → i < m → c i ≡ d i) → e % q ≡ poly m d x % q
+half_value : (q m : ℕ) (c d : ℕ → ℕ) (x e : ℕ) → e ≡ poly m c x % q → ((i : ℕ) → i < m → c i ≡ d i)
+    → e % q ≡ poly m d x % q
 half_value q m c d x e is h =
     ap (λ (y : ℕ). y % q) is ∙ mod-mod (poly m c x) q ∙ ap (λ (y : ℕ). y % q) (poly_same m c d x h)
 
-pub whole_block : (old one two new : List ℕ) (start k w s m : ℕ) → m ≡ 2 ^ k → (w ^ m) % P ≡ P - 1 → s ≡ (w * w) % P
-    → TransformsBlock old one start k s → TransformsBlock one two (start + m) k s → IsMerged two new start m w m
+pub whole_block : (old one two new : List ℕ) (start k w s m : ℕ) → m ≡ 2 ^ k → (w ^ m) % P ≡ P - 1
+    → s ≡ (w * w) % P
+    → TransformsBlock old one start k s → TransformsBlock one two (start + m) k s
+    → IsMerged two new start m w m
     → TransformsBlock old new start (suc k) w
 whole_block old one two new start k w s m size half square first second merged =
     let double : 2 ^ suc k ≡ m + m = two-pow-succ k ∙ ap (λ (y : ℕ). y + y) (sym size) in
     let c : ℕ → ℕ = λ i. get_or old (start + reversed (suc k) i) 0 in
-    let even : (j : ℕ) → j < m → get_or two (start + j) 0 % P ≡ poly m (λ i. c (i + i)) (s ^ j) % P =
+    let even : (j : ℕ) → j < m
+    → get_or two (start + j) 0 % P ≡ poly m (λ i. c (i + i)) (s ^ j) % P =
     λ j l.
-    half_value P m (λ i. get_or old (start + reversed k i) 0) (λ i. c (i + i)) (s ^ j) (get_or two (start + j) 0)
+    half_value P m (λ i. get_or old (start + reversed k i) 0) (λ i. c (i + i)) (s ^ j)
+    (get_or two (start + j) 0)
     (second.others (start + j) (inl (omega arith)) ∙ first.inside j (omega arith)
     ∙ ap (λ (y : ℕ). poly y (λ i. get_or old (start + reversed k i) 0) (s ^ j) % P) (sym size))
     (λ i l. ap (λ (y : ℕ). get_or old (start + y) 0) (sym (reversed-even k i))) in
-    let odd : (j : ℕ) → j < m → get_or two (start + m + j) 0 % P ≡ poly m (λ i. c (suc (i + i))) (s ^ j) % P =
+    let odd : (j : ℕ) → j < m → get_or two (start + m + j) 0 % P
+    ≡ poly m (λ i. c (suc (i + i))) (s ^ j) % P =
     λ j l.
     half_value P m (λ i. get_or one (start + m + reversed k i) 0) (λ i. c (suc (i + i))) (s ^ j)
     (get_or two (start + m + j) 0)
@@ -44,7 +51,8 @@ whole_block old one two new start k w s m size half square first second merged =
       inside = λ j l.
           elim (cases_lt j m) [
             | inl low ↦
-                low_place P m w s j (get_or two (start + j) 0) (get_or two (start + m + j) 0) (get_or new (start + j) 0) c
+                low_place P m w s j (get_or two (start + j) 0) (get_or two (start + m + j) 0)
+                (get_or new (start + j) 0) c
                 square (even j low) (odd j low) (merged.low j low)
                 ∙ ap (λ (y : ℕ). poly y c (w ^ j) % P) (sym double)
             | inr high ↦
@@ -53,14 +61,19 @@ whole_block old one two new start k w s m size half square first second merged =
                 let place : start + j ≡ start + m + i = omega arith in
                 let power : m + i ≡ j = omega arith in
                 ap (λ (y : ℕ). get_or new y 0) place
-                ∙ high_place P m w s i (get_or two (start + i) 0) (get_or two (start + m + i) 0) (get_or new (start + m + i) 0) c
+                ∙ high_place P m w s i (get_or two (start + i) 0) (get_or two (start + m + i) 0)
+                (get_or new (start + m + i) 0) c
                 (lit< tt) half square (even i below) (odd i below) (merged.high i below)
-                ∙ ap (λ (y : ℕ). poly (m + m) c (w ^ y) % P) power ∙ ap (λ (y : ℕ). poly y c (w ^ j) % P) (sym double)
+                ∙ ap (λ (y : ℕ). poly (m + m) c (w ^ y) % P) power
+                ∙ ap (λ (y : ℕ). poly y c (w ^ j) % P) (sym double)
           ];
       others = λ p h.
-          let merge_out : (p < start) ⊎ (start + (m + m) ≤ p) = elim h [ inl before ↦ inl before | inr after ↦ inr (omega arith) ] in
-          let second_out : (p < start + m) ⊎ (start + m + 2 ^ k ≤ p) = elim h [ inl before ↦ inl (omega arith) | inr after ↦ inr (omega arith) ] in
-          let first_out : (p < start) ⊎ (start + 2 ^ k ≤ p) = elim h [ inl before ↦ inl before | inr after ↦ inr (omega arith) ] in
+          let merge_out : (p < start) ⊎ (start + (m + m) ≤ p) =
+          elim h [ inl before ↦ inl before | inr after ↦ inr (omega arith) ] in
+          let second_out : (p < start + m) ⊎ (start + m + 2 ^ k ≤ p) =
+          elim h [ inl before ↦ inl (omega arith) | inr after ↦ inr (omega arith) ] in
+          let first_out : (p < start) ⊎ (start + 2 ^ k ≤ p) =
+          elim h [ inl before ↦ inl before | inr after ↦ inr (omega arith) ] in
           merged.others p merge_out ∙ second.others p second_out ∙ first.others p first_out;
       below = λ j l.
           elim (cases_lt j m) [
@@ -69,27 +82,34 @@ whole_block old one two new start k w s m size half square first second merged =
                 let i : ℕ = j - m in
                 let place : start + j ≡ start + m + i = omega arith in
                 let same : get_or one (start + m + i) 0 ≡ get_or old (start + j) 0 =
-                first.others (start + m + i) (inr (omega arith)) ∙ ap (λ (y : ℕ). get_or old y 0) (sym place) in
+                first.others (start + m + i) (inr (omega arith))
+                ∙ ap (λ (y : ℕ). get_or old y 0) (sym place) in
                 omega (arith, second.below i (omega arith))
           ];
     }
   where
-    odd_coefficient : (i : ℕ) → get_or one (start + m + reversed k i) 0 ≡ get_or old (start + reversed (suc k) (suc (i + i))) 0
+    odd_coefficient : (i : ℕ) → get_or one (start + m + reversed k i) 0
+        ≡ get_or old (start + reversed (suc k) (suc (i + i))) 0
     odd_coefficient i =
-        let place : start + m + reversed k i ≡ start + reversed (suc k) (suc (i + i)) = omega (arith, reversed-odd k i) in
-        first.others (start + m + reversed k i) (inr (omega arith)) ∙ ap (λ (y : ℕ). get_or old y 0) place
+        let place : start + m + reversed k i ≡ start + reversed (suc k) (suc (i + i)) =
+        omega (arith, reversed-odd k i) in
+        first.others (start + m + reversed k i) (inr (omega arith))
+        ∙ ap (λ (y : ℕ). get_or old y 0) place
 
 -- the square of the root halves at one less
-pub square_halves : (w s log : ℕ) → 0 < log → HalvesAt w log → s ≡ (w * w) % P → HalvesAt s (log - 1)
+pub square_halves : (w s log : ℕ) → 0 < log → HalvesAt w log → s ≡ (w * w) % P
+    → HalvesAt s (log - 1)
 square_halves w s log pos halves is more = squared_half P w s (log - 1 - 1) is ∙ at
   where
     at : (w ^ (2 ^ (log - 1 - 1) + 2 ^ (log - 1 - 1))) % P ≡ P - 1
     at =
         let next : suc (log - 1 - 1) ≡ log - 1 = omega arith in
-        ap (λ (y : ℕ). (w ^ y) % P) (sym (two-pow-succ (log - 1 - 1)) ∙ ap (λ (y : ℕ). 2 ^ y) next) ∙ halves pos
+        ap (λ (y : ℕ). (w ^ y) % P) (sym (two-pow-succ (log - 1 - 1)) ∙ ap (λ (y : ℕ). 2 ^ y) next)
+        ∙ halves pos
 
 -- one place is its own transform
-pub one_place : (a : List ℕ) (start log w x : ℕ) → log ≡ 0 → start < length a → x ≡ get_or a start x → x < P → TransformsBlock a a start log w
+pub one_place : (a : List ℕ) (start log w x : ℕ) → log ≡ 0 → start < length a → x ≡ get_or a start x
+    → x < P → TransformsBlock a a start log w
 one_place a start log w x none low is below =
     record {
       inside = λ j l.
@@ -121,10 +141,12 @@ one_place a start log w x none low is below =
         product : get_or a (start + 0) 0 * (w ^ j) ^ 0 ≡ x
         product =
             let place : start + 0 ≡ start = omega arith in
-            ap (λ (y : ℕ). y * (w ^ j) ^ 0) (ap (λ (y : ℕ). get_or a y 0) place ∙ read) ∙ ap (λ (y : ℕ). x * y) (pow-zero (w ^ j))
+            ap (λ (y : ℕ). y * (w ^ j) ^ 0) (ap (λ (y : ℕ). get_or a y 0) place ∙ read)
+            ∙ ap (λ (y : ℕ). x * y) (pow-zero (w ^ j))
             ∙ omega arith
 
-pub whole_block_at : (old one two new : List ℕ) (start log w s m : ℕ) → 0 < log → m ≡ 2 ^ (log - 1) → HalvesAt w log → s ≡ (w * w) % P
+pub whole_block_at : (old one two new : List ℕ) (start log w s m : ℕ) → 0 < log → m ≡ 2 ^ (log - 1)
+    → HalvesAt w log → s ≡ (w * w) % P
     → TransformsBlock old one start (log - 1) s → TransformsBlock one two (start + m) (log - 1) s
     → ((j : ℕ) → j < m → get_or new (start + j) 0 ≡ low_of two start m w j)
     → ((j : ℕ) → j < m → get_or new (start + m + j) 0 ≡ high_of two start m w j)
@@ -141,14 +163,17 @@ whole_block_at old one two new start log w s m pos size halves square first seco
       others = others;
     } in
     let B : ℕ → Type 0 = λ y. TransformsBlock old new start y w in
-    subst B up (whole_block old one two new start (log - 1) w s m size half square first second merged)
+    subst B up
+    (whole_block old one two new start (log - 1) w s m size half square first second merged)
 
 pub half_fits : (log : ℕ) → 0 < log → 2 ^ log ≡ 2 ^ (log - 1) + 2 ^ (log - 1)
 half_fits log pos =
-    let up : suc (log - 1) ≡ log = omega arith in ap (λ (y : ℕ). 2 ^ y) (sym up) ∙ two-pow-succ (log - 1)
+    let up : suc (log - 1) ≡ log =
+    omega arith in ap (λ (y : ℕ). 2 ^ y) (sym up) ∙ two-pow-succ (log - 1)
 
 -- with all places: the reversal undoes that of the coefficients
-pub all_values : (old turned new : List ℕ) (log w : ℕ) → length old ≡ 2 ^ log → length new ≡ length old
+pub all_values : (old turned new : List ℕ) (log w : ℕ) → length old ≡ 2 ^ log
+    → length new ≡ length old
     → ((p : ℕ) → p < 2 ^ log → get_or turned p 0 ≡ get_or old (reversed log p) 0)
     → TransformsBlock turned new 0 log w → HasValues w old new
 all_values old turned new log w size same turn block =
@@ -160,7 +185,8 @@ all_values old turned new log w size same turn block =
           let point : w ^ j % P ≡ w ^ j % P % P = sym (mod-mod (w ^ j) P) in
           ap (λ (y : ℕ). get_or new y 0) (sym zero_first) ∙ block.inside j (omega arith)
           ∙ ap (λ (y : ℕ). y % P)
-          (poly_same (2 ^ log) (λ i. get_or turned (0 + reversed log i) 0) (λ i. get_or old i 0) (w ^ j) (λ i h. coefficient i h))
+          (poly_same (2 ^ log) (λ i. get_or turned (0 + reversed log i) 0) (λ i. get_or old i 0)
+          (w ^ j) (λ i h. coefficient i h))
           ∙ ap (λ (y : ℕ). poly y (λ i. get_or old i 0) (w ^ j) % P) (sym size)
           ∙ poly_point P n (λ i. get_or old i 0) (w ^ j) (w ^ j % P) point;
     }

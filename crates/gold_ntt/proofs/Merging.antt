@@ -8,16 +8,19 @@ use Rattle.gold_field.specs.declared.gold.TheConstants.{P}
 
 -- the two places of pair k after the merge
 abbrev pub low_of : List ℕ → ℕ → ℕ → ℕ → ℕ → ℕ
-low_of old start half root k = (get_or old (start + k) 0 + root ^ k * get_or old (start + half + k) 0 % P) % P
+low_of old start half root k =
+    (get_or old (start + k) 0 + root ^ k * get_or old (start + half + k) 0 % P) % P
 
 abbrev pub high_of : List ℕ → ℕ → ℕ → ℕ → ℕ → ℕ
-high_of old start half root k = (get_or old (start + k) 0 + (P - root ^ k * get_or old (start + half + k) 0 % P)) % P
+high_of old start half root k =
+    (get_or old (start + k) 0 + (P - root ^ k * get_or old (start + half + k) 0 % P)) % P
 
 pub record IsMerged (old new : List ℕ) (start half root j : ℕ) : Type 0 where
   pub low : (k : ℕ) → k < j → get_or new (start + k) 0 ≡ low_of old start half root k
   pub high : (k : ℕ) → k < j → get_or new (start + half + k) 0 ≡ high_of old start half root k
   pub low_left : (k : ℕ) → j ≤ k → k < half → get_or new (start + k) 0 ≡ get_or old (start + k) 0
-  pub high_left : (k : ℕ) → j ≤ k → k < half → get_or new (start + half + k) 0 ≡ get_or old (start + half + k) 0
+  pub high_left : (k : ℕ) → j ≤ k → k < half → get_or new (start + half + k) 0
+      ≡ get_or old (start + half + k) 0
   pub others : (p : ℕ) → (p < start) ⊎ (start + (half + half) ≤ p) → get_or new p 0 ≡ get_or old p 0
 
 pub not_begun : (old : List ℕ) (start half root : ℕ) → IsMerged old old start half root 0
@@ -30,64 +33,84 @@ not_begun old start half root = record {
 }
 
 -- a place that neither write meets
-two_sets : (a : List ℕ) (i j p x y : ℕ) → p ≢ i → p ≢ j → get_or (set (set a i x) j y) p 0 ≡ get_or a p 0
+two_sets : (a : List ℕ) (i j p x y : ℕ) → p ≢ i → p ≢ j → get_or (set (set a i x) j y) p 0
+    ≡ get_or a p 0
 two_sets a i j p x y ni nj = get_or-set_other (set a i x) j p y 0 nj ∙ get_or-set_other a i p x 0 ni
 
 first_set : (a : List ℕ) (i j x y : ℕ) → i ≢ j → i < length a → get_or (set (set a i x) j y) i 0 ≡ x
 first_set a i j x y ne l = get_or-set_other (set a i x) j i y 0 ne ∙ get_or-set_same a i x 0 l
 
 second_set : (a : List ℕ) (i j x y : ℕ) → j < length a → get_or (set (set a i x) j y) j 0 ≡ y
-second_set a i j x y l = let long : j < length (set a i x) = omega (arith, length-set a i x) in get_or-set_same (set a i x) j y 0 long
+second_set a i j x y l = let long : j < length (set a i x) = omega (arith, length-set a i x)
+    in get_or-set_same (set a i x) j y 0 long
 
 pub one_merged : (old new : List ℕ) (start half root j twiddle e o odd x y : ℕ)
-    → j < half → start + (half + half) ≤ length new → IsMerged old new start half root j → twiddle ≡ root ^ j % P
+    → j < half → start + (half + half) ≤ length new → IsMerged old new start half root j
+    → twiddle ≡ root ^ j % P
     → e ≡ get_or new (start + j) e → o ≡ get_or new (start + half + j) o
     → odd ≡ (twiddle * o) % P → x ≡ (e + odd) % P → y ≡ (e + (P - odd)) % P
     → IsMerged old (set (set new (start + j) x) (start + half + j) y) start half root (j + 1)
-one_merged old new start half root j twiddle e o odd x y low fits merged power read_e read_o product sum difference =
-    let first : e ≡ get_or new (start + j) 0 = read_e ∙ get_or_default_zero new (start + j) e (omega arith) in
-    let second : o ≡ get_or new (start + half + j) 0 = read_o ∙ get_or_default_zero new (start + half + j) o (omega arith) in
-    let is_low : get_or new (start + j) 0 ≡ get_or old (start + j) 0 = merged.low_left j (omega arith) low in
-    let is_high : get_or new (start + half + j) 0 ≡ get_or old (start + half + j) 0 = merged.high_left j (omega arith) low in
+one_merged old new start half root j twiddle e o odd x y low fits merged power read_e read_o product
+    sum difference =
+    let first : e ≡ get_or new (start + j) 0 =
+    read_e ∙ get_or_default_zero new (start + j) e (omega arith) in
+    let second : o ≡ get_or new (start + half + j) 0 =
+    read_o ∙ get_or_default_zero new (start + half + j) o (omega arith) in
+    let is_low : get_or new (start + j) 0 ≡ get_or old (start + j) 0 =
+    merged.low_left j (omega arith) low in
+    let is_high : get_or new (start + half + j) 0 ≡ get_or old (start + half + j) 0 =
+    merged.high_left j (omega arith) low in
     let b : ℕ = get_or old (start + half + j) 0 in
     let is_odd : odd ≡ root ^ j * b % P =
-    product ∙ ap (λ (z : ℕ). (twiddle * z) % P) (second ∙ is_high) ∙ ap (λ (z : ℕ). (z * b) % P) power ∙ mul-mod_first (root ^ j) b P in
+    product ∙ ap (λ (z : ℕ). (twiddle * z) % P) (second ∙ is_high)
+    ∙ ap (λ (z : ℕ). (z * b) % P) power ∙ mul-mod_first (root ^ j) b P in
     let is_x : x ≡ low_of old start half root j =
-    sum ∙ ap (λ (z : ℕ). (z + odd) % P) (first ∙ is_low) ∙ ap (λ (z : ℕ). (get_or old (start + j) 0 + z) % P) is_odd in
+    sum ∙ ap (λ (z : ℕ). (z + odd) % P) (first ∙ is_low)
+    ∙ ap (λ (z : ℕ). (get_or old (start + j) 0 + z) % P) is_odd in
     let is_y : y ≡ high_of old start half root j =
-    difference ∙ ap (λ (z : ℕ). (z + (P - odd)) % P) (first ∙ is_low) ∙ ap (λ (z : ℕ). (get_or old (start + j) 0 + (P - z)) % P) is_odd in
+    difference ∙ ap (λ (z : ℕ). (z + (P - odd)) % P) (first ∙ is_low)
+    ∙ ap (λ (z : ℕ). (get_or old (start + j) 0 + (P - z)) % P) is_odd in
     record {
       low = λ k h.
           elim (cases_lt k j) [
             | inl before ↦
-                two_sets new (start + j) (start + half + j) (start + k) x y (λ e. omega arith) (λ e. omega arith)
+                two_sets new (start + j) (start + half + j) (start + k) x y (λ e. omega arith)
+                (λ e. omega arith)
                 ∙ merged.low k before
             | inr after ↦
                 let at : k ≡ j = omega arith in
-                ap (λ (z : ℕ). get_or (set (set new (start + j) x) (start + half + j) y) (start + z) 0) at
-                ∙ first_set new (start + j) (start + half + j) x y (λ e. omega arith) (omega arith) ∙ is_x
+                ap (λ (z : ℕ). get_or (set (set new (start + j) x) (start + half + j) y)
+                (start + z) 0) at
+                ∙ first_set new (start + j) (start + half + j) x y (λ e. omega arith) (omega arith)
+                ∙ is_x
                 ∙ ap (λ (z : ℕ). low_of old start half root z) (sym at)
           ];
       high = λ k h.
           elim (cases_lt k j) [
             | inl before ↦
-                two_sets new (start + j) (start + half + j) (start + half + k) x y (λ e. omega arith) (λ e. omega arith)
+                two_sets new (start + j) (start + half + j) (start + half + k) x y
+                (λ e. omega arith) (λ e. omega arith)
                 ∙ merged.high k before
             | inr after ↦
                 let at : k ≡ j = omega arith in
-                ap (λ (z : ℕ). get_or (set (set new (start + j) x) (start + half + j) y) (start + half + z) 0) at
+                ap (λ (z : ℕ). get_or (set (set new (start + j) x) (start + half + j) y)
+                (start + half + z) 0) at
                 ∙ second_set new (start + j) (start + half + j) x y (omega arith) ∙ is_y
                 ∙ ap (λ (z : ℕ). high_of old start half root z) (sym at)
           ];
       low_left = λ k h l.
-          two_sets new (start + j) (start + half + j) (start + k) x y (λ e. omega arith) (λ e. omega arith)
+          two_sets new (start + j) (start + half + j) (start + k) x y (λ e. omega arith)
+          (λ e. omega arith)
           ∙ merged.low_left k (omega arith) l;
       high_left = λ k h l.
-          two_sets new (start + j) (start + half + j) (start + half + k) x y (λ e. omega arith) (λ e. omega arith)
+          two_sets new (start + j) (start + half + j) (start + half + k) x y (λ e. omega arith)
+          (λ e. omega arith)
           ∙ merged.high_left k (omega arith) l;
       others = λ p h.
-          let not_low : p ≢ start + j = elim h [ inl before ↦ (λ e. omega arith) | inr after ↦ (λ e. omega arith) ] in
-          let not_high : p ≢ start + half + j = elim h [ inl before ↦ (λ e. omega arith) | inr after ↦ (λ e. omega arith) ] in
+          let not_low : p ≢ start + j =
+          elim h [ inl before ↦ (λ e. omega arith) | inr after ↦ (λ e. omega arith) ] in
+          let not_high : p ≢ start + half + j =
+          elim h [ inl before ↦ (λ e. omega arith) | inr after ↦ (λ e. omega arith) ] in
           two_sets new (start + j) (start + half + j) p x y not_low not_high ∙ merged.others p h;
     }
 

@@ -38,12 +38,14 @@ folded-later n f k =
     ∙ ap (λ (y : ℕ). get_or f y 0 + sum_to (length f) (λ t. get_or f (k + suc t * n) 0)) here
     ∙ ap (λ (y : ℕ). get_or f k 0 + y)
     (sum_same (length f) (λ t. get_or f (k + suc t * n) 0) (λ t. get_or f (k + (t * n + n)) 0)
-    (λ t l. let place : k + suc t * n ≡ k + (t * n + n) = omega arith in ap (λ (y : ℕ). get_or f y 0) place))
+    (λ t l. let place : k + suc t * n ≡ k + (t * n + n) = omega arith
+    in ap (λ (y : ℕ). get_or f y 0) place))
 
 later_past : (n : ℕ) (f : List ℕ) (k : ℕ) → length f ≤ k → later n f k ≡ 0
 unfolding later
 later_past n f k l =
-    sum_past 0 (length f) (λ t. get_or f (k + (t * n + n)) 0) (omega arith) (λ t h. get_or_past f (k + (t * n + n)) 0 (omega arith))
+    sum_past 0 (length f) (λ t. get_or f (k + (t * n + n)) 0) (omega arith)
+    (λ t h. get_or_past f (k + (t * n + n)) 0 (omega arith))
     ∙ sum_to-zero (λ t. get_or f (k + (t * n + n)) 0)
 
 -- the place n earlier has the whole sum later
@@ -51,7 +53,8 @@ later-earlier : (n : ℕ) (f : List ℕ) (k : ℕ) → 0 < n → n ≤ k → lat
 unfolding folded later
 later-earlier n f k pos l =
     sum_same (length f) (λ t. get_or f (k - n + (t * n + n)) 0) (λ t. get_or f (k + t * n) 0)
-    (λ t h. let place : k - n + (t * n + n) ≡ k + t * n = omega arith in ap (λ (y : ℕ). get_or f y 0) place)
+    (λ t h. let place : k - n + (t * n + n) ≡ k + t * n = omega arith
+    in ap (λ (y : ℕ). get_or f y 0) place)
     ∙ sym
     (sum_past (length f) (length f + 1) (λ t. get_or f (k + t * n) 0) (omega arith)
     (λ t h. get_or_past f (k + t * n) 0 (far t n (length f) k pos h)))
@@ -72,34 +75,46 @@ quotient_at n f k =
     elim (cases_lt k (length f)) [
       | inl low ↦ get_or-tabulate (length f) (later n f) k low
       | inr high ↦
-          get_or_past (tabulate (length f) (later n f)) k 0 (omega (arith, length-tabulate (length f) (later n f)))
+          get_or_past (tabulate (length f) (later n f)) k 0
+          (omega (arith, length-tabulate (length f) (later n f)))
           ∙ sym (later_past n f k high)
     ]
 
 division_at : (n : ℕ) (f : List ℕ) (k : ℕ) → 0 < n
-    → get_or f k 0 + get_or (quotient_of n f) k 0 ≡ shifted_at n (quotient_of n f) k + get_or (remainder_of n f) k 0
+    → get_or f k 0 + get_or (quotient_of n f) k 0 ≡ shifted_at n (quotient_of n f) k
+    + get_or (remainder_of n f) k 0
 unfolding remainder_of
 division_at n f k pos =
     elim (cases_lt k n) [
       | inl low ↦
           let none : shifted_at n (quotient_of n f) k ≡ 0 =
           ap (λ (y : _). cond y 0 (get_or (quotient_of n f) (k - n) 0)) (lt-ltb k n low) in
-          let rest : get_or (tabulate n (folded n f)) k 0 ≡ folded n f k = get_or-tabulate n (folded n f) k low in
+          let rest : get_or (tabulate n (folded n f)) k 0 ≡ folded n f k =
+          get_or-tabulate n (folded n f) k low in
           omega (arith, none, rest, quotient_at n f k, folded-later n f k)
       | inr high ↦
           let some : shifted_at n (quotient_of n f) k ≡ get_or (quotient_of n f) (k - n) 0 =
           ap (λ (y : _). cond y 0 (get_or (quotient_of n f) (k - n) 0)) (le-ltb k n high) in
           let rest : get_or (tabulate n (folded n f)) k 0 ≡ 0 =
-          get_or_past (tabulate n (folded n f)) k 0 (omega (arith, length-tabulate n (folded n f))) in
-          omega
-          (arith, some, rest, quotient_at n f k, quotient_at n f (k - n), later-earlier n f k pos high, folded-later n f k)
+          get_or_past (tabulate n (folded n f)) k 0
+          (omega (arith, length-tabulate n (folded n f))) in
+          omega (
+            arith,
+            some,
+            rest,
+            quotient_at n f k,
+            quotient_at n f (k - n),
+            later-earlier n f k pos high,
+            folded-later n f k,
+          )
     ]
 
 length-remainder_of : (n : ℕ) (f : List ℕ) → length (remainder_of n f) ≡ n
 unfolding remainder_of
 length-remainder_of n f = length-tabulate n (folded n f)
 
-pub division_exists : (n : ℕ) (f : List ℕ) → 0 < n → (q : List ℕ) × ((r : List ℕ) × IsDivision n f q r)
+pub division_exists : (n : ℕ) (f : List ℕ) → 0 < n
+    → (q : List ℕ) × ((r : List ℕ) × IsDivision n f q r)
 division_exists n f pos = (
   quotient_of n f,
   (

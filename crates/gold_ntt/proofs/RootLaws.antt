@@ -10,7 +10,8 @@ use Rattle.gold_ntt.specs.declared.roots.TheConstants.{ROOT}
 use Rattle.gold_ntt.specs.Transform.{root_of}
 
 squared-squared : (q m n x : ℕ) → squared q m (squared q n x) ≡ squared q (n + m) x
-squared-squared q m zero x = let none : 0 + m ≡ m = omega arith in sym (ap (λ (y : ℕ). squared q y x) none)
+squared-squared q m zero x =
+    let none : 0 + m ≡ m = omega arith in sym (ap (λ (y : ℕ). squared q y x) none)
 squared-squared q m (suc n) x =
     let next : suc n + m ≡ suc (n + m) = omega arith in
     squared-squared q m n ((x * x) % q) ∙ sym (ap (λ (y : ℕ). squared q y x) next)
@@ -26,7 +27,8 @@ unfolding root_of
 root_one e l =
     let whole : 32 - e + e ≡ 32 = omega arith in
     sym (squared-power P e (squared P (32 - e) ROOT))
-    ∙ ap (λ (y : ℕ). y % P) (squared-squared P e (32 - e) ROOT ∙ ap (λ (y : ℕ). squared P y ROOT) whole ∙ root_32)
+    ∙ ap (λ (y : ℕ). y % P) (squared-squared P e (32 - e) ROOT
+    ∙ ap (λ (y : ℕ). squared P y ROOT) whole ∙ root_32)
 
 -- the power that is half the order is -1
 pub root_half : (e : ℕ) → e < 32 → (root_of (suc e) ^ (2 ^ e)) % P ≡ P - 1
@@ -34,14 +36,17 @@ unfolding root_of
 root_half e l =
     let whole : 32 - suc e + e ≡ 31 = omega arith in
     sym (squared-power P e (squared P (32 - suc e) ROOT))
-    ∙ ap (λ (y : ℕ). y % P) (squared-squared P e (32 - suc e) ROOT ∙ ap (λ (y : ℕ). squared P y ROOT) whole ∙ root_31)
+    ∙ ap (λ (y : ℕ). y % P) (squared-squared P e (32 - suc e) ROOT
+    ∙ ap (λ (y : ℕ). squared P y ROOT) whole ∙ root_31)
 
 pub root_order : (e : ℕ) → e ≤ 32 → (k : ℕ) → 0 < k → k < 2 ^ e → (root_of e ^ k) % P ≢ 1
 root_order zero l k pos low = absurd (omega arith)
-root_order (suc e) l k pos low = no_period e P (root_of (suc e)) (lit< tt) (root_half e (omega arith)) k pos low
+root_order (suc e) l k pos low =
+    no_period e P (root_of (suc e)) (lit< tt) (root_half e (omega arith)) k pos low
 
 -- a turn of the loop of `root`
-pub square_turn : (q i r : ℕ) → i < 32 → squared q (32 - (i + 1)) ((r * r) % q) ≡ squared q (32 - i) r
+pub square_turn : (q i r : ℕ) → i < 32 → squared q (32 - (i + 1)) ((r * r) % q)
+    ≡ squared q (32 - i) r
 square_turn q i r l =
     let next : 32 - i ≡ suc (32 - (i + 1)) = omega arith in sym (ap (λ (y : ℕ). squared q y r) next)
 
@@ -59,9 +64,12 @@ power_mod_is q zero x = ap (λ (y : ℕ). y % q) (sym (pow-zero x))
 power_mod_is q (suc n) x =
     let k : ℕ = all_ones n in
     let more : k + k + 1 ≡ suc (k + k) = omega arith in
-    mod-mod (power_mod q n ((x * x) % q) * x) q ∙ sym (mul-mod_first (power_mod q n ((x * x) % q)) x q)
-    ∙ ap (λ (y : ℕ). (y * x) % q) (power_mod_is q n ((x * x) % q) ∙ pow-mod (x * x) k q) ∙ mul-mod_first ((x * x) ^ k) x q
-    ∙ ap (λ (y : ℕ). y % q) (ap (λ (y : ℕ). y * x) (pow_square x k) ∙ sym (pow-suc x (k + k)) ∙ ap (λ (y : ℕ). x ^ y) (sym more))
+    mod-mod (power_mod q n ((x * x) % q) * x) q
+    ∙ sym (mul-mod_first (power_mod q n ((x * x) % q)) x q)
+    ∙ ap (λ (y : ℕ). (y * x) % q) (power_mod_is q n ((x * x) % q) ∙ pow-mod (x * x) k q)
+    ∙ mul-mod_first ((x * x) ^ k) x q
+    ∙ ap (λ (y : ℕ). y % q) (ap (λ (y : ℕ). y * x) (pow_square x k) ∙ sym (pow-suc x (k + k))
+    ∙ ap (λ (y : ℕ). x ^ y) (sym more))
 
 -- stated with a variable for 7, so that nothing computes the power itself
 root_made : (b : ℕ) → b ≡ 7 → (b ^ (2 ^ 32 - 1)) % P ≡ ROOT
@@ -72,7 +80,8 @@ root_made b is = sym (power_mod_is P 32 b) ∙ ap (λ (y : ℕ). power_mod P 32 
 
 squared_below : (q n x : ℕ) → x < q → squared q n x < q
 squared_below q zero x l = l
-squared_below q (suc n) x l = let pos : 0 < q = omega arith in squared_below q n ((x * x) % q) (mod-lt (x * x) pos)
+squared_below q (suc n) x l =
+    let pos : 0 < q = omega arith in squared_below q n ((x * x) % q) (mod-lt (x * x) pos)
 
 pub root_below : (e : ℕ) → root_of e < P
 unfolding root_of
@@ -84,6 +93,7 @@ unfolding root_of
 root_power e b is =
     let n : ℕ = 32 - e in
     let k : ℕ = 2 ^ n in
-    sym (mod-eq_of_lt {n = squared P n ROOT} {m = P} (squared_below P n ROOT (lit< tt))) ∙ squared-power P n ROOT
+    sym (mod-eq_of_lt {n = squared P n ROOT} {m = P} (squared_below P n ROOT (lit< tt)))
+    ∙ squared-power P n ROOT
     ∙ ap (λ (y : ℕ). (y ^ k) % P) (sym (root_made b is)) ∙ pow-mod (b ^ (2 ^ 32 - 1)) k P
     ∙ ap (λ (y : ℕ). y % P) (pow_pow b (2 ^ 32 - 1) k)

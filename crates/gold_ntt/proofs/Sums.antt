@@ -20,13 +20,15 @@ unfolding sum_to
 sum_same zero f g h = refl
 sum_same (suc n) f g h = omega (arith, sum_same n f g (λ i l. h i (omega arith)), h n (omega arith))
 
-pub sum_mod : (q n : ℕ) (f g : ℕ → ℕ) → ((i : ℕ) → i < n → f i % q ≡ g i % q) → sum_to n f % q ≡ sum_to n g % q
+pub sum_mod : (q n : ℕ) (f g : ℕ → ℕ) → ((i : ℕ) → i < n → f i % q ≡ g i % q)
+    → sum_to n f % q ≡ sum_to n g % q
 unfolding sum_to
 sum_mod q zero f g h = refl
 sum_mod q (suc n) f g h =
     sym (sum_of_rests q (sum_to n f) (f n))
     ∙ ap (λ (y : ℕ). (y + f n % q) % q) (sum_mod q n f g (λ i l. h i (omega arith)))
-    ∙ ap (λ (y : ℕ). (sum_to n g % q + y) % q) (h n (omega arith)) ∙ sum_of_rests q (sum_to n g) (g n)
+    ∙ ap (λ (y : ℕ). (sum_to n g % q + y) % q) (h n (omega arith))
+    ∙ sum_of_rests q (sum_to n g) (g n)
 
 -- a sum of remainders
 pub sum_rests : (q n : ℕ) (f : ℕ → ℕ) → sum_to n (λ i. f i % q) % q ≡ sum_to n f % q
@@ -35,7 +37,8 @@ sum_rests q n f = sum_mod q n (λ i. f i % q) f (λ i l. mod-mod (f i) q)
 pub sum-scale : (n c : ℕ) (f : ℕ → ℕ) → sum_to n (λ i. c * f i) ≡ c * sum_to n f
 unfolding sum_to
 sum-scale zero c f = omega arith
-sum-scale (suc n) c f = ap (λ (y : ℕ). y + c * f n) (sum-scale n c f) ∙ sym (mul-add c (sum_to n f) (f n))
+sum-scale (suc n) c f =
+    ap (λ (y : ℕ). y + c * f n) (sum-scale n c f) ∙ sym (mul-add c (sum_to n f) (f n))
 
 pub sum-zero : (n : ℕ) → sum_to n (λ i. 0) ≡ 0
 unfolding sum_to
@@ -47,7 +50,8 @@ unfolding sum_to
 sum-add zero f g = refl
 sum-add (suc n) f g = omega (arith, sum-add n f g)
 
-pub sum-swap : (n m : ℕ) (f : ℕ → ℕ → ℕ) → sum_to n (λ j. sum_to m (λ i. f i j)) ≡ sum_to m (λ i. sum_to n (λ j. f i j))
+pub sum-swap : (n m : ℕ) (f : ℕ → ℕ → ℕ) → sum_to n (λ j. sum_to m (λ i. f i j))
+    ≡ sum_to m (λ i. sum_to n (λ j. f i j))
 unfolding sum_to
 sum-swap zero m f = sym (sum-zero m)
 sum-swap (suc n) m f =
@@ -55,7 +59,8 @@ sum-swap (suc n) m f =
     ∙ sym (sum-add m (λ i. sum_to n (λ j. f i j)) (λ i. f i n))
 
 -- only one term counts
-pub sum_one : (n q : ℕ) (f : ℕ → ℕ) (k : ℕ) → k < n → ((i : ℕ) → i < n → i ≢ k → f i % q ≡ 0) → sum_to n f % q ≡ f k % q
+pub sum_one : (n q : ℕ) (f : ℕ → ℕ) (k : ℕ) → k < n → ((i : ℕ) → i < n → i ≢ k → f i % q ≡ 0)
+    → sum_to n f % q ≡ f k % q
 unfolding sum_to
 sum_one zero q f k l h = absurd (omega arith)
 sum_one (suc n) q f k l h =
@@ -69,13 +74,15 @@ sum_one (suc n) q f k l h =
       | inr high ↦
           let is : k ≡ n = omega arith in
           let none : sum_to n f % q ≡ 0 =
-          sum_mod q n f (λ i. 0) (λ i m. let ne : i ≢ k = omega arith in h i (omega arith) ne ∙ sym (zero-mod q))
+          sum_mod q n f (λ i. 0) (λ i m. let ne : i ≢ k = omega arith in h i (omega arith) ne
+          ∙ sym (zero-mod q))
           ∙ ap (λ (y : ℕ). y % q) (sum-zero n) ∙ zero-mod q in
           plus_zero (sum_to n f) (f n) q none ∙ ap (λ (y : ℕ). f y % q) (sym is)
     ]
 
 -- the even terms and the odd ones
-pub sum_pairs : (m : ℕ) (f : ℕ → ℕ) → sum_to (m + m) f ≡ sum_to m (λ i. f (i + i)) + sum_to m (λ i. f (suc (i + i)))
+pub sum_pairs : (m : ℕ) (f : ℕ → ℕ)
+    → sum_to (m + m) f ≡ sum_to m (λ i. f (i + i)) + sum_to m (λ i. f (suc (i + i)))
 unfolding sum_to
 sum_pairs zero f = refl
 sum_pairs (suc m) f =
@@ -98,19 +105,27 @@ sum_more n (suc k) f h =
 
 pub sum_past : (n m : ℕ) (f : ℕ → ℕ) → n ≤ m → ((i : ℕ) → n ≤ i → f i ≡ 0) → sum_to m f ≡ sum_to n f
 sum_past n m f l h =
-    let parts : m ≡ n + (m - n) = omega arith in ap (λ (y : ℕ). sum_to y f) parts ∙ sum_more n (m - n) f h
+    let parts : m ≡ n + (m - n) =
+    omega arith in ap (λ (y : ℕ). sum_to y f) parts ∙ sum_more n (m - n) f h
 
 -- a sum over i + j < n, by diagonals and by rows
-pub sum_triangle : (n : ℕ) (h : ℕ → ℕ → ℕ) → sum_to n (λ k. sum_to (k + 1) (λ i. h i (k - i))) ≡ sum_to n (λ i. sum_to (n - i) (λ j. h i j))
+pub sum_triangle : (n : ℕ) (h : ℕ → ℕ → ℕ) → sum_to n (λ k. sum_to (k + 1) (λ i. h i (k - i)))
+    ≡ sum_to n (λ i. sum_to (n - i) (λ j. h i j))
 unfolding sum_to
 sum_triangle zero h = refl
 sum_triangle (suc n) h =
     let one_more : n + 1 ≡ suc n = omega arith in
-    let rows : sum_to (suc n) (λ i. sum_to (suc n - i) (λ j. h i j)) ≡ sum_to (suc n) (λ i. sum_to (n - i) (λ j. h i j) + h i (n - i)) =
-    sum_same (suc n) (λ i. sum_to (suc n - i) (λ j. h i j)) (λ i. sum_to (n - i) (λ j. h i j) + h i (n - i))
-    (λ i l. let next : suc n - i ≡ suc (n - i) = omega arith in ap (λ (y : ℕ). sum_to y (λ j. h i j)) next) in
-    let none : sum_to (n - n) (λ j. h n j) ≡ 0 = let is : n - n ≡ 0 = omega arith in ap (λ (y : ℕ). sum_to y (λ j. h n j)) is in
-    let split : sum_to (suc n) (λ i. sum_to (n - i) (λ j. h i j) + h i (n - i)) ≡ sum_to (suc n) (λ i. sum_to (n - i) (λ j. h i j)) + sum_to (suc n) (λ i. h i (n - i)) =
+    let rows : sum_to (suc n) (λ i. sum_to (suc n - i) (λ j. h i j))
+    ≡ sum_to (suc n) (λ i. sum_to (n - i) (λ j. h i j) + h i (n - i)) =
+    sum_same (suc n) (λ i. sum_to (suc n - i) (λ j. h i j))
+    (λ i. sum_to (n - i) (λ j. h i j) + h i (n - i))
+    (λ i l. let next : suc n - i ≡ suc (n - i) = omega arith
+    in ap (λ (y : ℕ). sum_to y (λ j. h i j)) next) in
+    let none : sum_to (n - n) (λ j. h n j) ≡ 0 =
+    let is : n - n ≡ 0 = omega arith in ap (λ (y : ℕ). sum_to y (λ j. h n j)) is in
+    let split : sum_to (suc n) (λ i. sum_to (n - i) (λ j. h i j) + h i (n - i))
+    ≡ sum_to (suc n) (λ i. sum_to (n - i) (λ j. h i j)) + sum_to (suc n) (λ i. h i (n - i)) =
     sum-add (suc n) (λ i. sum_to (n - i) (λ j. h i j)) (λ i. h i (n - i)) in
-    let last : sum_to (n + 1) (λ i. h i (n - i)) ≡ sum_to (suc n) (λ i. h i (n - i)) = ap (λ (y : ℕ). sum_to y (λ i. h i (n - i))) one_more in
+    let last : sum_to (n + 1) (λ i. h i (n - i)) ≡ sum_to (suc n) (λ i. h i (n - i)) =
+    ap (λ (y : ℕ). sum_to y (λ i. h i (n - i))) one_more in
     omega (arith, sum_triangle n h, rows, none, split, last)

@@ -23,7 +23,8 @@ product_at a b k = sum_to (k + 1) (λ i. slice_index a i * slice_index b (k - i)
 pub record IsSum (a b c : List ℕ) : Type 0 where
   pub first_fits : length a ≤ length c
   pub second_fits : length b ≤ length c
-  pub coefficient : (k : ℕ) → k < length c → slice_index c k ≡ (slice_index a k + slice_index b k) % P
+  pub coefficient : (k : ℕ) → k < length c
+      → slice_index c k ≡ (slice_index a k + slice_index b k) % P
 
 -- c is the polynomial s * a
 pub record IsMultiple (s : ℕ) (a c : List ℕ) : Type 0 where
@@ -47,4 +48,5 @@ shifted_at n a k = if nat_lt k n then 0 else slice_index a (k - n)
 -- f is (X ^ n - 1) * q + r, and r has degree below n
 pub record IsDivision (n : ℕ) (f q r : List ℕ) : Type 0 where
   pub small : length r ≤ n
-  pub coefficient : (k : ℕ) → (slice_index f k + slice_index q k) % P ≡ (shifted_at n q k + slice_index r k) % P
+  pub coefficient : (k : ℕ) → (slice_index f k + slice_index q k) % P
+      ≡ (shifted_at n q k + slice_index r k) % P

@@ -28,15 +28,18 @@ IsTransform e coefs values = HasValues (root_of e) coefs values
 -- place j has the value at 7 times the j-th power
 pub record IsCosetTransform (e : ℕ) (coefs values : List ℕ) : Type 0 where
   pub same_length : length values ≡ length coefs
-  pub value : (j : ℕ) → j < length coefs → slice_index values j ≡ eval_at coefs (7 * root_of e ^ j % P)
+  pub value : (j : ℕ) → j < length coefs
+      → slice_index values j ≡ eval_at coefs (7 * root_of e ^ j % P)
 
 -- the power of w that is half of 2 ^ log is -1
 abbrev pub HalvesAt : ℕ → ℕ → Type 0
 HalvesAt w log = 0 < log → w ^ (2 ^ (log - 1)) % P ≡ P - 1
 
--- in the block of 2 ^ log places from start on, place j of new has the value at w ^ j; the coefficients stand in old
--- with their indices' bits reversed; the other places are the same
+-- in the block of 2 ^ log places from start on, place j of new has the value at w ^ j; the
+-- coefficients stand in old with their indices' bits reversed; the other places are the same
 pub record TransformsBlock (old new : List ℕ) (start log w : ℕ) : Type 0 where
-  pub inside : (j : ℕ) → j < 2 ^ log → slice_index new (start + j) ≡ poly (2 ^ log) (λ i. slice_index old (start + reversed log i)) (w ^ j) % P
+  pub inside : (j : ℕ) → j < 2 ^ log
+      → slice_index new (start + j) ≡ poly (2 ^ log) (λ i. slice_index old (start + reversed log i))
+      (w ^ j) % P
   pub others : (p : ℕ) → (p < start) ⊎ (start + 2 ^ log ≤ p) → slice_index new p ≡ slice_index old p
   pub below : (j : ℕ) → j < 2 ^ log → slice_index old (start + j) < P

@@ -1,5 +1,5 @@
-//! Laws of polynomials and their values, for proofs that cite a call: each function does nothing, and its contract is
-//! the law.
+//! Laws of polynomials and their values, for proofs that cite a call: each function does nothing,
+//! and its contract is the law.
 
 ghost use Rattle.std.specs.Prelude.{◌≡◌, ◌≢◌, ℕ, ◌+◌, ◌*◌, ◌%◌, ◌^◌, ◌<◌, ◌≤◌, ◌==◌, if◌then◌else◌, List, length, slice_index};
 ghost use Rattle.gold_field.specs.declared.gold.TheConstants.{P};
@@ -39,8 +39,8 @@ pub fn sum_of_values()
         ≡ 2 ^ e * sum_to (length a) (λ k. if k % 2 ^ e == 0 then slice_index a k else 0) % P }
 {}
 
-/// Division by `X ^ n - 1`: there is one, its values, and that it leaves no remainder exactly where the values at the
-/// roots of order `n` are 0.
+/// Division by `X ^ n - 1`: there is one, its values, and that it leaves no remainder exactly where
+/// the values at the roots of order `n` are 0.
 pub fn division()
     ensures exists { (n : ℕ) (f : List ℕ) → 0 < n
         → (q : List ℕ) × ((r : List ℕ) × IsDivision n f q r) }

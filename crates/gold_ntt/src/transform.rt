@@ -9,13 +9,16 @@ use gold_field::Gold;
 /// (p + 1) / 2
 const INVERSE_OF_TWO: u128 = 9223372034707292161;
 
-/// Two neighbouring transforms of `half` places each, of the even and of the odd coefficients, become one.
+/// Two neighbouring transforms of `half` places each, of the even and of the odd coefficients,
+/// become one.
 fn merge(a: &mut [Gold], start: usize, half: usize, root: Gold)
     requires { start + (half + half) ≤ length a.old }
     ensures low { (j : ℕ) → j < half → slice_index a.new (start + j)
-        ≡ (slice_index a.old (start + j) + root ^ j * slice_index a.old (start + half + j) % P) % P }
+        ≡ (slice_index a.old (start + j) + root ^ j * slice_index a.old (start + half + j) % P) %
+        P }
     ensures high { (j : ℕ) → j < half → slice_index a.new (start + half + j)
-        ≡ (slice_index a.old (start + j) + (P - root ^ j * slice_index a.old (start + half + j) % P)) % P }
+        ≡ (slice_index a.old (start + j)
+        + (P - root ^ j * slice_index a.old (start + half + j) % P)) % P }
     ensures others { (p : ℕ) → (p < start) ⊎ (start + (half + half) ≤ p)
         → slice_index a.new p ≡ slice_index a.old p }
 {
@@ -64,8 +67,8 @@ fn reverse(a: &mut [Gold], log: u32)
     }
 }
 
-/// The values at the powers of `root`, in the block of `2 ^ log` places from `start` on. The coefficients stand there
-/// with the bits of their indices reversed.
+/// The values at the powers of `root`, in the block of `2 ^ log` places from `start` on. The
+/// coefficients stand there with the bits of their indices reversed.
 fn transform(a: &mut [Gold], start: usize, log: u32, root: Gold)
     requires small { log ≤ 20 }
     requires fits { start + 2 ^ log ≤ length a.old }

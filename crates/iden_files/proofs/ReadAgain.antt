@@ -40,40 +40,57 @@ pub value_again : (end : ℕ) → ReadsBack (value_at end) (to_le_bytes w64) (λ
 unfolding value_at
 value_again end = record {
   again = λ n rest below.
-      tested_again (λ m. ltb m P) (refusal ValueTooLarge (end - length (to_le_bytes w64 n ++ rest))) (or_short (number_of w64 (to_le_bytes w64 n ++ rest)) (refusal BadCount end)) n rest
+      tested_again (λ m. ltb m P) (refusal ValueTooLarge (end - length (to_le_bytes w64 n ++ rest)))
+      (or_short (number_of w64 (to_le_bytes w64 n ++ rest)) (refusal BadCount end)) n rest
       ((u64_again (refusal BadCount end)).again n rest (omega (arith, below))) (lt-ltb n P below);
 }
 
-term_reads : (wires end s c : ℕ) (b0 b1 b2 : List ℕ) → or_short (number_of w32 b0) (refusal BadCount end) ≡ Ok (s, b1) → s < wires → value_at end b1 ≡ Ok (c, b2)
+term_reads : (wires end s c : ℕ) (b0 b1 b2 : List ℕ)
+    → or_short (number_of w32 b0) (refusal BadCount end) ≡ Ok (s, b1) → s < wires
+    → value_at end b1 ≡ Ok (c, b2)
     → term_at wires end b0 ≡ Ok (record { signal = s; coef = c }, b2)
 unfolding term_at
 term_reads wires end s c b0 b1 b2 first below second =
-    let wire = tested_again (λ n. ltb n wires) (refusal WireOutOfRange (end - length b0)) (or_short (number_of w32 b0) (refusal BadCount end)) s b1 first (lt-ltb s wires below) in
+    let wire = tested_again (λ n. ltb n wires) (refusal WireOutOfRange (end - length b0))
+    (or_short (number_of w32 b0) (refusal BadCount end)) s b1 first (lt-ltb s wires below) in
     rw (wire, second) refl
 
-pub term_again : (wires end : ℕ) → wires ≤ 2 ^ 32 → ReadsBack (term_at wires end) term_bytes (IsTermOver wires)
+pub term_again : (wires end : ℕ) → wires ≤ 2 ^ 32
+    → ReadsBack (term_at wires end) term_bytes (IsTermOver wires)
 term_again wires end few = record {
   again = λ t rest over.
       ap (term_at wires end) (append_assoc (to_le_bytes w32 t.signal) (to_le_bytes w64 t.coef) rest)
-      ∙ term_reads wires end t.signal t.coef (to_le_bytes w32 t.signal ++ (to_le_bytes w64 t.coef ++ rest)) (to_le_bytes w64 t.coef ++ rest) rest
-      ((u32_again (refusal BadCount end)).again t.signal (to_le_bytes w64 t.coef ++ rest) (omega (arith, over.signal, few))) over.signal ((value_again end).again t.coef rest over.coef);
+      ∙ term_reads wires end t.signal t.coef
+      (to_le_bytes w32 t.signal ++ (to_le_bytes w64 t.coef ++ rest))
+      (to_le_bytes w64 t.coef ++ rest) rest
+      ((u32_again (refusal BadCount end)).again t.signal (to_le_bytes w64 t.coef ++ rest)
+      (omega (arith, over.signal, few))) over.signal
+      ((value_again end).again t.coef rest over.coef);
 }
 
-terms_reads : (wires end room n : ℕ) (b0 b1 b2 : List ℕ) (ts : List Term) → or_short (number_of w32 b0) (refusal BadCount end) ≡ Ok (n, b1) → n ≤ room → repeated (term_at wires end) n b1 ≡ Ok (ts, b2)
+terms_reads : (wires end room n : ℕ) (b0 b1 b2 : List ℕ) (ts : List Term)
+    → or_short (number_of w32 b0) (refusal BadCount end) ≡ Ok (n, b1) → n ≤ room
+    → repeated (term_at wires end) n b1 ≡ Ok (ts, b2)
     → terms_at wires end room b0 ≡ Ok (ts, b2)
 unfolding terms_at
 terms_reads wires end room n b0 b1 b2 ts first fits second =
-    let count = tested_again (λ m. leb m room) (refusal Limit (end - length b0)) (or_short (number_of w32 b0) (refusal BadCount end)) n b1 first (le-leb n room fits) in
+    let count =
+    tested_again (λ m. leb m room) (refusal Limit (end - length b0))
+    (or_short (number_of w32 b0) (refusal BadCount end)) n b1 first (le-leb n room fits) in
     rw (count, second) refl
 
-pub terms_again : (wires end room : ℕ) (ts : List Term) (rest : List ℕ) → wires ≤ 2 ^ 32 → room < 2 ^ 32 → length ts ≤ room → All (IsTermOver wires) ts
+pub terms_again : (wires end room : ℕ) (ts : List Term) (rest : List ℕ) → wires ≤ 2 ^ 32
+    → room < 2 ^ 32 → length ts ≤ room → All (IsTermOver wires) ts
     → terms_at wires end room (form_bytes ts ++ rest) ≡ Ok (ts, rest)
 terms_again wires end room ts rest few small fits over =
     let body = flat_map term_bytes ts in
     ap (terms_at wires end room) (append_assoc (to_le_bytes w32 (length ts)) body rest)
-    ∙ terms_reads wires end room (length ts) (to_le_bytes w32 (length ts) ++ (body ++ rest)) (body ++ rest) rest ts
-    ((u32_again (refusal BadCount end)).again (length ts) (body ++ rest) (omega (arith, fits, small))) fits
-    (repeated_again (term_at wires end) term_bytes (IsTermOver wires) (term_again wires end few) ts rest (Each-from_all (IsTermOver wires) ts over))
+    ∙ terms_reads wires end room (length ts) (to_le_bytes w32 (length ts) ++ (body ++ rest))
+    (body ++ rest) rest ts
+    ((u32_again (refusal BadCount end)).again (length ts) (body ++ rest)
+    (omega (arith, fits, small))) fits
+    (repeated_again (term_at wires end) term_bytes (IsTermOver wires)
+    (term_again wires end few) ts rest (Each-from_all (IsTermOver wires) ts over))
 
 -- ---- constraints
 
@@ -82,43 +99,59 @@ record IsRead (wires : ℕ) (k : Constraint) : Type 0 where
   b : All (IsTermOver wires) k.b
   c : All (IsTermOver wires) k.c
 
-constraint_reads : (wires end room : ℕ) (k : Constraint) (b0 b1 b2 b3 : List ℕ) → terms_at wires end room b0 ≡ Ok (k.a, b1) → terms_at wires end (room - length k.a) b1 ≡ Ok (k.b, b2) → terms_at wires end (room - length k.a - length k.b) b2 ≡ Ok (k.c, b3)
+constraint_reads : (wires end room : ℕ) (k : Constraint) (b0 b1 b2 b3 : List ℕ)
+    → terms_at wires end room b0 ≡ Ok (k.a, b1) → terms_at wires end (room - length k.a) b1
+    ≡ Ok (k.b, b2) → terms_at wires end (room - length k.a - length k.b) b2 ≡ Ok (k.c, b3)
     → constraint_at wires end room b0 ≡ Ok (k, b3)
 unfolding constraint_at
 constraint_reads wires end room k b0 b1 b2 b3 first second third = rw (first, second, third) refl
 
-constraint_again : (wires end room : ℕ) (k : Constraint) (rest : List ℕ) → wires ≤ 2 ^ 32 → room < 2 ^ 32 → term_count k ≤ room → IsRead wires k
+constraint_again : (wires end room : ℕ) (k : Constraint) (rest : List ℕ) → wires ≤ 2 ^ 32
+    → room < 2 ^ 32 → term_count k ≤ room → IsRead wires k
     → constraint_at wires end room (constraint_bytes k ++ rest) ≡ Ok (k, rest)
 constraint_again wires end room k rest few small fits over =
     let fa = form_bytes k.a in
     let fb = form_bytes k.b in
     let fc = form_bytes k.c in
-    let regrouped : constraint_bytes k ++ rest ≡ fa ++ (fb ++ (fc ++ rest)) = append_assoc fa (fb ++ fc) rest ∙ ap (λ (l : List ℕ). fa ++ l) (append_assoc fb fc rest) in
+    let regrouped : constraint_bytes k ++ rest ≡ fa ++ (fb ++ (fc ++ rest)) =
+    append_assoc fa (fb ++ fc) rest ∙ ap (λ (l : List ℕ). fa ++ l) (append_assoc fb fc rest) in
     ap (constraint_at wires end room) regrouped
-    ∙ constraint_reads wires end room k (fa ++ (fb ++ (fc ++ rest))) (fb ++ (fc ++ rest)) (fc ++ rest) rest
+    ∙ constraint_reads wires end room k (fa ++ (fb ++ (fc ++ rest))) (fb ++ (fc ++ rest))
+    (fc ++ rest) rest
     (terms_again wires end room k.a (fb ++ (fc ++ rest)) few small (omega (arith, fits)) over.a)
-    (terms_again wires end (room - length k.a) k.b (fc ++ rest) few (omega (arith, small)) (omega (arith, fits)) over.b)
-    (terms_again wires end (room - length k.a - length k.b) k.c rest few (omega (arith, small)) (omega (arith, fits)) over.c)
+    (terms_again wires end (room - length k.a) k.b (fc ++ rest) few (omega (arith, small))
+    (omega (arith, fits)) over.b)
+    (terms_again wires end (room - length k.a - length k.b) k.c rest few (omega (arith, small))
+    (omega (arith, fits)) over.c)
 
-one_more : (wires end room n : ℕ) (k : Constraint) (ks : List Constraint) (b0 b1 b2 : List ℕ) → constraint_at wires end room b0 ≡ Ok (k, b1) → constraints_at wires end (room - length k.a - length k.b - length k.c) n b1 ≡ Ok (ks, b2)
+one_more : (wires end room n : ℕ) (k : Constraint) (ks : List Constraint) (b0 b1 b2 : List ℕ)
+    → constraint_at wires end room b0 ≡ Ok (k, b1)
+    → constraints_at wires end (room - length k.a - length k.b - length k.c) n b1 ≡ Ok (ks, b2)
     → constraints_at wires end room (suc n) b0 ≡ Ok (k ∷ ks, b2)
 unfolding constraints_at
 one_more wires end room n k ks b0 b1 b2 first others = rw (first, others) refl
 
-constraints_again : (wires end room : ℕ) (ks : List Constraint) (rest : List ℕ) → wires ≤ 2 ^ 32 → room < 2 ^ 32 → sum_by term_count ks ≤ room → All (IsRead wires) ks
-    → constraints_at wires end room (length ks) (flat_map constraint_bytes ks ++ rest) ≡ Ok (ks, rest)
+constraints_again : (wires end room : ℕ) (ks : List Constraint) (rest : List ℕ) → wires ≤ 2 ^ 32
+    → room < 2 ^ 32 → sum_by term_count ks ≤ room → All (IsRead wires) ks
+    → constraints_at wires end room (length ks) (flat_map constraint_bytes ks ++ rest)
+    ≡ Ok (ks, rest)
 unfolding constraints_at
 constraints_again wires end room [] rest few small fits over = refl
 constraints_again wires end room (k ∷ ks) rest few small fits over =
     let count = sum_by-cons term_count k ks in
     let after = flat_map constraint_bytes ks ++ rest in
-    let first = constraint_again wires end room k after few small (omega (arith, fits, count)) (All-head (IsRead wires) k ks over) in
+    let first = constraint_again wires end room k after few small (omega (arith, fits, count))
+    (All-head (IsRead wires) k ks over) in
     let left = room - length k.a - length k.b - length k.c in
-    let others = constraints_again wires end left ks rest few (omega (arith, small)) (omega (arith, fits, count)) (All-tail (IsRead wires) k ks over) in
-    ap (constraints_at wires end room (suc (length ks))) (append_assoc (constraint_bytes k) (flat_map constraint_bytes ks) rest)
+    let others =
+    constraints_again wires end left ks rest few (omega (arith, small))
+    (omega (arith, fits, count)) (All-tail (IsRead wires) k ks over) in
+    ap (constraints_at wires end room (suc (length ks)))
+    (append_assoc (constraint_bytes k) (flat_map constraint_bytes ks) rest)
     ∙ one_more wires end room (length ks) k ks (constraint_bytes k ++ after) after rest first others
 
-all_read : (wires : ℕ) (ks : List Constraint) → All (ConstraintBelow wires) ks → All HasForms ks → All (IsRead wires) ks
+all_read : (wires : ℕ) (ks : List Constraint) → All (ConstraintBelow wires) ks → All HasForms ks
+    → All (IsRead wires) ks
 all_read wires ks below forms = λ k d lt.
     let under = below k d lt in
     let has = forms k d lt in
@@ -130,48 +163,70 @@ all_read wires ks below forms = λ k d lt.
 
 meaning_again : (wires : ℕ) (k : Constraint) → HasForms k → IsRead wires k → meaning wires k ≡ k
 meaning_again wires k forms over =
-    rw (← form_of_form wires k.a forms.a.rises over.a, ← form_of_form wires k.b forms.b.rises over.b, ← form_of_form wires k.c forms.c.rises over.c) refl
+    rw (
+      ← form_of_form wires k.a forms.a.rises over.a,
+      ← form_of_form wires k.b forms.b.rises over.b,
+      ← form_of_form wires k.c forms.c.rises over.c,
+    ) refl
 
-meanings_again : (wires : ℕ) (ks : List Constraint) → All HasForms ks → All (IsRead wires) ks → map (meaning wires) ks ≡ ks
+meanings_again : (wires : ℕ) (ks : List Constraint) → All HasForms ks → All (IsRead wires) ks
+    → map (meaning wires) ks ≡ ks
 meanings_again wires [] forms over = refl
 meanings_again wires (k ∷ ks) forms over =
-    let first = meaning_again wires k (All-head HasForms k ks forms) (All-head (IsRead wires) k ks over) in
-    let others = meanings_again wires ks (All-tail HasForms k ks forms) (All-tail (IsRead wires) k ks over) in
+    let first =
+    meaning_again wires k (All-head HasForms k ks forms) (All-head (IsRead wires) k ks over) in
+    let others =
+    meanings_again wires ks (All-tail HasForms k ks forms)
+    (All-tail (IsRead wires) k ks over) in
     rw (first, others) refl
 
 -- ---- sections
 
-section_reads : (end kind size : ℕ) (body b0 b1 b2 b3 : List ℕ) → or_short (number_of w32 b0) (refusal Truncated end) ≡ Ok (kind, b1) → or_short (number_of w64 b1) (refusal Truncated end) ≡ Ok (size, b2) → front_of size b2 ≡ Some (body, b3)
+section_reads : (end kind size : ℕ) (body b0 b1 b2 b3 : List ℕ)
+    → or_short (number_of w32 b0) (refusal Truncated end) ≡ Ok (kind, b1)
+    → or_short (number_of w64 b1) (refusal Truncated end) ≡ Ok (size, b2)
+    → front_of size b2 ≡ Some (body, b3)
     → section_at end b0 ≡ Ok (record { kind = kind; end = end - length b3; body = body }, b3)
 unfolding section_at
 section_reads end kind size body b0 b1 b2 b3 first second third = rw (first, second, third) refl
 
-section_again : (end kind : ℕ) (body rest : List ℕ) → kind < 2 ^ 32 → length body < 2 ^ 64 → section_at end (section kind body ++ rest) ≡ Ok (record { kind = kind; end = end - length rest; body = body }, rest)
+section_again : (end kind : ℕ) (body rest : List ℕ) → kind < 2 ^ 32 → length body < 2 ^ 64
+    → section_at end (section kind body ++ rest)
+    ≡ Ok (record { kind = kind; end = end - length rest; body = body }, rest)
 section_again end kind body rest small fits =
     let size = length body in
     let k = to_le_bytes w32 kind in
     let n = to_le_bytes w64 size in
-    let regrouped : section kind body ++ rest ≡ k ++ (n ++ (body ++ rest)) = append_assoc (k ++ n) body rest ∙ append_assoc k n (body ++ rest) in
+    let regrouped : section kind body ++ rest ≡ k ++ (n ++ (body ++ rest)) =
+    append_assoc (k ++ n) body rest ∙ append_assoc k n (body ++ rest) in
     ap (section_at end) regrouped
-    ∙ section_reads end kind size body (k ++ (n ++ (body ++ rest))) (n ++ (body ++ rest)) (body ++ rest) rest
-    ((u32_again (refusal Truncated end)).again kind (n ++ (body ++ rest)) small) ((u64_again (refusal Truncated end)).again size (body ++ rest) fits) (front_again body rest size refl)
+    ∙ section_reads end kind size body (k ++ (n ++ (body ++ rest))) (n ++ (body ++ rest))
+    (body ++ rest) rest
+    ((u32_again (refusal Truncated end)).again kind (n ++ (body ++ rest)) small)
+    ((u64_again (refusal Truncated end)).again size (body ++ rest) fits)
+    (front_again body rest size refl)
 
 abbrev numbered : ℕ → ℕ → List ℕ → Section
 numbered kind end body = record { kind = kind; end = end; body = body }
 
-three_sections : (end e1 e2 e3 : ℕ) (y1 y2 y3 b0 b1 b2 : List ℕ) → section_at end b0 ≡ Ok (numbered 1 e1 y1, b1) → section_at end b1 ≡ Ok (numbered 2 e2 y2, b2) → section_at end b2 ≡ Ok (numbered 3 e3 y3, [])
-    → sections_after R1cs end 3 [] b0 ≡ Ok (numbered 1 e1 y1 ∷ numbered 2 e2 y2 ∷ numbered 3 e3 y3 ∷ [])
+three_sections : (end e1 e2 e3 : ℕ) (y1 y2 y3 b0 b1 b2 : List ℕ)
+    → section_at end b0 ≡ Ok (numbered 1 e1 y1, b1) → section_at end b1 ≡ Ok (numbered 2 e2 y2, b2)
+    → section_at end b2 ≡ Ok (numbered 3 e3 y3, [])
+    → sections_after R1cs end 3 [] b0
+    ≡ Ok (numbered 1 e1 y1 ∷ numbered 2 e2 y2 ∷ numbered 3 e3 y3 ∷ [])
 unfolding sections_after with_section
 three_sections end e1 e2 e3 y1 y2 y3 b0 b1 b2 first second third = rw (first, second, third) refl
 
-two_sections : (end e1 e2 : ℕ) (y1 y2 b0 b1 : List ℕ) → section_at end b0 ≡ Ok (numbered 1 e1 y1, b1) → section_at end b1 ≡ Ok (numbered 2 e2 y2, [])
+two_sections : (end e1 e2 : ℕ) (y1 y2 b0 b1 : List ℕ)
+    → section_at end b0 ≡ Ok (numbered 1 e1 y1, b1) → section_at end b1 ≡ Ok (numbered 2 e2 y2, [])
     → sections_after Wtns end 2 [] b0 ≡ Ok (numbered 1 e1 y1 ∷ numbered 2 e2 y2 ∷ [])
 unfolding sections_after with_section
 two_sections end e1 e2 y1 y2 b0 b1 first second = rw (first, second) refl
 
 -- ---- section 1
 
-field_reads : (size : ℕ) (s : Section) → 12 ≤ size → length s.body ≡ size → u32_at 0 s.body ≡ 8 → u64_at 4 s.body ≡ P → field_of size s ≡ Ok tt
+field_reads : (size : ℕ) (s : Section) → 12 ≤ size → length s.body ≡ size → u32_at 0 s.body ≡ 8
+    → u64_at 4 s.body ≡ P → field_of size s ≡ Ok tt
 unfolding field_of
 field_reads size s long len width prime =
     let four : leb 4 (length s.body) ≡ true = le-leb 4 (length s.body) (omega (arith, len, long)) in
@@ -180,22 +235,47 @@ field_reads size s long len width prime =
     let order : eqb (u64_at 4 s.body) P ≡ true = eq-eqb (u64_at 4 s.body) P prime in
     rw (four, eight, whole, order) refl
 
-sizes_read : (s : Section) (z : Sizes) → field_of 40 s ≡ Ok tt → u32_at 12 s.body ≡ z.wires → u32_at 16 s.body ≡ z.outputs → u32_at 20 s.body ≡ z.public_inputs → u32_at 24 s.body ≡ z.private_inputs → u64_at 28 s.body ≡ z.label_count → u32_at 36 s.body ≡ z.constraints
-    → z.wires ≤ most_wires → 1 + z.outputs + z.public_inputs + z.private_inputs ≤ z.wires → z.constraints ≤ most_constraints → sizes_of s ≡ Ok z
+sizes_read : (s : Section) (z : Sizes) → field_of 40 s ≡ Ok tt → u32_at 12 s.body ≡ z.wires
+    → u32_at 16 s.body ≡ z.outputs → u32_at 20 s.body ≡ z.public_inputs
+    → u32_at 24 s.body ≡ z.private_inputs → u64_at 28 s.body ≡ z.label_count
+    → u32_at 36 s.body ≡ z.constraints
+    → z.wires ≤ most_wires → 1 + z.outputs + z.public_inputs + z.private_inputs ≤ z.wires
+    → z.constraints ≤ most_constraints → sizes_of s ≡ Ok z
 unfolding sizes_of
 sizes_read s z field e12 e16 e20 e24 e28 e36 wires numbered constraints =
-    let few : leb (u32_at 12 s.body) most_wires ≡ true = le-leb (u32_at 12 s.body) most_wires (omega (arith, e12, wires)) in
-    let room : leb (1 + u32_at 16 s.body + u32_at 20 s.body + u32_at 24 s.body) (u32_at 12 s.body) ≡ true = le-leb (1 + u32_at 16 s.body + u32_at 20 s.body + u32_at 24 s.body) (u32_at 12 s.body) (omega (arith, e12, e16, e20, e24, numbered)) in
-    let allowed : leb (u32_at 36 s.body) most_constraints ≡ true = le-leb (u32_at 36 s.body) most_constraints (omega (arith, e36, constraints)) in
+    let few : leb (u32_at 12 s.body) most_wires ≡ true =
+    le-leb (u32_at 12 s.body) most_wires (omega (arith, e12, wires)) in
+    let room : leb (1 + u32_at 16 s.body + u32_at 20 s.body + u32_at 24 s.body) (u32_at 12 s.body)
+    ≡ true = le-leb (1 + u32_at 16 s.body + u32_at 20 s.body + u32_at 24 s.body)
+    (u32_at 12 s.body) (omega (arith, e12, e16, e20, e24, numbered)) in
+    let allowed : leb (u32_at 36 s.body) most_constraints ≡ true =
+    le-leb (u32_at 36 s.body) most_constraints (omega (arith, e36, constraints)) in
     rw (field, few, room, allowed, e12, e16, e20, e24, e28, e36) refl
 
 sizes_again : (f : File) (end : ℕ) → IsWhole f → InLimits f
-    → sizes_of (record { kind = 1; end = end; body = sizes_bytes f }) ≡ Ok (record { wires = f.wires; outputs = f.outputs; public_inputs = f.public_inputs; private_inputs = f.private_inputs; label_count = f.label_count; constraints = length f.constraints })
+    → sizes_of (record { kind = 1; end = end; body = sizes_bytes f })
+    ≡ Ok (record {
+      wires = f.wires;
+      outputs = f.outputs;
+      public_inputs = f.public_inputs;
+      private_inputs = f.private_inputs;
+      label_count = f.label_count;
+      constraints = length f.constraints;
+    })
 sizes_again f end whole limits =
     let numbered = whole.file.numbered in
     let few = limits.wires in
-    sizes_read (record { kind = 1; end = end; body = sizes_bytes f }) (record { wires = f.wires; outputs = f.outputs; public_inputs = f.public_inputs; private_inputs = f.private_inputs; label_count = f.label_count; constraints = length f.constraints })
-    (field_reads 40 (record { kind = 1; end = end; body = sizes_bytes f }) (omega arith) refl refl refl)
+    sizes_read (record { kind = 1; end = end; body = sizes_bytes f })
+    (record {
+      wires = f.wires;
+      outputs = f.outputs;
+      public_inputs = f.public_inputs;
+      private_inputs = f.private_inputs;
+      label_count = f.label_count;
+      constraints = length f.constraints;
+    })
+    (field_reads 40 (record { kind = 1; end = end; body = sizes_bytes f })
+    (omega arith) refl refl refl)
     (from_le_bytes-to_le_bytes_4 f.wires (omega (arith, few)))
     (from_le_bytes-to_le_bytes_4 f.outputs (omega (arith, few, numbered)))
     (from_le_bytes-to_le_bytes_4 f.public_inputs (omega (arith, few, numbered)))
@@ -206,37 +286,63 @@ sizes_again f end whole limits =
 
 -- ---- sections 2 and 3
 
-constraints_read : (z : Sizes) (s : Section) (written meant_so : List Constraint) → constraints_at z.wires s.end most_terms z.constraints s.body ≡ Ok (written, []) → map (meaning z.wires) written ≡ meant_so → constraints_of z s ≡ Ok meant_so
+constraints_read : (z : Sizes) (s : Section) (written meant_so : List Constraint)
+    → constraints_at z.wires s.end most_terms z.constraints s.body ≡ Ok (written, [])
+    → map (meaning z.wires) written ≡ meant_so → constraints_of z s ≡ Ok meant_so
 unfolding constraints_of
 constraints_read z s written meant_so read means = rw (read, means) refl
 
-labels_read : (wires : ℕ) (s : Section) (labels : List ℕ) → length s.body ≡ 8 * wires → repeated (label_at s.end) wires s.body ≡ Ok (labels, []) → labels_of wires (Some s) ≡ Ok labels
+labels_read : (wires : ℕ) (s : Section) (labels : List ℕ) → length s.body ≡ 8 * wires
+    → repeated (label_at s.end) wires s.body ≡ Ok (labels, [])
+    → labels_of wires (Some s) ≡ Ok labels
 unfolding labels_of
 labels_read wires s labels len read =
     let size : eqb (length s.body) (8 * wires) ≡ true = eq-eqb (length s.body) (8 * wires) len in
     rw (size, read) refl
 
-r1cs_reads : (bytes : List ℕ) (f : File) (e1 e2 e3 : ℕ) (y1 y2 y3 : List ℕ) → sections_of R1cs bytes ≡ Ok (numbered 1 e1 y1 ∷ numbered 2 e2 y2 ∷ numbered 3 e3 y3 ∷ [])
-    → sizes_of (numbered 1 e1 y1) ≡ Ok (record { wires = f.wires; outputs = f.outputs; public_inputs = f.public_inputs; private_inputs = f.private_inputs; label_count = f.label_count; constraints = length f.constraints })
-    → constraints_of (record { wires = f.wires; outputs = f.outputs; public_inputs = f.public_inputs; private_inputs = f.private_inputs; label_count = f.label_count; constraints = length f.constraints }) (numbered 2 e2 y2) ≡ Ok f.constraints
+r1cs_reads : (bytes : List ℕ) (f : File) (e1 e2 e3 : ℕ) (y1 y2 y3 : List ℕ)
+    → sections_of R1cs bytes ≡ Ok (numbered 1 e1 y1 ∷ numbered 2 e2 y2 ∷ numbered 3 e3 y3 ∷ [])
+    → sizes_of (numbered 1 e1 y1)
+    ≡ Ok (record {
+      wires = f.wires;
+      outputs = f.outputs;
+      public_inputs = f.public_inputs;
+      private_inputs = f.private_inputs;
+      label_count = f.label_count;
+      constraints = length f.constraints;
+    })
+    → constraints_of
+    (record {
+      wires = f.wires;
+      outputs = f.outputs;
+      public_inputs = f.public_inputs;
+      private_inputs = f.private_inputs;
+      label_count = f.label_count;
+      constraints = length f.constraints;
+    }) (numbered 2 e2 y2) ≡ Ok f.constraints
     → labels_of f.wires (Some (numbered 3 e3 y3)) ≡ Ok f.labels → r1cs_of bytes ≡ Ok f
 unfolding r1cs_of needed
-r1cs_reads bytes f e1 e2 e3 y1 y2 y3 sections sizes constraints labels = rw (sections, sizes, constraints, labels) refl
+r1cs_reads bytes f e1 e2 e3 y1 y2 y3 sections sizes constraints labels =
+    rw (sections, sizes, constraints, labels) refl
 
-sections_read : (format : Format) (bytes : List ℕ) (n : ℕ) (found : List Section) → section_count format bytes ≡ Ok n → sections_after format (length bytes) n [] (drop 12 bytes) ≡ Ok found → sections_of format bytes ≡ Ok found
+sections_read : (format : Format) (bytes : List ℕ) (n : ℕ) (found : List Section)
+    → section_count format bytes ≡ Ok n → sections_after format (length bytes) n [] (drop 12 bytes)
+    ≡ Ok found → sections_of format bytes ≡ Ok found
 unfolding sections_of
 sections_read format bytes n found count found_so = rw (count, found_so) refl
 
 r1cs_header : (rest : List ℕ) → section_count R1cs (header_bytes (codes "r1cs") 1 3 ++ rest) ≡ Ok 3
 unfolding section_count
 r1cs_header rest =
-    let long : leb 12 (length (header_bytes (codes "r1cs") 1 3 ++ rest)) ≡ true = le-leb 12 (length (header_bytes (codes "r1cs") 1 3 ++ rest)) (omega arith) in
+    let long : leb 12 (length (header_bytes (codes "r1cs") 1 3 ++ rest)) ≡ true =
+    le-leb 12 (length (header_bytes (codes "r1cs") 1 3 ++ rest)) (omega arith) in
     rw long refl
 
 wtns_header : (rest : List ℕ) → section_count Wtns (header_bytes (codes "wtns") 2 2 ++ rest) ≡ Ok 2
 unfolding section_count
 wtns_header rest =
-    let long : leb 12 (length (header_bytes (codes "wtns") 2 2 ++ rest)) ≡ true = le-leb 12 (length (header_bytes (codes "wtns") 2 2 ++ rest)) (omega arith) in
+    let long : leb 12 (length (header_bytes (codes "wtns") 2 2 ++ rest)) ≡ true =
+    le-leb 12 (length (header_bytes (codes "wtns") 2 2 ++ rest)) (omega arith) in
     rw long refl
 
 pub file_again : (f : File) → IsWhole f → InLimits f → r1cs_of (r1cs_bytes f) ≡ Ok f
@@ -254,41 +360,73 @@ file_again f whole limits =
     let s2 : Section = numbered 2 (end - length rest2) body2 in
     let s3 : Section = numbered 3 (end - 0) body3 in
     let few : f.wires ≤ 2 ^ 32 = omega (arith, limits.wires) in
-    let small2 : length body2 < 2 ^ 64 = omega (arith, constraints_len f.constraints, limits.constraints, limits.terms) in
-    let small3 : length body3 < 2 ^ 64 = omega (arith, words_len f.labels, whole.file.labelled, limits.wires) in
+    let small2 : length body2 < 2 ^ 64 =
+    omega (arith, constraints_len f.constraints, limits.constraints, limits.terms) in
+    let small3 : length body3 < 2 ^ 64 =
+    omega (arith, words_len f.labels, whole.file.labelled, limits.wires) in
     let first = section_again end 1 body1 rest1 (omega arith) (omega arith) in
     let second = section_again end 2 body2 rest2 (omega arith) small2 in
-    let third = ap (section_at end) (sym (append-nil rest2)) ∙ section_again end 3 body3 [] (omega arith) small3 in
-    let found = sections_read R1cs bytes 3 (s1 ∷ s2 ∷ s3 ∷ []) (r1cs_header all) (three_sections end (end - length rest1) (end - length rest2) (end - 0) body1 body2 body3 all rest1 rest2 first second third) in
+    let third = ap (section_at end) (sym (append-nil rest2))
+    ∙ section_again end 3 body3 [] (omega arith) small3 in
+    let found =
+    sections_read R1cs bytes 3 (s1 ∷ s2 ∷ s3 ∷ []) (r1cs_header all)
+    (three_sections end (end - length rest1) (end - length rest2)
+    (end - 0) body1 body2 body3 all rest1 rest2 first second third) in
     let over = all_read f.wires f.constraints whole.file.wired whole.forms in
-    let z : Sizes = record { wires = f.wires; outputs = f.outputs; public_inputs = f.public_inputs; private_inputs = f.private_inputs; label_count = f.label_count; constraints = length f.constraints } in
-    let written = ap (constraints_at f.wires s2.end most_terms (length f.constraints)) (sym (append-nil body2)) ∙ constraints_again f.wires s2.end most_terms f.constraints [] few (omega arith) limits.terms over in
-    let constraints = constraints_read z s2 f.constraints f.constraints written (meanings_again f.wires f.constraints whole.forms over) in
-    let words = ap (repeated (label_at s3.end) f.wires) (sym (append-nil body3)) ∙ ap (λ n. repeated (label_at s3.end) n (body3 ++ [])) (sym whole.file.labelled)
-    ∙ repeated_again (label_at s3.end) (to_le_bytes w64) (λ n. n < 2 ^ 64) (u64_again (refusal BadCount s3.end)) f.labels [] (Each-from_all (λ n. n < 2 ^ 64) f.labels whole.labels) in
-    let labels = labels_read f.wires s3 f.labels (omega (arith, words_len f.labels, whole.file.labelled)) words in
-    r1cs_reads bytes f (end - length rest1) (end - length rest2) (end - 0) body1 body2 body3 found (sizes_again f s1.end whole limits) constraints labels
+    let z : Sizes =
+    record {
+      wires = f.wires;
+      outputs = f.outputs;
+      public_inputs = f.public_inputs;
+      private_inputs = f.private_inputs;
+      label_count = f.label_count;
+      constraints = length f.constraints;
+    } in
+    let written =
+    ap (constraints_at f.wires s2.end most_terms (length f.constraints))
+    (sym (append-nil body2))
+    ∙ constraints_again f.wires s2.end most_terms f.constraints [] few
+    (omega arith) limits.terms over in
+    let constraints =
+    constraints_read z s2 f.constraints f.constraints written
+    (meanings_again f.wires f.constraints whole.forms over) in
+    let words = ap (repeated (label_at s3.end) f.wires) (sym (append-nil body3))
+    ∙ ap (λ n. repeated (label_at s3.end) n (body3 ++ [])) (sym whole.file.labelled)
+    ∙ repeated_again (label_at s3.end) (to_le_bytes w64) (λ n. n < 2 ^ 64)
+    (u64_again (refusal BadCount s3.end)) f.labels []
+    (Each-from_all (λ n. n < 2 ^ 64) f.labels whole.labels) in
+    let labels =
+    labels_read f.wires s3 f.labels (omega (arith, words_len f.labels, whole.file.labelled))
+    words in
+    r1cs_reads bytes f (end - length rest1) (end - length rest2) (end - 0) body1 body2 body3 found
+    (sizes_again f s1.end whole limits) constraints labels
 
 -- ---- values
 
-count_read : (s : Section) (n : ℕ) → field_of 16 s ≡ Ok tt → u32_at 12 s.body ≡ n → n ≤ most_wires → value_count s ≡ Ok n
+count_read : (s : Section) (n : ℕ) → field_of 16 s ≡ Ok tt → u32_at 12 s.body ≡ n → n ≤ most_wires
+    → value_count s ≡ Ok n
 unfolding value_count
 count_read s n field e few =
-    let fits : leb (u32_at 12 s.body) most_wires ≡ true = le-leb (u32_at 12 s.body) most_wires (omega (arith, e, few)) in
+    let fits : leb (u32_at 12 s.body) most_wires ≡ true =
+    le-leb (u32_at 12 s.body) most_wires (omega (arith, e, few)) in
     rw (field, fits, e) refl
 
-values_read : (n : ℕ) (s : Section) (values : List ℕ) → length s.body ≡ 8 * n → repeated (value_at s.end) n s.body ≡ Ok (values, []) → values_of n s ≡ Ok values
+values_read : (n : ℕ) (s : Section) (values : List ℕ) → length s.body ≡ 8 * n
+    → repeated (value_at s.end) n s.body ≡ Ok (values, []) → values_of n s ≡ Ok values
 unfolding values_of
 values_read n s values len read =
     let size : eqb (length s.body) (8 * n) ≡ true = eq-eqb (length s.body) (8 * n) len in
     rw (size, read) refl
 
-wtns_reads : (bytes : List ℕ) (n : ℕ) (values : List ℕ) (e1 e2 : ℕ) (y1 y2 : List ℕ) → sections_of Wtns bytes ≡ Ok (numbered 1 e1 y1 ∷ numbered 2 e2 y2 ∷ [])
-    → value_count (numbered 1 e1 y1) ≡ Ok n → values_of n (numbered 2 e2 y2) ≡ Ok values → wtns_of bytes ≡ Ok values
+wtns_reads : (bytes : List ℕ) (n : ℕ) (values : List ℕ) (e1 e2 : ℕ) (y1 y2 : List ℕ)
+    → sections_of Wtns bytes ≡ Ok (numbered 1 e1 y1 ∷ numbered 2 e2 y2 ∷ [])
+    → value_count (numbered 1 e1 y1) ≡ Ok n → values_of n (numbered 2 e2 y2) ≡ Ok values
+    → wtns_of bytes ≡ Ok values
 unfolding wtns_of needed
 wtns_reads bytes n values e1 e2 y1 y2 sections count read = rw (sections, count, read) refl
 
-pub values_again : (values : List ℕ) → length values ≤ most_wires → All (λ v. v < P) values → wtns_of (wtns_bytes values) ≡ Ok values
+pub values_again : (values : List ℕ) → length values ≤ most_wires → All (λ v. v < P) values
+    → wtns_of (wtns_bytes values) ≡ Ok values
 unfolding wtns_bytes
 values_again values few below =
     let n = length values in
@@ -302,8 +440,16 @@ values_again values few below =
     let s2 : Section = numbered 2 (end - 0) body2 in
     let small2 : length body2 < 2 ^ 64 = omega (arith, words_len values, few) in
     let first = section_again end 1 body1 rest1 (omega arith) (omega arith) in
-    let second = ap (section_at end) (sym (append-nil rest1)) ∙ section_again end 2 body2 [] (omega arith) small2 in
-    let found = sections_read Wtns bytes 2 (s1 ∷ s2 ∷ []) (wtns_header all) (two_sections end (end - length rest1) (end - 0) body1 body2 all rest1 first second) in
-    let count = count_read s1 n (field_reads 16 s1 (omega arith) refl refl refl) (from_le_bytes-to_le_bytes_4 n (omega (arith, few))) few in
-    let words = ap (repeated (value_at s2.end) n) (sym (append-nil body2)) ∙ repeated_again (value_at s2.end) (to_le_bytes w64) (λ v. v < P) (value_again s2.end) values [] (Each-from_all (λ v. v < P) values below) in
-    wtns_reads bytes n values (end - length rest1) (end - 0) body1 body2 found count (values_read n s2 values (words_len values) words)
+    let second = ap (section_at end) (sym (append-nil rest1))
+    ∙ section_again end 2 body2 [] (omega arith) small2 in
+    let found =
+    sections_read Wtns bytes 2 (s1 ∷ s2 ∷ []) (wtns_header all)
+    (two_sections end (end - length rest1) (end - 0) body1 body2 all rest1 first second) in
+    let count =
+    count_read s1 n (field_reads 16 s1 (omega arith) refl refl refl)
+    (from_le_bytes-to_le_bytes_4 n (omega (arith, few))) few in
+    let words = ap (repeated (value_at s2.end) n) (sym (append-nil body2))
+    ∙ repeated_again (value_at s2.end) (to_le_bytes w64) (λ v. v < P)
+    (value_again s2.end) values [] (Each-from_all (λ v. v < P) values below) in
+    wtns_reads bytes n values (end - length rest1) (end - 0) body1 body2 found count
+    (values_read n s2 values (words_len values) words)

@@ -8,28 +8,39 @@ use Rattle.iden_files.specs.declared.sections.Format.{Format}
 use Rattle.iden_files.specs.Refusal.{Refusal, refusal, refused}
 use Rattle.iden_files.specs.Sections.{Section, section_at, with_section, sections_after}
 
-module _ (format : Format) (end count i : ℕ) (before : List Section) (bytes : List ℕ) (total : Result (List Section) Refusal) (so_far : sections_after format end (count - i) before bytes ≡ total) where
-  pub goes_on : (s : Section) (rest : List ℕ) (after : List Section) → i < count → section_at end bytes ≡ Ok (s, rest) → with_section format before s (end - length bytes) ≡ Ok after
+module _ (format : Format) (end count i : ℕ) (before : List Section) (bytes : List ℕ)
+    (total : Result (List Section) Refusal)
+    (so_far : sections_after format end (count - i) before bytes ≡ total) where
+  pub goes_on : (s : Section) (rest : List ℕ) (after : List Section) → i < count
+      → section_at end bytes ≡ Ok (s, rest) → with_section format before s (end - length bytes)
+      ≡ Ok after
       → sections_after format end (count - (i + 1)) after rest ≡ total
   unfolding sections_after
   goes_on s rest after lt at kept =
       let k : count - i ≡ suc (count - (i + 1)) = omega arith in
-      let one : sections_after format end (count - i) before bytes ≡ sections_after format end (count - (i + 1)) after rest = rw (k, at, kept) refl in
+      let one : sections_after format end (count - i) before bytes
+      ≡ sections_after format end (count - (i + 1)) after rest = rw (k, at, kept) refl in
       sym one ∙ so_far
 
-  pub no_section : (fault : FileFault) → i < count → Fails (refused fault) (section_at end bytes) → Fails (refused fault) total
+  pub no_section : (fault : FileFault) → i < count → Fails (refused fault) (section_at end bytes)
+      → Fails (refused fault) total
   unfolding sections_after
   no_section (faults.At cause offset) lt at =
       let k : count - i ≡ suc (count - (i + 1)) = omega arith in
-      let one : sections_after format end (count - i) before bytes ≡ Err (refusal cause offset) = rw (k, at) refl in
+      let one : sections_after format end (count - i) before bytes ≡ Err (refusal cause offset) =
+      rw (k, at) refl in
       sym so_far ∙ one
   no_section faults.OutOfMemory lt at = tt
 
-  pub not_kept : (s : Section) (rest : List ℕ) (fault : FileFault) → i < count → section_at end bytes ≡ Ok (s, rest) → Fails (refused fault) (with_section format before s (end - length bytes)) → Fails (refused fault) total
+  pub not_kept : (s : Section) (rest : List ℕ) (fault : FileFault) → i < count
+      → section_at end bytes ≡ Ok (s, rest)
+      → Fails (refused fault) (with_section format before s (end - length bytes))
+      → Fails (refused fault) total
   unfolding sections_after
   not_kept s rest (faults.At cause offset) lt at kept =
       let k : count - i ≡ suc (count - (i + 1)) = omega arith in
-      let one : sections_after format end (count - i) before bytes ≡ Err (refusal cause offset) = rw (k, at, kept) refl in
+      let one : sections_after format end (count - i) before bytes ≡ Err (refusal cause offset) =
+      rw (k, at, kept) refl in
       sym so_far ∙ one
   not_kept s rest faults.OutOfMemory lt at kept = tt
 
@@ -37,12 +48,15 @@ module _ (format : Format) (end count i : ℕ) (before : List Section) (bytes : 
   unfolding sections_after
   is_done le empty =
       let k : count - i ≡ 0 = omega arith in
-      let one : sections_after format end (count - i) before bytes ≡ Ok before = rw (k, empty) refl in
+      let one : sections_after format end (count - i) before bytes ≡ Ok before =
+      rw (k, empty) refl in
       sym so_far ∙ one
 
-  pub more_bytes : count ≤ i → eqb (length bytes) 0 ≡ false → total ≡ Err (refusal BadCount (end - length bytes))
+  pub more_bytes : count ≤ i → eqb (length bytes) 0 ≡ false
+      → total ≡ Err (refusal BadCount (end - length bytes))
   unfolding sections_after
   more_bytes le left =
       let k : count - i ≡ 0 = omega arith in
-      let one : sections_after format end (count - i) before bytes ≡ Err (refusal BadCount (end - length bytes)) = rw (k, left) refl in
+      let one : sections_after format end (count - i) before bytes
+      ≡ Err (refusal BadCount (end - length bytes)) = rw (k, left) refl in
       sym so_far ∙ one

@@ -32,21 +32,31 @@ sizes_of s = do
   let place = s.end - length s.body
   field ← field_of 40 s
   wires ← required (nat_le (u32_at 12 body) most_wires) (refusal Limit (place + 12))
-  inputs ← required (nat_le (1 + u32_at 16 body + u32_at 20 body + u32_at 24 body) (u32_at 12 body)) (refusal BadCount (place + 12))
+  inputs ← required (nat_le (1 + u32_at 16 body + u32_at 20 body + u32_at 24 body) (u32_at 12 body))
+      (refusal BadCount (place + 12))
   constraints ← required (nat_le (u32_at 36 body) most_constraints) (refusal Limit (place + 36))
-  Ok (record { wires = u32_at 12 body; outputs = u32_at 16 body; public_inputs = u32_at 20 body; private_inputs = u32_at 24 body; label_count = u64_at 28 body; constraints = u32_at 36 body })
+  Ok (record {
+    wires = u32_at 12 body;
+    outputs = u32_at 16 body;
+    public_inputs = u32_at 20 body;
+    private_inputs = u32_at 24 body;
+    label_count = u64_at 28 body;
+    constraints = u32_at 36 body;
+  })
 
 -- a term as it is written: a wire and a value
 unfoldable pub term_at : ℕ → ℕ → List ℕ → Result (Term × List ℕ) Refusal
 term_at wires end bytes = do
-  wire ← tested (λ n. nat_lt n wires) (refusal WireOutOfRange (end - length bytes)) (or_short (number_of w32 bytes) (refusal BadCount end))
+  wire ← tested (λ n. nat_lt n wires) (refusal WireOutOfRange (end - length bytes))
+      (or_short (number_of w32 bytes) (refusal BadCount end))
   value ← value_at end wire.1
   Ok (record { signal = wire.0; coef = value.0 }, value.1)
 
 -- a count, and so many terms, of which there is room for this many
 unfoldable pub terms_at : ℕ → ℕ → ℕ → List ℕ → Result (List Term × List ℕ) Refusal
 terms_at wires end room bytes = do
-  count ← tested (λ n. nat_le n room) (refusal Limit (end - length bytes)) (or_short (number_of w32 bytes) (refusal BadCount end))
+  count ← tested (λ n. nat_le n room) (refusal Limit (end - length bytes))
+      (or_short (number_of w32 bytes) (refusal BadCount end))
   repeated (term_at wires end) count.0 count.1
 
 -- a constraint as it is written
@@ -61,11 +71,13 @@ unfoldable pub constraints_at : ℕ → ℕ → ℕ → ℕ → List ℕ → Res
 constraints_at wires end room zero bytes = Ok ([], bytes)
 constraints_at wires end room (suc n) bytes = do
   first ← constraint_at wires end room bytes
-  others ← constraints_at wires end (room - length first.0.a - length first.0.b - length first.0.c) n first.1
+  others ← constraints_at wires end (room - length first.0.a - length first.0.b - length first.0.c)
+      n first.1
   Ok (first.0 ∷ others.0, others.1)
 
 -- what they mean
-abbrev pub meant : {R : Type 0} → ℕ → Result (List Constraint × List ℕ) R → Result (List Constraint × List ℕ) R
+abbrev pub meant : {R : Type 0} → ℕ → Result (List Constraint × List ℕ) R
+    → Result (List Constraint × List ℕ) R
 meant wires reading = do
   x ← reading
   Ok (map (meaning wires) x.0, x.1)
@@ -97,4 +109,12 @@ r1cs_of bytes = do
   sizes ← sizes_of first
   constraints ← constraints_of sizes second
   labels ← labels_of sizes.wires (section_of 3 sections)
-  Ok (record { wires = sizes.wires; outputs = sizes.outputs; public_inputs = sizes.public_inputs; private_inputs = sizes.private_inputs; label_count = sizes.label_count; labels = labels; constraints = constraints })
+  Ok (record {
+    wires = sizes.wires;
+    outputs = sizes.outputs;
+    public_inputs = sizes.public_inputs;
+    private_inputs = sizes.private_inputs;
+    label_count = sizes.label_count;
+    labels = labels;
+    constraints = constraints;
+  })

@@ -65,11 +65,13 @@ section_at end bytes = do
 unfoldable pub with_section : Format → List Section → Section → ℕ → Result (List Section) Refusal
 with_section format sections s place = do
   plain ← required (not (is_gates format s.kind)) (refusal CustomGates place)
-  once ← required (not (is_read format s.kind && is_some (section_of s.kind sections))) (refusal SectionTwice place)
+  once ← required (not (is_read format s.kind && is_some (section_of s.kind sections)))
+      (refusal SectionTwice place)
   Ok (if is_read format s.kind then sections ++ s ∷ [] else sections)
 
 -- check 2: the sections that are read, those before these bytes first
-unfoldable pub sections_after : Format → ℕ → ℕ → List Section → List ℕ → Result (List Section) Refusal
+unfoldable pub sections_after : Format → ℕ → ℕ → List Section → List ℕ
+    → Result (List Section) Refusal
 sections_after format end zero before bytes = do
   whole ← required (length bytes == 0) (refusal BadCount (end - length bytes))
   Ok before

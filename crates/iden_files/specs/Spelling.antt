@@ -34,14 +34,24 @@ field_bytes = to_le_bytes w32 8 ++ to_le_bytes w64 P
 
 abbrev pub sizes_bytes : File → List ℕ
 sizes_bytes f =
-    field_bytes ++ (to_le_bytes w32 f.wires ++ (to_le_bytes w32 f.outputs ++ (to_le_bytes w32 f.public_inputs ++ (to_le_bytes w32 f.private_inputs ++ (to_le_bytes w64 f.label_count ++ to_le_bytes w32 (length f.constraints))))))
+    field_bytes
+    ++ (to_le_bytes w32 f.wires
+    ++ (to_le_bytes w32 f.outputs
+    ++ (to_le_bytes w32 f.public_inputs
+    ++ (to_le_bytes w32 f.private_inputs
+    ++ (to_le_bytes w64 f.label_count ++ to_le_bytes w32 (length f.constraints))))))
 
 -- sections 1, 2 and 3
 unfoldable pub r1cs_bytes : File → List ℕ
 r1cs_bytes f =
-    header_bytes (codes "r1cs") 1 3 ++ (section 1 (sizes_bytes f) ++ (section 2 (flat_map constraint_bytes f.constraints) ++ section 3 (flat_map (to_le_bytes w64) f.labels)))
+    header_bytes (codes "r1cs") 1 3
+    ++ (section 1 (sizes_bytes f)
+    ++ (section 2 (flat_map constraint_bytes f.constraints)
+    ++ section 3 (flat_map (to_le_bytes w64) f.labels)))
 
 -- sections 1 and 2
 unfoldable pub wtns_bytes : List ℕ → List ℕ
 wtns_bytes values =
-    header_bytes (codes "wtns") 2 2 ++ (section 1 (field_bytes ++ to_le_bytes w32 (length values)) ++ section 2 (flat_map (to_le_bytes w64) values))
+    header_bytes (codes "wtns") 2 2
+    ++ (section 1 (field_bytes ++ to_le_bytes w32 (length values))
+    ++ section 2 (flat_map (to_le_bytes w64) values))

@@ -1,5 +1,5 @@
-//! Readers and writers of iden3's `.r1cs` files, version 1, and `.wtns` files, version 2, with values
-//! of 8 bytes.
+//! Readers and writers of iden3's `.r1cs` files, version 1, and `.wtns` files, version 2, with
+//! values of 8 bytes.
 #![tactic(auto)]
 
 mod constraints;

@@ -2,8 +2,9 @@ use gold_field::Constraint;
 use items::Items;
 use std::marker::Model;
 
-/// What an `.r1cs` file means. Wire 0 stands for the number 1; then come the outputs, the public inputs,
-/// the private inputs and all others. Each wire has a label, and each signal of a constraint is a wire.
+/// What an `.r1cs` file means. Wire 0 stands for the number 1; then come the outputs, the public
+/// inputs, the private inputs and all others. Each wire has a label, and each signal of a
+/// constraint is a wire.
 #[derive(Debug, Drop)]
 pub struct R1cs {
     pub wires: u32,
@@ -21,9 +22,28 @@ impl Model for R1cs {
 
     ghost Value = { File };
 
-    ghost view = { λ r. record { wires = r.wires; outputs = r.outputs; public_inputs = r.public_inputs; private_inputs = r.private_inputs; label_count = r.label_count; labels = r.labels; constraints = r.constraints } };
+    ghost view = { λ r. record {
+      wires = r.wires;
+      outputs = r.outputs;
+      public_inputs =
+          r.public_inputs;
+      private_inputs = r.private_inputs;
+      label_count = r.label_count;
+      labels =
+          r.labels;
+      constraints = r.constraints;
+    } };
 
-    ghost invariant = { λ r. IsFile (record { wires = r.wires; outputs = r.outputs; public_inputs = r.public_inputs; private_inputs = r.private_inputs; label_count = r.label_count; labels = r.labels; constraints = r.constraints }) };
+    ghost invariant = { λ r. IsFile
+        (record {
+          wires = r.wires;
+          outputs = r.outputs;
+          public_inputs = r.public_inputs;
+          private_inputs = r.private_inputs;
+          label_count = r.label_count;
+          labels = r.labels;
+          constraints = r.constraints;
+        }) };
 }
 
 impl R1cs {

@@ -17,15 +17,19 @@ use Rattle.lig_layout.specs.declared.side.Side.TheVariants.{A, B, C}
 use Rattle.lig_layout.specs.Sides.{form_of}
 use Rattle.lig_layout.specs.Layout.{vectors_of}
 
-pub wired_over : (f : File) (n : ℕ) (ks : List Constraint) → IsFile f → n ≡ f.wires → ks ≡ f.constraints → All (ConstraintBelow n) ks
+pub wired_over : (f : File) (n : ℕ) (ks : List Constraint) → IsFile f → n ≡ f.wires
+    → ks ≡ f.constraints → All (ConstraintBelow n) ks
 wired_over f n ks file e k = rw (e, k) file.wired
 
 -- one of the constraints
-pub wired_at : (n : ℕ) (ks : List Constraint) (i : ℕ) (x : Constraint) → All (ConstraintBelow n) ks → i < length ks → x ≡ slice_index_or ks i x → ConstraintBelow n x
-wired_at n ks i x wired within is = let Below : Constraint → Type 0 = λ k. ConstraintBelow n k in subst Below (sym is) (wired i x within)
+pub wired_at : (n : ℕ) (ks : List Constraint) (i : ℕ) (x : Constraint) → All (ConstraintBelow n) ks
+    → i < length ks → x ≡ slice_index_or ks i x → ConstraintBelow n x
+wired_at n ks i x wired within is = let Below : Constraint → Type 0 = λ k. ConstraintBelow n k
+    in subst Below (sym is) (wired i x within)
 
 -- one of its sides
-pub side_below : (n : ℕ) (side : Side) (k : Constraint) → ConstraintBelow n k → SignalsBelow n (form_of side k)
+pub side_below : (n : ℕ) (side : Side) (k : Constraint) → ConstraintBelow n k
+    → SignalsBelow n (form_of side k)
 side_below n A k below = below.a
 side_below n B k below = below.b
 side_below n C k below = below.c
@@ -34,7 +38,8 @@ widened : (n m : ℕ) (form : List Term) → n ≤ m → SignalsBelow n form →
 widened n m form h below = λ k d within. omega (arith, below k d within)
 
 -- below n, and so below more
-pub wired_below : (n m : ℕ) (ks : List Constraint) → n ≤ m → All (ConstraintBelow n) ks → All (ConstraintBelow m) ks
+pub wired_below : (n m : ℕ) (ks : List Constraint) → n ≤ m → All (ConstraintBelow n) ks
+    → All (ConstraintBelow m) ks
 wired_below n m ks h wired = λ k d within.
     let below = wired k d within in
     record {
@@ -43,7 +48,8 @@ wired_below n m ks h wired = λ k d within.
       c = widened n m (slice_index_or ks k d).c h below.c;
     }
 
-pub vectors_made : (f : File) (ks : List Constraint) (w u x y z : List ℕ) → ks ≡ f.constraints → u ≡ w
+pub vectors_made : (f : File) (ks : List Constraint) (w u x y z : List ℕ) → ks ≡ f.constraints
+    → u ≡ w
     → x ≡ map (λ k. value_at (slice_index w) (form_of A k)) ks
     → y ≡ map (λ k. value_at (slice_index w) (form_of B k)) ks
     → z ≡ map (λ k. value_at (slice_index w) (form_of C k)) ks
@@ -51,7 +57,8 @@ pub vectors_made : (f : File) (ks : List Constraint) (w u x y z : List ℕ) → 
 vectors_made f ks w u x y z e eu ex ey ez = rw (eu, ex, ey, ez, e) refl
 
 -- a side's terms lie in a row that is as long as another
-pub form_below : (n m : ℕ) (side : Side) (k : Constraint) (form : List Term) → n ≡ m → form ≡ form_of side k → ConstraintBelow n k → SignalsBelow m form
+pub form_below : (n m : ℕ) (side : Side) (k : Constraint) (form : List Term) → n ≡ m
+    → form ≡ form_of side k → ConstraintBelow n k → SignalsBelow m form
 form_below n m side k form e is below = rw (is, ← e) (side_below n side k below)
 
 pub ceil_room : (x y : ℕ) → 0 < y → x ≤ div_ceil x y * y

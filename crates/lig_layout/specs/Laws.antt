@@ -19,11 +19,13 @@ product (x ∷ xs) (y ∷ ys) = x * y + product xs ys
 abbrev pub combined_values : List ℕ → List ℕ → List (List Term) → ℕ
 combined_values values [] forms = 0
 combined_values values (n ∷ r) [] = 0
-combined_values values (n ∷ r) (form ∷ forms) = n * value_at (slice_index values) form + combined_values values r forms
+combined_values values (n ∷ r) (form ∷ forms) =
+    n * value_at (slice_index values) form + combined_values values r forms
 
 -- the row vector times the system, times values, is the row vector times the left sides' values
 abbrev pub CombiningIsLinear : Type 0
-CombiningIsLinear = (values r : List ℕ) (forms : List (List Term)) → AllByRecursion (SignalsBelow (length values)) forms
+CombiningIsLinear = (values r : List ℕ) (forms : List (List Term))
+    → AllByRecursion (SignalsBelow (length values)) forms
     → product (combined (length values) r forms) values % P ≡ combined_values values r forms % P
 
 -- the public values among those of the wires
@@ -32,5 +34,7 @@ publics_of f w = take (f.outputs + f.public_inputs) (drop 1 w)
 
 -- for values of the wires with 1 at wire 0, the vectors made of them solve the system
 abbrev pub VectorsSolve : Type 0
-VectorsSolve = (f : File) (w : List ℕ) → IsFile f → InLimits f → length w ≡ f.wires → ((i : ℕ) → slice_index w i < P) → slice_index w 0 ≡ 1
-    → map (value_at (slice_index (message (params_of f) (vectors_of f w)))) (left_sides (params_of f) f) ≡ right_sides f (publics_of f w)
+VectorsSolve = (f : File) (w : List ℕ) → IsFile f → InLimits f → length w ≡ f.wires
+    → ((i : ℕ) → slice_index w i < P) → slice_index w 0 ≡ 1
+    → map (value_at (slice_index (message (params_of f) (vectors_of f w))))
+    (left_sides (params_of f) f) ≡ right_sides f (publics_of f w)

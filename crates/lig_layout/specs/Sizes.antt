@@ -11,7 +11,13 @@ params_at e wires constraints =
     let l = 2 ^ e in
     let wire_rows = div_ceil wires l in
     let constraint_rows = div_ceil constraints l in
-    record { l = l; depth = e + 3; wire_rows = wire_rows; constraint_rows = constraint_rows; rows = wire_rows + 3 * constraint_rows }
+    record {
+      l = l;
+      depth = e + 3;
+      wire_rows = wire_rows;
+      constraint_rows = constraint_rows;
+      rows = wire_rows + 3 * constraint_rows;
+    }
 
 -- the sizes for a file
 abbrev pub params_of : File → Params

@@ -13,7 +13,8 @@ use Rattle.lig_layout.specs.Layout.{x_start, y_start, z_start}
 -- each form less the value at a place of its own, from this one on
 abbrev pub differences : ℕ → List (List Term) → List (List Term)
 differences place [] = []
-differences place (form ∷ forms) = (form ++ record { signal = place; coef = P - 1 } ∷ []) ∷ differences (place + 1) forms
+differences place (form ∷ forms) =
+    (form ++ record { signal = place; coef = P - 1 } ∷ []) ∷ differences (place + 1) forms
 
 -- each of n wires alone, from this one on
 abbrev pub wire_forms : ℕ → ℕ → List (List Term)
@@ -24,7 +25,8 @@ wire_forms wire (suc n) = (record { signal = wire; coef = 1 } ∷ []) ∷ wire_f
 abbrev pub known_wires : File → ℕ
 known_wires f = 1 + (f.outputs + f.public_inputs)
 
--- the left sides: A w - x, B w - y and C w - z for each constraint, and then wire 0 and the public wires
+-- the left sides: A w - x, B w - y and C w - z for each constraint, and then wire 0 and the public
+-- wires
 abbrev pub left_sides : Params → File → List (List Term)
 left_sides p f =
     differences (x_start p) (forms A f.constraints)

@@ -2,8 +2,8 @@
 
 ghost use Rattle.lig_layout.specs.Laws.{CombiningIsLinear, VectorsSolve};
 
-/// The row vector times the system, times the values of a matrix, is the row vector times the values
-/// of the left sides.
+/// The row vector times the system, times the values of a matrix, is the row vector times the
+/// values of the left sides.
 pub fn combining_is_linear()
     ensures { CombiningIsLinear }
 {}

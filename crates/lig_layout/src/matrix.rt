@@ -27,7 +27,8 @@ pub fn side_values(
     w: &[Gold],
 ) -> Result<Vec<Gold>, AllocError>
     requires { All (ConstraintBelow (length w.now)) constraints.now }
-    ensures { IfOk result (λ v. v.items ≡ map (λ k. value_at (slice_index w.now) (form_of side k)) constraints.now) }
+    ensures { IfOk result
+        (λ v. v.items ≡ map (λ k. value_at (slice_index w.now) (form_of side k)) constraints.now) }
 {
     let mut values = Vec::with_capacity(alloc, constraints.len())?;
     for constraint in constraints {

@@ -42,7 +42,8 @@ fn add_system(row: &mut [Gold], file: &R1cs, params: &Params, r: &[Gold])
     requires numbers { length r.now ≡ equation_count file.now }
     requires size { length row.old ≡ params.now.rows * params.now.l }
     requires reduced { IsReduced row.old }
-    ensures { Adds (λ place. combined_at place r.now (left_sides params.now file.now)) row.old row.new }
+    ensures { Adds (λ place. combined_at place r.now (left_sides params.now file.now)) row.old
+        row.new }
 {
     let constraints = file.constraints();
     let (x, others) = r.split_at(constraints.len());
@@ -56,15 +57,17 @@ fn add_system(row: &mut [Gold], file: &R1cs, params: &Params, r: &[Gold])
     add_wires(row, wires);
 }
 
-// Adds the equations of one side, each times its number of `r`: the side's form less the value at its
-// place.
+// Adds the equations of one side, each times its number of `r`: the side's form less the value at
+// its place.
 fn add_side(row: &mut [Gold], side: Side, constraints: &[Constraint], start: usize, r: &[Gold])
     requires numbers { length r.now ≡ length constraints.now }
     requires below { All (ConstraintBelow (length row.old)) constraints.now }
     requires within { start + length constraints.now ≤ length row.old }
     requires small { length row.old < 2 ^ 32 }
     requires reduced { IsReduced row.old }
-    ensures { Adds (λ place. combined_at place r.now (differences start (forms side constraints.now))) row.old row.new }
+    ensures { Adds
+        (λ place. combined_at place r.now (differences start (forms side constraints.now))) row.old
+        row.new }
 {
     for (k, constraint) in constraints.iter().enumerate() {
         let number = r[k];
@@ -82,7 +85,8 @@ fn add_wires(row: &mut [Gold], r: &[Gold])
     requires within { length r.now ≤ length row.old }
     requires small { length row.old < 2 ^ 32 }
     requires reduced { IsReduced row.old }
-    ensures { Adds (λ place. combined_at place r.now (wire_forms 0 (length r.now))) row.old row.new }
+    ensures { Adds (λ place. combined_at place r.now (wire_forms 0 (length r.now))) row.old
+        row.new }
 {
     for (wire, number) in r.iter().enumerate() {
         let known = Term {

@@ -33,18 +33,21 @@ abbrev pub path_at : ℕ → List (List ℕ) → ℕ → List (List ℕ)
 path_at zero hashes index = []
 path_at (suc depth) hashes index =
     if nat_lt index (2 ^ depth)
-    then path_at depth (take (2 ^ depth) hashes) index ++ root_at depth (drop (2 ^ depth) hashes) ∷ []
+    then path_at depth (take (2 ^ depth) hashes) index ++ root_at depth (drop (2 ^ depth) hashes)
+    ∷ []
     else (path_at depth (drop (2 ^ depth) hashes) (index - 2 ^ depth)
     ++ root_at depth (take (2 ^ depth) hashes) ∷ [])
 
--- where a path leads from a hash: the index's lowest bit is the side on which the hash stands, 0 for
--- the left one, and its other bits are the sides further up
+-- where a path leads from a hash: the index's lowest bit is the side on which the hash stands, 0
+-- for the left one, and its other bits are the sides further up
 abbrev pub root_of : List ℕ → ℕ → List (List ℕ) → List ℕ
 root_of hash index [] = hash
 root_of hash index (sibling ∷ path) =
-    root_of (if index % 2 == 0 then node_hash hash sibling else node_hash sibling hash) (index / 2) path
+    root_of (if index % 2 == 0 then node_hash hash sibling else node_hash sibling hash)
+    (index / 2) path
 
 -- a leaf, its index and its path lead to the root
 abbrev pub PathLeadsToRoot : Type 0
 PathLeadsToRoot = (depth index : ℕ) (hashes : List (List ℕ)) → index < 2 ^ depth
-    → root_of (slice_index_or hashes index []) index (path_at depth hashes index) ≡ root_at depth hashes
+    → root_of (slice_index_or hashes index []) index (path_at depth hashes index)
+    ≡ root_at depth hashes

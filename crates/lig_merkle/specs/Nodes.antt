@@ -5,7 +5,8 @@ use Rattle.lig_merkle.specs.Merkle.{node_hash}
 -- each place from low up to count is the node over its two children
 abbrev pub AreJoinedFrom : ℕ → ℕ → List (List ℕ) → Type 0
 AreJoinedFrom low count nodes = (i : ℕ) → low ≤ i → i < count
-    → slice_index_or nodes i [] ≡ node_hash (slice_index_or nodes (2 * i) []) (slice_index_or nodes (2 * i + 1) [])
+    → slice_index_or nodes i []
+    ≡ node_hash (slice_index_or nodes (2 * i) []) (slice_index_or nodes (2 * i + 1) [])
 
 abbrev pub AreJoined : ℕ → List (List ℕ) → Type 0
 AreJoined count nodes = AreJoinedFrom 1 count nodes

@@ -26,8 +26,8 @@ parents known = dedup (λ a b. a == b) (map (λ place. place / 2) known)
 abbrev pub level_over : (ℕ → List ℕ) → ℕ → List ℕ
 level_over level place = node_hash (level (2 * place)) (level (2 * place + 1))
 
--- the shared nodes: of each level below the root the missing ones, from the leaves up. What is above
--- a known place is known too.
+-- the shared nodes: of each level below the root the missing ones, from the leaves up. What is
+-- above a known place is known too.
 abbrev pub shared_nodes : ℕ → (ℕ → List ℕ) → List ℕ → List (List ℕ)
 shared_nodes zero level known = []
 shared_nodes (suc depth) level known =
@@ -51,8 +51,8 @@ parent_hashes known hashes nodes =
     let level = hash_at (known ++ missing known) (hashes ++ nodes) in
     map (level_over level) (parents known)
 
--- the root to which known places' hashes lead with these nodes, of which each level takes as many as
--- it misses
+-- the root to which known places' hashes lead with these nodes, of which each level takes as many
+-- as it misses
 abbrev pub root_of_many : ℕ → List ℕ → List (List ℕ) → List (List ℕ) → List ℕ
 root_of_many zero known hashes nodes = slice_index_or hashes 0 []
 root_of_many (suc depth) known hashes nodes =
@@ -62,7 +62,8 @@ root_of_many (suc depth) known hashes nodes =
 
 -- the opened leaves of a tree, with its shared nodes, lead to its root
 abbrev pub SharedNodesLeadToRoot : Type 0
-SharedNodesLeadToRoot = (depth : ℕ) (hashes : List (List ℕ)) (opened : List ℕ) → AreOpened depth opened
+SharedNodesLeadToRoot =
+    (depth : ℕ) (hashes : List (List ℕ)) (opened : List ℕ) → AreOpened depth opened
     → let leaf = λ (i : ℕ). slice_index_or hashes i [] in
     let nodes = shared_nodes depth leaf opened in
     root_of_many depth opened (map leaf opened) nodes ≡ root_at depth hashes

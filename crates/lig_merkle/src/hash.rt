@@ -46,9 +46,9 @@ pub fn node(left: &Hash, right: &Hash) -> Hash
     hasher.finalize()
 }
 
-/// The root to which a path of siblings, from the leaf up, leads. Bit `k` of the index tells the side
-/// on level `k`: where it is 0, the hash at hand is the left child. Higher bits don't count. It takes
-/// no memory.
+/// The root to which a path of siblings, from the leaf up, leads. Bit `k` of the index tells the
+/// side on level `k`: where it is 0, the hash at hand is the left child. Higher bits don't count.
+/// It takes no memory.
 pub fn root_of(leaf: &Hash, index: u32, path: &[Hash]) -> Hash
     ensures { result ≡ root_of leaf.now index path.now }
 {

@@ -71,8 +71,8 @@ impl Tree {
         Ok(path)
     }
 
-    /// The nodes that lead from these leaves to the root, each once: level by level from the leaves up,
-    /// and on each level by rising places.
+    /// The nodes that lead from these leaves to the root, each once: level by level from the leaves
+    /// up, and on each level by rising places.
     pub fn nodes(&self, alloc: Global, opened: &[u32]) -> Result<Vec<Hash>, AllocError>
         requires { AreOpened self.now.depth opened.now }
         ensures nodes { IfOk result (λ nodes. nodes.items

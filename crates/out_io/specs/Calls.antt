@@ -14,12 +14,14 @@ pub record Counting (before after : ℕ) (quiet still_quiet : Type 0) : Type 0 w
   pub steady : quiet → still_quiet × (after ≡ before)
 
 -- the store was only read: its contents, its count of faults, and whether no call fails
-pub record OnlyReads (old new : Option Contents) (before after : ℕ) (quiet still_quiet : Type 0) : Type 0 where
+pub record OnlyReads (old new : Option Contents) (before after : ℕ)
+    (quiet still_quiet : Type 0) : Type 0 where
   pub same : new ≡ old
   pub later : before ≤ after
   pub steady : quiet → still_quiet × (after ≡ before)
 
--- a store or a sink over a call: what it held before and after it, where it tells, and its counts of faults
+-- a store or a sink over a call: what it held before and after it, where it tells, and its counts
+-- of faults
 pub record Course (C : Type 0) : Type 0 where
   pub old : Option C
   pub new : Option C
@@ -27,7 +29,8 @@ pub record Course (C : Type 0) : Type 0 where
   pub faults_after : ℕ
 
 abbrev pub course : {C : Type 0} → Option C → Option C → ℕ → ℕ → Course C
-course old new faults faults_after = record { old = old; new = new; faults = faults; faults_after = faults_after }
+course old new faults faults_after =
+    record { old = old; new = new; faults = faults; faults_after = faults_after }
 
 -- a call of it failed
 abbrev pub HasFailed : {C : Type 0} → Course C → Type 0

@@ -91,7 +91,8 @@ impl Store for MemStore {
         ensures same { self.new.files ≡ self.old.files }
 
         ensures cause { CountsFaults self.old.faults self.new.faults result }
-        ensures steady { self.old.fail.items ≡ [] → (self.new.fail.items ≡ []) × (self.new.faults ≡ self.old.faults) }
+        ensures steady { self.old.fail.items ≡ [] → (self.new.fail.items ≡ [])
+            × (self.new.faults ≡ self.old.faults) }
 
         ensures failed { IsErrOf result Failed ↔ IsDue self.old.fail.items self.old.calls }
         ensures calls { self.new.calls ≡ next_call self.old.calls }
@@ -108,11 +109,13 @@ impl Store for MemStore {
     }
 
     fn write(&mut self, alloc: Global, name: &str, bytes: &[u8]) -> Result<(), IoFault>
-        ensures ok { OnOk result (Replaces name.now bytes.now (files_of self.old.files) (files_of self.new.files)) }
+        ensures ok { OnOk result
+            (Replaces name.now bytes.now (files_of self.old.files) (files_of self.new.files)) }
         ensures err { OnErr result (self.new.files.entries ≡ self.old.files.entries) }
 
         ensures cause { CountsFaults self.old.faults self.new.faults result }
-        ensures steady { self.old.fail.items ≡ [] → (self.new.fail.items ≡ []) × (self.new.faults ≡ self.old.faults) }
+        ensures steady { self.old.fail.items ≡ [] → (self.new.fail.items ≡ [])
+            × (self.new.faults ≡ self.old.faults) }
 
         ensures failed { IsErrOf result Failed ↔ IsDue self.old.fail.items self.old.calls }
         ensures calls { self.new.calls ≡ next_call self.old.calls }
@@ -141,7 +144,8 @@ impl Sink for MemSink {
         ensures err { OnErr result (self.new.bytes.items ≡ self.old.bytes.items) }
 
         ensures cause { CountsFaults self.old.faults self.new.faults result }
-        ensures steady { self.old.fail.items ≡ [] → (self.new.fail.items ≡ []) × (self.new.faults ≡ self.old.faults) }
+        ensures steady { self.old.fail.items ≡ [] → (self.new.fail.items ≡ [])
+            × (self.new.faults ≡ self.old.faults) }
 
         ensures failed { IsErrOf result Failed ↔ IsDue self.old.fail.items self.old.calls }
         ensures calls { self.new.calls ≡ next_call self.old.calls }

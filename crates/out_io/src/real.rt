@@ -13,9 +13,9 @@ const MOST_TURNS: u32 = 1 << 20;
 // The most bytes that one turn reads.
 const BUFFER: usize = 65_536;
 
-/// The system's files. A name is a path; one that doesn't begin with `/` is taken from the folder in
-/// which the process runs. A name that the system doesn't find isn't there; every other error of the
-/// system is a fault.
+/// The system's files. A name is a path; one that doesn't begin with `/` is taken from the folder
+/// in which the process runs. A name that the system doesn't find isn't there; every other error of
+/// the system is a fault.
 #[derive(Drop)]
 pub struct RealStore<R: Files + Drop> {
     rt: R,

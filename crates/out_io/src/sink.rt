@@ -18,8 +18,10 @@ pub trait Sink {
     /// Appends all of `bytes`, or after an error a prefix of them.
     fn put(&mut self, bytes: &[u8]) -> Result<(), IoFault>
         ensures ok { OnOk result (IsAppended bytes.now (contents self.old) (contents self.new)) }
-        ensures err { OnErr result (IsAppendedInPart bytes.now (contents self.old) (contents self.new)) }
+        ensures err { OnErr result
+            (IsAppendedInPart bytes.now (contents self.old) (contents self.new)) }
 
         ensures cause { CountsFaults (faults self.old) (faults self.new) result }
-        ensures steady { never_fails self.old → never_fails self.new × (faults self.new ≡ faults self.old) };
+        ensures steady { never_fails self.old → never_fails self.new
+            × (faults self.new ≡ faults self.old) };
 }

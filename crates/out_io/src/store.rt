@@ -22,13 +22,17 @@ pub trait Store {
         ensures same { contents self.new ≡ contents self.old }
 
         ensures cause { CountsFaults (faults self.old) (faults self.new) result }
-        ensures steady { never_fails self.old → never_fails self.new × (faults self.new ≡ faults self.old) };
+        ensures steady { never_fails self.old → never_fails self.new
+            × (faults self.new ≡ faults self.old) };
 
     /// Makes `name` hold exactly `bytes`. After an error it is as before or holds a prefix of them.
     fn write(&mut self, alloc: Global, name: &str, bytes: &[u8]) -> Result<(), IoFault>
-        ensures ok { OnOk result (Changes (Replaces name.now bytes.now) (contents self.old) (contents self.new)) }
-        ensures err { OnErr result (Changes (ReplacesInPart name.now bytes.now) (contents self.old) (contents self.new)) }
+        ensures ok { OnOk result
+            (Changes (Replaces name.now bytes.now) (contents self.old) (contents self.new)) }
+        ensures err { OnErr result
+            (Changes (ReplacesInPart name.now bytes.now) (contents self.old) (contents self.new)) }
 
         ensures cause { CountsFaults (faults self.old) (faults self.new) result }
-        ensures steady { never_fails self.old → never_fails self.new × (faults self.new ≡ faults self.old) };
+        ensures steady { never_fails self.old → never_fails self.new
+            × (faults self.new ≡ faults self.old) };
 }

@@ -6,57 +6,87 @@ use Rattle.wit_code.specs.declared.frames.Caller.{Caller}
 use Rattle.wit_code.specs.Frames.{Open, Frames, open_of, opened, width_of}
 
 -- the callers' frames depend on the numbers below the running frame alone
-opened_same : (inner : List Open) (cs : List Caller) (a b : List ℕ) → take (width_of cs) a ≡ take (width_of cs) b → opened inner cs a ≡ opened inner cs b
+opened_same : (inner : List Open) (cs : List Caller) (a b : List ℕ)
+    → take (width_of cs) a ≡ take (width_of cs) b → opened inner cs a ≡ opened inner cs b
 opened_same inner [] a b h = refl
 opened_same inner (c ∷ cs) a b h =
     let w : c.width ≤ width_of (c ∷ cs) = omega arith in
     let front : take c.width a ≡ take c.width b =
-    sym (take-take c.width (width_of (c ∷ cs)) a w) ∙ ap (take c.width) h ∙ take-take c.width (width_of (c ∷ cs)) b w in
+    sym (take-take c.width (width_of (c ∷ cs)) a w) ∙ ap (take c.width) h
+    ∙ take-take c.width (width_of (c ∷ cs)) b w in
     let rest : take (width_of cs) (drop c.width a) ≡ take (width_of cs) (drop c.width b) =
-    sym (drop-take c.width (width_of cs) a) ∙ ap (drop c.width) h ∙ drop-take c.width (width_of cs) b in
-    ap (λ s. opened (open_of c s ∷ inner) cs (drop c.width a)) front ∙ opened_same (open_of c (take c.width b) ∷ inner) cs (drop c.width a) (drop c.width b) rest
+    sym (drop-take c.width (width_of cs) a) ∙ ap (drop c.width) h
+    ∙ drop-take c.width (width_of cs) b in
+    ap (λ s. opened (open_of c s ∷ inner) cs (drop c.width a)) front
+    ∙ opened_same (open_of c (take c.width b) ∷ inner) cs (drop c.width a) (drop c.width b) rest
 
 -- the last caller is the innermost
-opened_last : (inner : List Open) (cs : List Caller) (c : Caller) (a : List ℕ) → opened inner (cs ++ c ∷ []) a ≡ open_of c (take c.width (drop (width_of cs) a)) ∷ opened inner cs a
+opened_last : (inner : List Open) (cs : List Caller) (c : Caller) (a : List ℕ)
+    → opened inner (cs ++ c ∷ []) a ≡ open_of c (take c.width (drop (width_of cs) a))
+    ∷ opened inner cs a
 opened_last inner [] c a = refl
 opened_last inner (d ∷ cs) c a =
     opened_last (open_of d (take d.width a) ∷ inner) cs c (drop d.width a)
-    ∙ ap (λ s. open_of c (take c.width s) ∷ opened (open_of d (take d.width a) ∷ inner) cs (drop d.width a)) (drop-drop (width_of cs) d.width a)
+    ∙ ap (λ s. open_of c (take c.width s) ∷ opened (open_of d (take d.width a) ∷ inner) cs
+    (drop d.width a)) (drop-drop (width_of cs) d.width a)
 
-pub length_opened : (inner : List Open) (cs : List Caller) (a : List ℕ) → length (opened inner cs a) ≡ length inner + length cs
+pub length_opened : (inner : List Open) (cs : List Caller) (a : List ℕ)
+    → length (opened inner cs a) ≡ length inner + length cs
 length_opened inner [] a = omega arith
-length_opened inner (c ∷ cs) a = omega (arith, length_opened (open_of c (take c.width a) ∷ inner) cs (drop c.width a))
+length_opened inner (c ∷ cs) a =
+    omega (arith, length_opened (open_of c (take c.width a) ∷ inner) cs (drop c.width a))
 
 -- what the stack shows
 abbrev pub shown : ℕ → List Caller → List ℕ → Frames
-shown base callers numbers = record { slots = drop base numbers; open_calls = opened [] callers numbers }
+shown base callers numbers =
+    record { slots = drop base numbers; open_calls = opened [] callers numbers }
 
-pub shown_set : (base : ℕ) (cs : List Caller) (numbers : List ℕ) (slot v : ℕ) → base ≡ width_of cs → shown base cs (slice_set numbers (base + slot) v) ≡ record { slots = slice_set (drop base numbers) slot v; open_calls = opened [] cs numbers }
+pub shown_set : (base : ℕ) (cs : List Caller) (numbers : List ℕ) (slot v : ℕ) → base ≡ width_of cs
+    → shown base cs (slice_set numbers (base + slot) v)
+    ≡ record { slots = slice_set (drop base numbers) slot v; open_calls = opened [] cs numbers }
 shown_set base cs numbers slot v h =
     let below : width_of cs ≤ base + slot = omega arith in
-    ap (λ s. record { slots = s; open_calls = opened [] cs (slice_set numbers (base + slot) v) }) (drop-set-add base numbers slot v)
-    ∙ ap (λ o. record { slots = slice_set (drop base numbers) slot v; open_calls = o }) (opened_same [] cs _ _ (take-set-le (width_of cs) numbers (base + slot) v below))
+    ap (λ s. record { slots = s; open_calls = opened [] cs (slice_set numbers (base + slot) v) })
+    (drop-set-add base numbers slot v)
+    ∙ ap (λ o. record { slots = slice_set (drop base numbers) slot v; open_calls = o })
+    (opened_same [] cs _ _ (take-set-le (width_of cs) numbers (base + slot) v below))
 
-pub width_of_push : (cs : List Caller) (c : Caller) → width_of (cs ++ c ∷ []) ≡ width_of cs + c.width
+pub width_of_push : (cs : List Caller) (c : Caller)
+    → width_of (cs ++ c ∷ []) ≡ width_of cs + c.width
 width_of_push [] c = omega arith
 width_of_push (d ∷ cs) c = omega (arith, width_of_push cs c)
 
-pub shown_close : (base : ℕ) (all cs : List Caller) (c : Caller) (numbers : List ℕ) → base ≡ width_of all → all ≡ cs ++ c ∷ [] → opened [] all numbers ≡ record { resume = c.resume; slots = drop (base - c.width) (take base numbers) } ∷ opened [] cs (take base numbers)
+pub shown_close : (base : ℕ) (all cs : List Caller) (c : Caller) (numbers : List ℕ)
+    → base ≡ width_of all → all ≡ cs ++ c ∷ []
+    → opened [] all numbers
+    ≡ record { resume = c.resume; slots = drop (base - c.width) (take base numbers) }
+    ∷ opened [] cs (take base numbers)
 shown_close base all cs c numbers h split =
     let w : width_of (cs ++ c ∷ []) ≡ width_of cs + c.width = width_of_push cs c in
     let wide : width_of all ≡ width_of cs + c.width = ap width_of split ∙ w in
     let b : base ≡ width_of cs + c.width = h ∙ wide in
     let start : base - c.width ≡ width_of cs = omega arith in
     let below : width_of cs ≤ base = omega arith in
-    let front : drop (base - c.width) (take base numbers) ≡ take c.width (drop (width_of cs) numbers) =
-    ap (λ n. drop n (take base numbers)) start ∙ ap (λ n. drop (width_of cs) (take n numbers)) b ∙ drop-take (width_of cs) c.width numbers in
-    let rest : opened [] cs (take base numbers) ≡ opened [] cs numbers = opened_same [] cs _ _ (take-take (width_of cs) base numbers below) in
+    let front : drop (base - c.width) (take base numbers)
+    ≡ take c.width (drop (width_of cs) numbers) =
+    ap (λ n. drop n (take base numbers)) start ∙ ap (λ n. drop (width_of cs) (take n numbers)) b
+    ∙ drop-take (width_of cs) c.width numbers in
+    let rest : opened [] cs (take base numbers) ≡ opened [] cs numbers =
+    opened_same [] cs _ _ (take-take (width_of cs) base numbers below) in
     ap (λ l. opened [] l numbers) split ∙ opened_last [] cs c numbers
     ∙ ap (λ s. record { resume = c.resume; slots = s } ∷ opened [] cs numbers) (sym front)
-    ∙ ap (λ o. record { resume = c.resume; slots = drop (base - c.width) (take base numbers) } ∷ o) (sym rest)
+    ∙ ap (λ o. record { resume = c.resume; slots = drop (base - c.width) (take base numbers) } ∷ o)
+    (sym rest)
 
-pub shown_open : (base : ℕ) (cs : List Caller) (numbers : List ℕ) (c : Caller) (first params : ℕ) (zeros : List ℕ) → base ≡ width_of cs → base ≤ length numbers → c.width ≡ length numbers - base →
-    shown (base + c.width) (cs ++ c ∷ []) ((numbers ++ slice_range numbers (base + first) (base + first + params)) ++ zeros) ≡ record { slots = slice_range (drop base numbers) first (first + params) ++ zeros; open_calls = open_of c (drop base numbers) ∷ opened [] cs numbers }
+pub shown_open : (base : ℕ) (cs : List Caller) (numbers : List ℕ) (c : Caller) (first params : ℕ)
+    (zeros : List ℕ) → base ≡ width_of cs → base ≤ length numbers → c.width ≡ length numbers - base
+    →
+    shown (base + c.width) (cs ++ c ∷ [])
+    ((numbers ++ slice_range numbers (base + first) (base + first + params)) ++ zeros)
+    ≡ record {
+      slots = slice_range (drop base numbers) first (first + params) ++ zeros;
+      open_calls = open_of c (drop base numbers) ∷ opened [] cs numbers;
+    }
 shown_open base cs numbers c first params zeros h le wide =
     let given = slice_range numbers (base + first) (base + first + params) in
     let all : List ℕ = numbers ++ (given ++ zeros) in
@@ -66,12 +96,22 @@ shown_open base cs numbers c first params zeros h le wide =
     let regroup : (numbers ++ given) ++ zeros ≡ all = append_assoc numbers given zeros in
     let p : base + first + params - (base + first) ≡ first + params - first = omega arith in
     let params_are : given ≡ slice_range (drop base numbers) first (first + params) =
-    ap (λ k. take k (drop (base + first) numbers)) p ∙ ap (take (first + params - first)) (sym (drop-drop first base numbers)) in
-    let front : drop (base + c.width) all ≡ slice_range (drop base numbers) first (first + params) ++ zeros =
-    ap (λ k. drop k all) end ∙ drop_at numbers (given ++ zeros) (length numbers) refl ∙ ap (λ g. g ++ zeros) params_are in
+    ap (λ k. take k (drop (base + first) numbers)) p
+    ∙ ap (take (first + params - first)) (sym (drop-drop first base numbers)) in
+    let front : drop (base + c.width) all ≡ slice_range (drop base numbers) first (first + params)
+    ++ zeros =
+    ap (λ k. drop k all) end ∙ drop_at numbers (given ++ zeros) (length numbers) refl
+    ∙ ap (λ g. g ++ zeros) params_are in
     let caller : take c.width (drop (width_of cs) all) ≡ drop base numbers =
-    ap (λ k. take c.width (drop k all)) (sym h) ∙ ap (take c.width) (drop-append-le base numbers (given ++ zeros) le) ∙ take_at (drop base numbers) (given ++ zeros) c.width n in
-    let rest : opened [] cs all ≡ opened [] cs numbers = opened_same [] cs _ _ (take-append-le (width_of cs) numbers (given ++ zeros) below) in
+    ap (λ k. take c.width (drop k all)) (sym h)
+    ∙ ap (take c.width) (drop-append-le base numbers (given ++ zeros) le)
+    ∙ take_at (drop base numbers) (given ++ zeros) c.width n in
+    let rest : opened [] cs all ≡ opened [] cs numbers =
+    opened_same [] cs _ _ (take-append-le (width_of cs) numbers (given ++ zeros) below) in
     ap (shown (base + c.width) (cs ++ c ∷ [])) regroup
     ∙ ap (λ s. record { slots = s; open_calls = opened [] (cs ++ c ∷ []) all }) front
-    ∙ ap (λ o. record { slots = slice_range (drop base numbers) first (first + params) ++ zeros; open_calls = o }) (opened_last [] cs c all ∙ ap (λ s. open_of c s ∷ opened [] cs all) caller ∙ ap (λ o. open_of c (drop base numbers) ∷ o) rest)
+    ∙ ap (λ o. record {
+      slots = slice_range (drop base numbers) first (first + params) ++ zeros;
+      open_calls = o;
+    }) (opened_last [] cs c all ∙ ap (λ s. open_of c s ∷ opened [] cs all) caller
+    ∙ ap (λ o. open_of c (drop base numbers) ∷ o) rest)

@@ -1,5 +1,5 @@
--- Which code is well formed: it names nothing that isn't there, its constants are numbers of the field, and
--- it goes back only to a Turn.
+-- Which code is well formed: it names nothing that isn't there, its constants are numbers of the
+-- field, and it goes back only to a Turn.
 use Rattle.std.specs.Prelude.{◌≡◌, ℕ, ◌+◌, ◌<◌, ◌≤◌, List, Some, slice_get, length}
 use Rattle.gold_field.specs.declared.gold.TheConstants.{P}
 use Rattle.wit_code.specs.declared.code.Op.{Op}
@@ -56,20 +56,23 @@ MayJump body place (JumpZero s to) = Leads body place to
 MayJump body place _ = Unit {0}
 
 -- what is asked of an instruction at this place
-pub record Fits (procs : List Proc) (stands : Stands) (code : Proc) (place : ℕ) (op : Op) : Type 0 where
+pub record Fits (procs : List Proc) (stands : Stands) (code : Proc) (place : ℕ)
+    (op : Op) : Type 0 where
   pub names : Names procs stands code.slots op
   pub jumps : MayJump code.body place op
 
 -- every instruction fits
 abbrev pub EachFits : List Proc → Stands → Proc → Type 0
-EachFits procs stands code = (place : ℕ) (op : Op) → slice_get code.body place ≡ Some op → Fits procs stands code place op
+EachFits procs stands code =
+    (place : ℕ) (op : Op) → slice_get code.body place ≡ Some op → Fits procs stands code place op
 
 pub record IsCode (procs : List Proc) (stands : Stands) (code : Proc) : Type 0 where
   pub params : code.params ≤ code.slots
   pub each : EachFits procs stands code
 
 abbrev pub AreProcs : List Proc → Type 0
-AreProcs procs = (f : ℕ) (callee : Proc) → slice_get procs f ≡ Some callee → IsCode procs InProc callee
+AreProcs procs =
+    (f : ℕ) (callee : Proc) → slice_get procs f ≡ Some callee → IsCode procs InProc callee
 
 -- the code of a step that reads this many numbers, with the procedures that it calls
 pub record IsWellFormed (procs : List Proc) (reads : ℕ) (code : Proc) : Type 0 where

@@ -24,7 +24,8 @@ open_of c slots = record { resume = c.resume; slots = slots }
 -- the callers' frames stand one after another, the outermost first
 abbrev pub opened : List Open → List Caller → List ℕ → List Open
 opened inner [] numbers = inner
-opened inner (c ∷ cs) numbers = opened (open_of c (take c.width numbers) ∷ inner) cs (drop c.width numbers)
+opened inner (c ∷ cs) numbers =
+    opened (open_of c (take c.width numbers) ∷ inner) cs (drop c.width numbers)
 
 -- the innermost call that waits goes on, if there is one
 abbrev pub Closes : Frames → Option Resume → Frames → Type 0

@@ -18,7 +18,13 @@ use Rattle.wit_code.specs.Code.{Names}
 use Rattle.wit_code.specs.Table.{State, Outcome, Wrote, Stopped, Next, Goes, Over}
 
 abbrev pub seen : Run → State
-seen r = record { running = r.running; place = r.place; frames = r.frames; units = r.units; written = r.written.items }
+seen r = record {
+  running = r.running;
+  place = r.place;
+  frames = r.frames;
+  units = r.units;
+  written = r.written.items;
+}
 
 -- the code's step did what the table says
 abbrev pub Follows : Run → Result Flow Stop → Run → Next → Type 0
@@ -38,7 +44,8 @@ IsThere procs (Called f) = f < length procs
 
 -- what the next instruction names, whatever it is, is there
 abbrev pub NextFits : List Proc → ℕ → List Op → Run → Type 0
-NextFits procs reads body r = (op : Op) → slice_get body r.place ≡ Some op → Names procs (stands_of reads r.running) (length r.frames.slots) op
+NextFits procs reads body r = (op : Op) → slice_get body r.place ≡ Some op
+    → Names procs (stands_of reads r.running) (length r.frames.slots) op
 
 -- each call that waits has the slot for its answer
 abbrev pub AnswersFit : List Open → Type 0
@@ -47,7 +54,8 @@ AnswersFit (o ∷ os) = (o.resume.answer < length o.slots) × AnswersFit os
 
 -- the parameters of every procedure are slots of its frame
 abbrev pub ParamsFit : List Proc → Type 0
-ParamsFit procs = (f : ℕ) (callee : Proc) → slice_get procs f ≡ Some callee → callee.params ≤ callee.slots
+ParamsFit procs =
+    (f : ℕ) (callee : Proc) → slice_get procs f ≡ Some callee → callee.params ≤ callee.slots
 
 -- what a run answers is an outcome of this kind, unless it finds no memory
 abbrev pub IsOutcome : Result (Vec ℕ Global) Stop → (Outcome → Type 0) → Type 0

@@ -44,7 +44,14 @@ slot_of s i = slice_index s.frames.slots i
 
 -- on at a place of the running code
 abbrev pub jump_to : ℕ → State → Next
-jump_to to s = Goes record { running = s.running; place = to; frames = s.frames; units = s.units; written = s.written }
+jump_to to s =
+    Goes record {
+      running = s.running;
+      place = to;
+      frames = s.frames;
+      units = s.units;
+      written = s.written;
+    }
 
 abbrev pub go_on : State → Next
 go_on s = jump_to (s.place + 1) s
@@ -52,7 +59,13 @@ go_on s = jump_to (s.place + 1) s
 -- a number into a slot, and on
 abbrev pub put : ℕ → ℕ → State → Next
 put d v s =
-    Goes record { running = s.running; place = s.place + 1; frames = record { slots = slice_set s.frames.slots d v; open_calls = s.frames.open_calls }; units = s.units; written = s.written }
+    Goes record {
+      running = s.running;
+      place = s.place + 1;
+      frames = record { slots = slice_set s.frames.slots d v; open_calls = s.frames.open_calls };
+      units = s.units;
+      written = s.written;
+    }
 
 -- the same with a quotient, which a zero divisor hasn't
 abbrev pub put_result : ℕ → Option ℕ → State → Next
@@ -73,16 +86,29 @@ in_frame s i = nat_lt i (length s.frames.slots)
 
 -- the frame of a call: the parameters, and then zeros
 abbrev pub frame_of : Proc → List ℕ → ℕ → List ℕ
-frame_of callee slots first = slice_range slots first (first + callee.params) ++ replicate (callee.slots - callee.params) 0
+frame_of callee slots first =
+    slice_range slots first (first + callee.params) ++ replicate (callee.slots - callee.params) 0
 
 abbrev pub turn_of : State → Next
 turn_of s =
-    pay s (λ units. Goes record { running = s.running; place = s.place + 1; frames = s.frames; units = units; written = s.written })
+    pay s (λ units. Goes record {
+      running = s.running;
+      place = s.place + 1;
+      frames = s.frames;
+      units = units;
+      written = s.written;
+    })
 
 -- one more number written, and on
 abbrev pub written_with : ℕ → State → Next
 written_with v s =
-    Goes record { running = s.running; place = s.place + 1; frames = s.frames; units = s.units; written = s.written ++ v ∷ [] }
+    Goes record {
+      running = s.running;
+      place = s.place + 1;
+      frames = s.frames;
+      units = s.units;
+      written = s.written ++ v ∷ [];
+    }
 
 -- a call of procedure f, if fewer than 256 are open
 abbrev pub call : Proc → ℕ → ℕ → ℕ → State → ℕ → Next
@@ -92,7 +118,11 @@ call callee f first d s units =
       place = 0;
       frames = record {
         slots = frame_of callee s.frames.slots first;
-        open_calls = record { resume = record { running = s.running; place = s.place + 1; answer = d }; slots = s.frames.slots } ∷ s.frames.open_calls;
+        open_calls =
+            record {
+              resume = record { running = s.running; place = s.place + 1; answer = d };
+              slots = s.frames.slots;
+            } ∷ s.frames.open_calls;
       };
       units = units;
       written = s.written;
@@ -102,7 +132,13 @@ call callee f first d s units =
 abbrev pub answer : ℕ → State → List Open → Next
 answer v s [] = Over (Wrote s.written)
 answer v s (o ∷ os) =
-    Goes record { running = o.resume.running; place = o.resume.place; frames = record { slots = slice_set o.slots o.resume.answer v; open_calls = os }; units = s.units; written = s.written }
+    Goes record {
+      running = o.resume.running;
+      place = o.resume.place;
+      frames = record { slots = slice_set o.slots o.resume.answer v; open_calls = os };
+      units = s.units;
+      written = s.written;
+    }
 
 abbrev pub leave : ℕ → State → Next
 leave v s = answer v s s.frames.open_calls
@@ -123,8 +159,10 @@ act procs reads (Some (Read d i)) s = put d (slice_index reads i) s
 act procs reads (Some (Un op d a)) s = put d (unary_of op (slot_of s a)) s
 act procs reads (Some (Bin op d a b)) s = put_result d (binary_of op (slot_of s a) (slot_of s b)) s
 act procs reads (Some (Bound a n)) s = unless IndexOut (nat_lt (slot_of s a) n) (go_on s)
-act procs reads (Some (Load d base a)) s = unless IndexOut (in_frame s (base + slot_of s a)) (put d (slot_of s (base + slot_of s a)) s)
-act procs reads (Some (Store base a b)) s = unless IndexOut (in_frame s (base + slot_of s a)) (put (base + slot_of s a) (slot_of s b) s)
+act procs reads (Some (Load d base a)) s =
+    unless IndexOut (in_frame s (base + slot_of s a)) (put d (slot_of s (base + slot_of s a)) s)
+act procs reads (Some (Store base a b)) s =
+    unless IndexOut (in_frame s (base + slot_of s a)) (put (base + slot_of s a) (slot_of s b) s)
 act procs reads (Some (Jump to)) s = jump_to to s
 act procs reads (Some (JumpZero a to)) s = if slot_of s a == 0 then jump_to to s else go_on s
 act procs reads (Some Turn) s = turn_of s
@@ -152,11 +190,18 @@ exec procs own reads (suc n) s = next_of (step procs own reads s) (exec procs ow
 
 abbrev pub start_of : Proc → ℕ → State
 start_of own fuel =
-    record { running = Own; place = 0; frames = record { slots = replicate own.slots 0; open_calls = [] }; units = fuel; written = [] }
+    record {
+      running = Own;
+      place = 0;
+      frames = record { slots = replicate own.slots 0; open_calls = [] };
+      units = fuel;
+      written = [];
+    }
 
 -- the step's code, run on these reads with so many units, ends so
 abbrev pub RunsTo : List Proc → Proc → List ℕ → ℕ → Outcome → Type 0
-RunsTo procs own reads fuel outcome = (n : ℕ) × (exec procs own reads n (start_of own fuel) ≡ Over outcome)
+RunsTo procs own reads fuel outcome =
+    (n : ℕ) × (exec procs own reads n (start_of own fuel) ≡ Over outcome)
 
 abbrev pub longest : List Proc → ℕ
 longest [] = 0
@@ -172,4 +217,6 @@ outcome_or d (Over o) = o
 
 -- the one outcome of well-formed code
 unfoldable pub outcome_of : List Proc → Proc → List ℕ → ℕ → Outcome
-outcome_of procs own reads fuel = outcome_or (Stopped FuelSpent) (exec procs own reads (most_steps procs own fuel) (start_of own fuel))
+outcome_of procs own reads fuel =
+    outcome_or (Stopped FuelSpent)
+    (exec procs own reads (most_steps procs own fuel) (start_of own fuel))

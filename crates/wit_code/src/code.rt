@@ -1,8 +1,8 @@
 use gold_field::{Gold, Op1, Op2};
 use items::Items;
 
-/// One instruction. A slot is a place of the running frame, named by its number; `d` is the slot that
-/// gets the result, and `t` a place of the code.
+/// One instruction. A slot is a place of the running frame, named by its number; `d` is the slot
+/// that gets the result, and `t` a place of the code.
 #[derive(Clone, Copy, Debug, PartialEq, Eq)]
 pub enum Op {
     /// `Const(d, v)`: the number `v`.
@@ -17,8 +17,8 @@ pub enum Op {
     Bin(Op2, u32, u32, u32),
     /// `Bound(s, n)` stops with `IndexOut` where slot `s` holds `n` or more.
     Bound(u32, u32),
-    /// `Load(d, base, s)`: the number of the slot `base` plus the number in slot `s`; outside the frame
-    /// it stops with `IndexOut`.
+    /// `Load(d, base, s)`: the number of the slot `base` plus the number in slot `s`; outside the
+    /// frame it stops with `IndexOut`.
     Load(u32, u32, u32),
     /// `Store(base, s, a)` puts slot `a` into the slot that `Load` would read.
     Store(u32, u32, u32),
@@ -41,7 +41,8 @@ pub enum Op {
     Write(u32),
 }
 
-/// Code with its frame: `slots` numbers, of which the first `params` are given and the others start at 0.
+/// Code with its frame: `slots` numbers, of which the first `params` are given and the others start
+/// at 0.
 #[derive(Debug, Drop)]
 pub struct Proc {
     pub params: u32,
@@ -49,8 +50,8 @@ pub struct Proc {
     pub body: Items<Op>,
 }
 
-/// One run-time statement: its code, the cells that it reads, in the order of `Read`'s places, and the
-/// cells that it writes, in the order of the code's `Write`s.
+/// One run-time statement: its code, the cells that it reads, in the order of `Read`'s places, and
+/// the cells that it writes, in the order of the code's `Write`s.
 #[derive(Debug, Drop)]
 pub struct Step {
     pub code: Proc,

@@ -27,7 +27,8 @@ pub struct Caller {
     pub width: usize,
 }
 
-/// The frames of all open calls, on one stack of numbers. The running frame is the last, from `base` on.
+/// The frames of all open calls, on one stack of numbers. The running frame is the last, from
+/// `base` on.
 #[derive(Drop)]
 pub struct Frames {
     numbers: Vec<Gold>,
@@ -42,9 +43,14 @@ impl Model for Frames {
 
     ghost Value = { F.Frames };
 
-    ghost view = { λ a. record { slots = drop a.base a.numbers.items; open_calls = opened [] a.callers.items a.numbers.items } };
+    ghost view = { λ a. record {
+      slots = drop a.base a.numbers.items;
+      open_calls =
+          opened [] a.callers.items a.numbers.items;
+    } };
 
-    ghost invariant = { λ a. (a.base ≡ width_of a.callers.items) × (a.base ≤ length a.numbers.items) };
+    ghost invariant = { λ a. (a.base ≡ width_of a.callers.items)
+        × (a.base ≤ length a.numbers.items) };
 }
 
 impl Frames {
@@ -88,7 +94,8 @@ impl Frames {
     #[inline(always)]
     pub fn set(&mut self, slot: usize, v: Gold)
         requires { slot < length self.old.slots }
-        ensures { self.new ≡ record { slots = slice_set self.old.slots slot v; open_calls = self.old.open_calls } }
+        ensures { self.new
+            ≡ record { slots = slice_set self.old.slots slot v; open_calls = self.old.open_calls } }
     {
         self.numbers[self.base + slot] = v;
     }

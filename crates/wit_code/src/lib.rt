@@ -1,5 +1,5 @@
-//! The witness machine: a register machine over the field that computes what a statement of a circuit
-//! writes, from what it reads and a budget of units.
+//! The witness machine: a register machine over the field that computes what a statement of a
+//! circuit writes, from what it reads and a budget of units.
 #![tactic(auto)]
 
 mod code;

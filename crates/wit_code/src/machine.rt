@@ -73,7 +73,8 @@ impl Run {
         requires answers { AnswersFit self.old.frames.open_calls }
         requires procs { ParamsFit procs.now }
         requires names { NextFits procs.now (length reads.now) body.now self.old }
-        ensures { Follows self.old result self.new (act procs.now reads.now (slice_get body.now self.old.place) (seen self.old)) }
+        ensures { Follows self.old result self.new
+            (act procs.now reads.now (slice_get body.now self.old.place) (seen self.old)) }
     {
         if body.len() <= self.place {
             return Ok(self.leave(Gold::ZERO));
@@ -86,9 +87,11 @@ impl Run {
     fn perform(&mut self, procs: &[Proc], reads: &[Gold], op: Op) -> Result<Flow, Stop>
         requires answers { AnswersFit self.old.frames.open_calls }
         requires procs { ParamsFit procs.now }
-        requires names { Names procs.now (stands_of (length reads.now) self.old.running) (length self.old.frames.slots) op }
+        requires names { Names procs.now (stands_of (length reads.now) self.old.running)
+            (length self.old.frames.slots) op }
         requires place { self.old.place < 2 ^ 64 - 1 }
-        ensures { Follows self.old result self.new (act procs.now reads.now (Some op) (seen self.old)) }
+        ensures { Follows self.old result self.new
+            (act procs.now reads.now (Some op) (seen self.old)) }
     {
         match op {
             Op::Const(d, v) => Ok(self.put(d, v)),
@@ -148,9 +151,12 @@ impl Run {
 
     #[inline(always)]
     fn apply(&mut self, op: Op2, d: u32, a: u32, b: u32) -> Result<Flow, Stop>
-        requires slots { (d < length self.old.frames.slots) × (a < length self.old.frames.slots) × (b < length self.old.frames.slots) }
+        requires slots { (d < length self.old.frames.slots) × (a < length self.old.frames.slots)
+            × (b < length self.old.frames.slots) }
         requires place { self.old.place < 2 ^ 64 - 1 }
-        ensures { Follows self.old result self.new (put_result d (binary_of op (slot_of (seen self.old) a) (slot_of (seen self.old) b)) (seen self.old)) }
+        ensures { Follows self.old result self.new
+            (put_result d (binary_of op (slot_of (seen self.old) a) (slot_of (seen self.old) b))
+            (seen self.old)) }
     {
         match binary(op, self.slot(a), self.slot(b)) {
             Some(v) => Ok(self.put(d, v)),
@@ -162,7 +168,8 @@ impl Run {
     fn bound(&mut self, a: u32, n: u32) -> Result<Flow, Stop>
         requires slot { a < length self.old.frames.slots }
         requires place { self.old.place < 2 ^ 64 - 1 }
-        ensures { Follows self.old result self.new (unless Stop.IndexOut (nat_lt (slot_of (seen self.old) a) n) (go_on (seen self.old))) }
+        ensures { Follows self.old result self.new
+            (unless Stop.IndexOut (nat_lt (slot_of (seen self.old) a) n) (go_on (seen self.old))) }
     {
         if self.slot(a).get() < n as u64 {
             Ok(self.on())
@@ -176,7 +183,9 @@ impl Run {
         requires slots { (d < length self.old.frames.slots) × (a < length self.old.frames.slots) }
         requires place { self.old.place < 2 ^ 64 - 1 }
         ensures { let s = seen self.old in
-            Follows self.old result self.new (unless Stop.IndexOut (in_frame s (base + slot_of s a)) (put d (slot_of s (base + slot_of s a)) s)) }
+            Follows self.old result self.new
+            (unless Stop.IndexOut (in_frame s (base + slot_of s a))
+            (put d (slot_of s (base + slot_of s a)) s)) }
     {
         let at = self.indexed(base, a);
         if at < self.frames.width() {
@@ -192,7 +201,9 @@ impl Run {
         requires slots { (a < length self.old.frames.slots) × (b < length self.old.frames.slots) }
         requires place { self.old.place < 2 ^ 64 - 1 }
         ensures { let s = seen self.old in
-            Follows self.old result self.new (unless Stop.IndexOut (in_frame s (base + slot_of s a)) (put (base + slot_of s a) (slot_of s b) s)) }
+            Follows self.old result self.new
+            (unless Stop.IndexOut (in_frame s (base + slot_of s a))
+            (put (base + slot_of s a) (slot_of s b) s)) }
     {
         let at = self.indexed(base, a);
         if at < self.frames.width() {
@@ -218,7 +229,8 @@ impl Run {
         requires slot { a < length self.old.frames.slots }
         requires place { self.old.place < 2 ^ 64 - 1 }
         ensures { let s = seen self.old in
-            Follows self.old (Ok result) self.new (if slot_of s a == 0 then jump_to to s else go_on s) }
+            Follows self.old (Ok result) self.new (if slot_of s a == 0 then jump_to to s
+            else go_on s) }
     {
         if self.slot(a) == Gold::ZERO {
             self.jump(to)
@@ -244,7 +256,8 @@ impl Run {
         requires params { first + callee.now.params ≤ length self.old.frames.slots }
         requires callee { callee.now.params ≤ callee.now.slots }
         requires place { self.old.place < 2 ^ 64 - 1 }
-        ensures { Follows self.old result self.new (pay (seen self.old) (call callee.now f first d (seen self.old))) }
+        ensures { Follows self.old result self.new
+            (pay (seen self.old) (call callee.now f first d (seen self.old))) }
     {
         let Some(units) = self.units.checked_sub(1) else {
             return Err(Stop::FuelSpent);
@@ -289,7 +302,8 @@ impl Run {
         requires slots { (a < length self.old.frames.slots) × (b < length self.old.frames.slots) }
         requires place { self.old.place < 2 ^ 64 - 1 }
         ensures { let s = seen self.old in
-            Follows self.old result self.new (unless Stop.ConstraintFails (slot_of s a == slot_of s b) (go_on s)) }
+            Follows self.old result self.new
+            (unless Stop.ConstraintFails (slot_of s a == slot_of s b) (go_on s)) }
     {
         if self.slot(a) == self.slot(b) {
             Ok(self.on())
@@ -303,7 +317,8 @@ impl Run {
         requires slot { a < length self.old.frames.slots }
         requires place { self.old.place < 2 ^ 64 - 1 }
         ensures { let s = seen self.old in
-            Follows self.old result self.new (unless Stop.AssertFails (not (slot_of s a == 0)) (go_on s)) }
+            Follows self.old result self.new
+            (unless Stop.AssertFails (not (slot_of s a == 0)) (go_on s)) }
     {
         if self.slot(a).get() == 0 {
             Err(Stop::AssertFails)
@@ -316,7 +331,8 @@ impl Run {
     fn write(&mut self, a: u32) -> Result<Flow, Stop>
         requires slot { a < length self.old.frames.slots }
         requires place { self.old.place < 2 ^ 64 - 1 }
-        ensures { Follows self.old result self.new (written_with (slot_of (seen self.old) a) (seen self.old)) }
+        ensures { Follows self.old result self.new
+            (written_with (slot_of (seen self.old) a) (seen self.old)) }
     {
         let v = self.slot(a);
         self.written.push(v)?;
@@ -325,7 +341,8 @@ impl Run {
 }
 
 impl Machine {
-    /// Runs a step's code on what it reads, with a budget of units, and gives what it writes, in order.
+    /// Runs a step's code on what it reads, with a budget of units, and gives what it writes, in
+    /// order.
     pub fn run(
         alloc: Global,
         procs: &[Proc],

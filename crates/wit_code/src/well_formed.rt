@@ -4,8 +4,8 @@ ghost use Rattle.wit_code.specs.Code.{AreProcs, EachFits, Fits, IsCode, IsWellFo
 use crate::code::{Op, Proc, Stands};
 use gold_field::P;
 
-/// Whether the code of a step that reads `reads` numbers is well formed, with the procedures that it
-/// calls. In time linear in all the code.
+/// Whether the code of a step that reads `reads` numbers is well formed, with the procedures that
+/// it calls. In time linear in all the code.
 pub fn is_well_formed(procs: &[Proc], reads: usize, code: &Proc) -> bool
     ensures { IsTrue result ↔ IsWellFormed procs.now reads code.now }
 {

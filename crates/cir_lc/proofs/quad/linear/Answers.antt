@@ -8,7 +8,8 @@ returns-clause-shape c = record {
   left = c.of.ensures ∙ c.new.ensures.items;
   right = c.of-2.ensures ∙ c.new-2.ensures.items;
   rest = c.in_ok-c.ensures.value
-      ∙ ap negated (c.in_ok-sum.ensures.value ∙ ap (added (value_of c.args.c.now)) c.in_ok-product.ensures.value);
+      ∙ ap negated (c.in_ok-sum.ensures.value
+      ∙ ap (added (value_of c.args.c.now)) c.in_ok-product.ensures.value);
 }
 
 pub returns-clause-within : goal.returns-clause-within

@@ -17,28 +17,42 @@ pub loop-i-preserved-then-x-y : goal.loop-i-preserved-then-x-y
 loop-i-preserved-then-x-y c = record {
   left = omega arith;
   right = omega arith;
-  merged = walk_left _ _ _ _ _ _ _ _ c.loop-i-test.true c.if-j-b.true c.index-a-i.is c.index-b-j.is c.if-x-y.true c.in_ok-push.ensures.items c.loop-i.invariant.merged;
+  merged = walk_left _ _ _ _ _ _ _ _ c.loop-i-test.true c.if-j-b.true c.index-a-i.is c.index-b-j.is
+      c.if-x-y.true c.in_ok-push.ensures.items c.loop-i.invariant.merged;
 }
 
 pub loop-i-preserved-then-y-x : goal.loop-i-preserved-then-y-x
 loop-i-preserved-then-y-x c = record {
   left = omega arith;
   right = omega arith;
-  merged = walk_right _ _ _ _ _ _ _ _ c.loop-i-test.true c.if-j-b.true c.index-a-i.is c.index-b-j.is c.if-y-x.true c.in_ok-push-2.ensures.items c.loop-i.invariant.merged;
+  merged = walk_right _ _ _ _ _ _ _ _ c.loop-i-test.true c.if-j-b.true c.index-a-i.is c.index-b-j.is
+      c.if-y-x.true c.in_ok-push-2.ensures.items c.loop-i.invariant.merged;
 }
 
 pub loop-i-preserved : goal.loop-i-preserved
 loop-i-preserved c = record {
   left = omega arith;
   right = omega arith;
-  merged = walk_both _ _ _ _ _ _ _ _ _ c.loop-i-test.true c.if-j-b.true c.index-a-i.is c.index-b-j.is (omega arith) c.add.ensures c.in_ok-push_term.ensures c.loop-i.invariant.merged;
+  merged = walk_both _ _ _ _ _ _ _ _ _ c.loop-i-test.true c.if-j-b.true c.index-a-i.is
+      c.index-b-j.is (omega arith) c.add.ensures c.in_ok-push_term.ensures
+      c.loop-i.invariant.merged;
 }
 
 pub returns : goal.returns
 returns c =
-    let first : c.extend_from_slice.new.self.items ≡ c.loop-i.sum.items ++ drop c.loop-i.i c.args.a.now =
-    c.in_ok-extend_from_slice.ensures.items ∙ ap (λ (r : List Term). c.loop-i.sum.items ++ r) (take_rest c.args.a.now c.loop-i.i) in
-    let second : c.extend_from_slice-2.new.self.items ≡ c.extend_from_slice.new.self.items ++ drop c.loop-i.j c.args.b.now =
-    c.in_ok-extend_from_slice-2.ensures.items ∙ ap (λ (r : List Term). c.extend_from_slice.new.self.items ++ r) (take_rest c.args.b.now c.loop-i.j) in
-    walk_end _ _ _ _ _ _ _ (elim c.loop-i-test.branch [ then-loop-i-test+else-j-b w ↦ inr w.if-j-b.false | else-loop-i-test w ↦ inl w.loop-i-test.false ])
+    let first : c.extend_from_slice.new.self.items ≡ c.loop-i.sum.items
+    ++ drop c.loop-i.i c.args.a.now =
+    c.in_ok-extend_from_slice.ensures.items
+    ∙ ap (λ (r : List Term). c.loop-i.sum.items ++ r) (take_rest c.args.a.now c.loop-i.i) in
+    let second : c.extend_from_slice-2.new.self.items ≡ c.extend_from_slice.new.self.items
+    ++ drop c.loop-i.j c.args.b.now =
+    c.in_ok-extend_from_slice-2.ensures.items
+    ∙ ap (λ (r : List Term). c.extend_from_slice.new.self.items ++ r)
+    (take_rest c.args.b.now c.loop-i.j) in
+    walk_end _ _ _ _ _ _ _
+    (elim c.loop-i-test.branch [
+      | then-loop-i-test+else-j-b w ↦
+          inr w.if-j-b.false
+      | else-loop-i-test w ↦ inl w.loop-i-test.false
+    ])
     first second c.loop-i.invariant.merged

@@ -26,10 +26,12 @@ returns c = λ declared dims index base at.
     ∙ ap (λ n. read_from (drop n c.as_slice-base.result.now) 0 []) c.declared_end-end.ensures.place
     ∙ ap (λ bs. read_from (drop (bracket_at bs) bs) 0 []) c.as_slice-base.ensures ∙ p.numbers in
     let found : place_of dims c.in_ok-index.index.items ≡ Some c.args.name.now.place =
-    subst (λ ds. place_of ds c.in_ok-index.index.items ≡ Some c.args.name.now.place) same c.in_ok-index.ensures in
+    subst (λ ds. place_of ds c.in_ok-index.index.items ≡ Some c.args.name.now.place) same
+    c.in_ok-index.ensures in
     let name : take c.declared_end-end.result c.as_slice-base.result.now ≡ declared =
     ap (λ n. take n c.as_slice-base.result.now) c.declared_end-end.ensures.place
     ∙ ap (λ bs. take (bracket_at bs) bs) c.as_slice-base.ensures ∙ p.name in
     c.in_ok-text.ensures
     ∙ ap (λ bs. bs ++ brackets c.as_slice-2.result.now) name
-    ∙ ap (λ ns. declared ++ brackets ns) (c.as_slice-2.ensures.value ∙ once dims c.in_ok-index.index.items index c.args.name.now.place found at)
+    ∙ ap (λ ns. declared ++ brackets ns) (c.as_slice-2.ensures.value
+    ∙ once dims c.in_ok-index.index.items index c.args.name.now.place found at)

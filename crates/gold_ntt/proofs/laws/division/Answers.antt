@@ -3,4 +3,10 @@ use Rattle.gold_ntt.proofs.Quotient.{division_exists}
 use Rattle.gold_ntt.proofs.laws.division.Goals as goal
 
 pub returns : goal.returns
-returns c = record { exists = division_exists; value = division_value; exact = division_exact; zero = division_zero }
+returns c =
+    record {
+      exists = division_exists;
+      value = division_value;
+      exact = division_exact;
+      zero = division_zero;
+    }

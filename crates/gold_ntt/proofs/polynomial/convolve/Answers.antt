@@ -10,6 +10,9 @@ returns c = λ f g pad_f pad_g some_f some_g fits k low.
     let same : length c.args.b.now ≡ 2 ^ e = omega arith in
     let whole : length c.multiply.new.a ≡ 2 ^ e = omega arith in
     let back : IsTransform e c.intt.new.a c.multiply.new.a = c.intt.ensures.undone e whole in
-    convolved e (omega arith) c.args.a.now c.args.b.now c.ntt.new.a c.ntt-2.new.a c.multiply.new.a c.intt.new.a f g size same
-    (c.ntt.ensures e size) (c.ntt-2.ensures e same) (λ j h. c.multiply.ensures j (omega arith)) (omega arith) back
-    (λ j h. c.intt.ensures.undoes e whole c.intt.new.a back j (omega arith)) pad_f pad_g some_f some_g fits k (omega arith)
+    convolved e (omega arith) c.args.a.now c.args.b.now c.ntt.new.a c.ntt-2.new.a c.multiply.new.a
+    c.intt.new.a f g size same
+    (c.ntt.ensures e size) (c.ntt-2.ensures e same) (λ j h. c.multiply.ensures j (omega arith))
+    (omega arith) back
+    (λ j h. c.intt.ensures.undoes e whole c.intt.new.a back j (omega arith)) pad_f pad_g some_f
+    some_g fits k (omega arith)

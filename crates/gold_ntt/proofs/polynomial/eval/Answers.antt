@@ -17,9 +17,12 @@ loop-coef-init c = record {
 pub loop-coef-preserved : goal.loop-coef-preserved
 loop-coef-preserved c = record {
   value =
-      one_term c.args.coefs.now c.args.x c.loop-coef.coef-index c.loop-coef.value c.loop-coef.power c.coef-item.result c.mul.result
-      c.add-value.result (omega arith) c.loop-coef.invariant.value c.loop-coef.invariant.power c.coef-item.is c.mul.ensures c.add-value.ensures;
+      one_term c.args.coefs.now c.args.x c.loop-coef.coef-index c.loop-coef.value c.loop-coef.power
+      c.coef-item.result c.mul.result
+      c.add-value.result (omega arith) c.loop-coef.invariant.value c.loop-coef.invariant.power
+      c.coef-item.is c.mul.ensures c.add-value.ensures;
   power =
-      next_power P c.args.x c.loop-coef.coef-index c.loop-coef.power c.mul-power.result c.loop-coef.invariant.power
+      next_power P c.args.x c.loop-coef.coef-index c.loop-coef.power c.mul-power.result
+      c.loop-coef.invariant.power
       c.mul-power.ensures;
 }

@@ -10,4 +10,5 @@ returns-then-is_empty-clause-values c = λ x.
 
 pub returns-clause-values : goal.returns-clause-values
 returns-clause-values c = λ x.
-    value_of_product c.args.a.now c.args.b.now c.in_ok-product.product.items x c.in_ok-product.ensures.product
+    value_of_product c.args.a.now c.args.b.now c.in_ok-product.product.items x
+    c.in_ok-product.ensures.product

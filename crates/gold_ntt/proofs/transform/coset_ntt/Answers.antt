@@ -9,7 +9,8 @@ pub returns : goal.returns
 returns c = λ e size. record {
   same_length = omega arith;
   value = λ j low.
-      coset_values c.args.a.now c.scale_by_powers.new.a c.ntt.new.a e c.from_wide.result c.scale_by_powers.auto.a
+      coset_values c.args.a.now c.scale_by_powers.new.a c.ntt.new.a e c.from_wide.result
+      c.scale_by_powers.auto.a
       c.scale_by_powers.ensures (c.ntt.ensures e (c.scale_by_powers.auto.a ∙ size)) j low
       ∙ ap (λ (y : ℕ). eval_at c.args.a.now (y * root_of e ^ j % P)) c.from_wide.ensures;
 }

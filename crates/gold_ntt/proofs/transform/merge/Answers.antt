@@ -6,9 +6,13 @@ use Rattle.gold_ntt.proofs.transform.merge.Goals as goal
 pub loop-j-preserved : goal.loop-j-preserved
 loop-j-preserved c = record {
   merged =
-      one_merged c.args.a.now c.loop-j.a c.args.start c.args.half c.args.root c.loop-j.j c.loop-j.twiddle
-      c.index-a-start.result c.index-a-middle.result c.mul-odd.result c.add.result c.sub.result (omega arith) (omega arith)
-      c.loop-j.invariant.merged c.loop-j.invariant.power c.index-a-start.is c.index-a-middle.is c.mul-odd.ensures
+      one_merged c.args.a.now c.loop-j.a c.args.start c.args.half c.args.root c.loop-j.j
+      c.loop-j.twiddle
+      c.index-a-start.result c.index-a-middle.result c.mul-odd.result c.add.result c.sub.result
+      (omega arith) (omega arith)
+      c.loop-j.invariant.merged c.loop-j.invariant.power c.index-a-start.is c.index-a-middle.is
+      c.mul-odd.ensures
       c.add.ensures c.sub.ensures;
-  power = next_power P c.args.root c.loop-j.j c.loop-j.twiddle c.mul-twiddle.result c.loop-j.invariant.power c.mul-twiddle.ensures;
+  power = next_power P c.args.root c.loop-j.j c.loop-j.twiddle c.mul-twiddle.result
+      c.loop-j.invariant.power c.mul-twiddle.ensures;
 }

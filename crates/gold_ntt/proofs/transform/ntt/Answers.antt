@@ -10,6 +10,7 @@ transform_at-requires-clause-root c =
 
 pub returns : goal.returns
 returns c = λ e size.
-    let same : c.log_of-log.result ≡ e = same_log c.log_of-log.result e (sym c.log_of-log.ensures.power ∙ size) in
+    let same : c.log_of-log.result ≡ e =
+    same_log c.log_of-log.result e (sym c.log_of-log.ensures.power ∙ size) in
     let H : _ → Type 0 = λ y. HasValues y c.args.a.now c.transform_at.new.a in
     subst H (c.root.ensures.value ∙ ap root_of same) c.transform_at.ensures.values

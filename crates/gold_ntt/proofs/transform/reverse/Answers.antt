@@ -17,17 +17,21 @@ pub loop-i-preserved : goal.loop-i-preserved
 loop-i-preserved c =
     let is : c.next_reversed-j.result ≡ reversed c.args.log (c.loop-i.i + 1) =
     c.next_reversed-j.ensures c.loop-i.i c.loop-i.invariant.next in
-    let low : reversed c.args.log (c.loop-i.i + 1) < 2 ^ c.args.log = reversed_below c.args.log (c.loop-i.i + 1) in
+    let low : reversed c.args.log (c.loop-i.i + 1) < 2 ^ c.args.log =
+    reversed_below c.args.log (c.loop-i.i + 1) in
     record {
       exchanged = elim c.if-i-j.branch [
         | then-i-j w ↦
             rw w.a-is
-            (one_moves c.args.a.now c.loop-i.a c.args.log c.loop-i.i c.loop-i.j w.index-a-j.result w.index-a-i.result
-            (omega arith) (omega arith) c.loop-i.invariant.next w.if-i-j.true w.index-a-j.is w.index-a-i.is
+            (one_moves c.args.a.now c.loop-i.a c.args.log c.loop-i.i c.loop-i.j w.index-a-j.result
+            w.index-a-i.result
+            (omega arith) (omega arith) c.loop-i.invariant.next w.if-i-j.true w.index-a-j.is
+            w.index-a-i.is
             c.loop-i.invariant.exchanged)
         | else-i-j w ↦
             rw w.a-is
-            (one_stays c.args.a.now c.loop-i.a c.args.log c.loop-i.i (omega arith) (omega arith) c.loop-i.invariant.exchanged)
+            (one_stays c.args.a.now c.loop-i.a c.args.log c.loop-i.i (omega arith)
+            (omega arith) c.loop-i.invariant.exchanged)
       ];
       next = is;
       below = omega arith;

@@ -13,10 +13,19 @@ returns-then-is_form c =
 
 pub of-requires-2 : goal.of-requires-2
 of-requires-2 c =
-    let sorted : IsNonDecreasingBy (λ (t : Term). t.signal) c.sort_unstable_by_key.new.self.items = IsNonDecreasingBy-from_sort_by_key (λ (t : Term). t.signal) _ c.sort_unstable_by_key.ensures.sorted (λ a r q k. search rules) in
-    rw (c.in_ok-merged.ensures, c.deref-2.ensures.value) (merged_sorted_rises c.sort_unstable_by_key.new.self.items sorted)
+    let sorted : IsNonDecreasingBy (λ (t : Term). t.signal) c.sort_unstable_by_key.new.self.items =
+    IsNonDecreasingBy-from_sort_by_key
+    (λ (t : Term). t.signal) _ c.sort_unstable_by_key.ensures.sorted
+    (λ a r q k. search rules) in
+    rw (c.in_ok-merged.ensures, c.deref-2.ensures.value)
+    (merged_sorted_rises c.sort_unstable_by_key.new.self.items sorted)
 
 pub returns : goal.returns
 returns c =
-    let sorted : IsNonDecreasingBy (λ (t : Term). t.signal) c.sort_unstable_by_key.new.self.items = IsNonDecreasingBy-from_sort_by_key (λ (t : Term). t.signal) _ c.sort_unstable_by_key.ensures.sorted (λ a r q k. search rules) in
-    c.of-2.ensures ∙ c.in_ok-merged.ensures ∙ ap (merged start) c.deref-2.ensures.value ∙ merged_is_form_of c.args.wires c.args.terms.items c.sort_unstable_by_key.new.self.items c.requires c.sort_unstable_by_key.ensures.permutation sorted
+    let sorted : IsNonDecreasingBy (λ (t : Term). t.signal) c.sort_unstable_by_key.new.self.items =
+    IsNonDecreasingBy-from_sort_by_key
+    (λ (t : Term). t.signal) _ c.sort_unstable_by_key.ensures.sorted
+    (λ a r q k. search rules) in
+    c.of-2.ensures ∙ c.in_ok-merged.ensures ∙ ap (merged start) c.deref-2.ensures.value
+    ∙ merged_is_form_of c.args.wires c.args.terms.items c.sort_unstable_by_key.new.self.items
+    c.requires c.sort_unstable_by_key.ensures.permutation sorted

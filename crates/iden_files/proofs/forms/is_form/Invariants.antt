@@ -4,4 +4,5 @@ use Rattle.iden_files.proofs.forms.is_form.Given as goal
 
 -- what is left rises from `low` on only where all rises from 0 on
 abbrev pub invariant-loop-t : goal.invariant-loop-t
-invariant-loop-t l = (RisesFrom l.low (drop l.t-index l.terms) → RisesFrom 0 l.terms) × (l.low ≤ 2 ^ 32)
+invariant-loop-t l =
+    (RisesFrom l.low (drop l.t-index l.terms) → RisesFrom 0 l.terms) × (l.low ≤ 2 ^ 32)

@@ -9,10 +9,14 @@ use Rattle.iden_files.proofs.labels.repeated_labels.Goals as goal
 
 pub returns-in_err-label-clause-read : goal.returns-in_err-label-clause-read
 returns-in_err-label-clause-read c =
-    let p = err_from_is_err_and c.from_residual-in_err-label.result c.from_residual-in_err-label.ensures.1 in
+    let p = err_from_is_err_and c.from_residual-in_err-label.result
+    c.from_residual-in_err-label.ensures.1 in
     let field = label_at c.args.fields.now.end in
     let read = rw c.loop.invariant.ends at c.in_err-label.ensures.taken in
-    rw (p.1, p.2) (field_fails field c.in_err-label.field-0.0 c.loop.labels.items c.args.count c.loop.counter c.loop.fields.rest.now (repeated field c.args.count c.args.fields.now.rest.now) c.loop-test.true read c.loop.invariant.so_far)
+    rw (p.1, p.2)
+    (field_fails field c.in_err-label.field-0.0 c.loop.labels.items c.args.count c.loop.counter
+    c.loop.fields.rest.now (repeated field c.args.count c.args.fields.now.rest.now)
+    c.loop-test.true read c.loop.invariant.so_far)
 
 pub loop-preserved : goal.loop-preserved
 loop-preserved c =
@@ -21,6 +25,16 @@ loop-preserved c =
     let read = rw inv.ends at c.in_ok-label.ensures.taken in
     record {
       ends = c.in_ok-label.ensures.end ∙ inv.ends;
-      so_far = rw c.in_ok-push.ensures.items (goes_on field c.loop.labels.items c.args.count c.loop.counter c.loop.fields.rest.now c.in_ok-label.label c.next_u64.new.fields.rest.now (repeated field c.args.count c.args.fields.now.rest.now) c.loop-test.true read inv.so_far);
-      counted = omega (arith, inv.counted, ap length c.in_ok-push.ensures.items, length_push c.loop.labels.items c.in_ok-label.label);
+      so_far = rw c.in_ok-push.ensures.items
+          (goes_on field c.loop.labels.items c.args.count c.loop.counter c.loop.fields.rest.now
+          c.in_ok-label.label c.next_u64.new.fields.rest.now
+          (repeated field c.args.count c.args.fields.now.rest.now) c.loop-test.true read
+          inv.so_far);
+      counted =
+          omega (
+            arith,
+            inv.counted,
+            ap length c.in_ok-push.ensures.items,
+            length_push c.loop.labels.items c.in_ok-label.label,
+          );
     }

@@ -6,8 +6,11 @@ use Rattle.iden_files.proofs.labels.repeated_labels.Given as goal
 
 pub record Inv (count end end0 counter : ℕ) (read rest rest0 : List ℕ) : Type 0 where
   pub ends : end ≡ end0
-  pub so_far : with_front read (repeated (label_at end0) (count - counter) rest) ≡ repeated (label_at end0) count rest0
+  pub so_far : with_front read (repeated (label_at end0) (count - counter) rest)
+      ≡ repeated (label_at end0) count rest0
   pub counted : length read ≡ counter
 
 abbrev pub invariant-loop : goal.invariant-loop
-invariant-loop l = Inv l.count l.fields.end l.fn.fields.end l.counter l.labels.items l.fields.rest.now l.fn.fields.rest.now
+invariant-loop l =
+    Inv l.count l.fields.end l.fn.fields.end l.counter l.labels.items l.fields.rest.now
+    l.fn.fields.rest.now

@@ -8,4 +8,10 @@ range_push a (suc n) m e = ap (λ (xs : List ℕ). a ∷ xs) (range_push (a + 1)
 
 pub loop-i-preserved : goal.loop-i-preserved
 loop-i-preserved c =
-    rw (c.in_ok-push.ensures.items, c.from.ensures, c.loop-i.invariant, add-one, range_push 0 c.loop-i.i c.loop-i.i (omega arith))
+    rw (
+      c.in_ok-push.ensures.items,
+      c.from.ensures,
+      c.loop-i.invariant,
+      add-one,
+      range_push 0 c.loop-i.i c.loop-i.i (omega arith),
+    )

@@ -9,6 +9,9 @@ pub loop-t-preserved : goal.loop-t-preserved
 loop-t-preserved c =
     let inv = c.loop-t.invariant in
     record {
-      bytes = wrote_more term_bytes c.args.terms.now c.loop-t.t-index c.t-item.result c.args.out.now.items c.loop-t.out.items c.put_term.new.out.items c.loop-t-test.true c.t-item.is inv.bytes c.in_ok-put_term.ensures.bytes;
-      below = holds_more (λ (t : Term). t.coef < P) c.args.terms.now c.loop-t.t-index c.t-item.result c.loop-t-test.true c.t-item.is inv.below c.in_ok-put_term.ensures.below;
+      bytes = wrote_more term_bytes c.args.terms.now c.loop-t.t-index c.t-item.result
+          c.args.out.now.items c.loop-t.out.items c.put_term.new.out.items c.loop-t-test.true
+          c.t-item.is inv.bytes c.in_ok-put_term.ensures.bytes;
+      below = holds_more (λ (t : Term). t.coef < P) c.args.terms.now c.loop-t.t-index
+          c.t-item.result c.loop-t-test.true c.t-item.is inv.below c.in_ok-put_term.ensures.below;
     }

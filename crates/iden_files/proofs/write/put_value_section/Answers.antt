@@ -9,6 +9,10 @@ use Rattle.iden_files.proofs.write.put_value_section.Goals as goal
 pub returns-clause-bytes : goal.returns-clause-bytes
 returns-clause-bytes c =
     let body = flat_map (to_le_bytes w64) c.args.values.now in
-    let Head : ℕ → Type 0 = λ n. c.put_section_head.new.out.items ≡ c.args.out.now.items ++ section_head 2 n in
+    let Head : ℕ → Type 0 =
+    λ n. c.put_section_head.new.out.items ≡ c.args.out.now.items ++ section_head 2 n in
     let head = subst Head (sym (words_len c.args.values.now)) c.in_ok-put_section_head.ensures in
-    on_ok_weaker c.put_values.result (λ e. appended c.args.out.now.items (section_head 2 (length body)) body c.put_section_head.new.out.items c.put_values.new.out.items head e) c.put_values.ensures.bytes
+    on_ok_weaker c.put_values.result
+    (λ e. appended c.args.out.now.items (section_head 2 (length body)) body
+    c.put_section_head.new.out.items c.put_values.new.out.items head e)
+    c.put_values.ensures.bytes

@@ -11,16 +11,27 @@ use Rattle.iden_files.proofs.write.write_r1cs.Goals as goal
 
 pub returns-clause-bytes : goal.returns-clause-bytes
 returns-clause-bytes c =
-    let ks : c.as_slice.result.now ≡ c.args.file.now.constraints = c.as_slice.ensures ∙ ap (λ (f : File). f.constraints) c.file.view_is in
-    let ls : c.as_slice-2.result.now ≡ c.args.file.now.labels = c.as_slice-2.ensures ∙ ap (λ (f : File). f.labels) c.file.view_is in
-    let Second : List Constraint → Type 0 = λ xs. c.put_constraint_section.new.out.items ≡ c.put_sizes.new.out.items ++ section 2 (flat_map constraint_bytes xs) in
-    let Third : List ℕ → Type 0 = λ xs. c.put_label_section.new.out.items ≡ c.put_constraint_section.new.out.items ++ section 3 (flat_map (to_le_bytes w64) xs) in
-    file_put c.args.file.now c.new-out.result.items c.put_header.new.out.items c.put_sizes.new.out.items c.put_constraint_section.new.out.items c.put_label_section.new.out.items c.new-out.ensures.items c.in_ok-put_header.ensures c.in_ok-put_sizes.ensures.bytes (subst Second ks c.in_ok-put_constraint_section.ensures.bytes) (subst Third ls c.in_ok-put_label_section.ensures.bytes)
+    let ks : c.as_slice.result.now ≡ c.args.file.now.constraints =
+    c.as_slice.ensures ∙ ap (λ (f : File). f.constraints) c.file.view_is in
+    let ls : c.as_slice-2.result.now ≡ c.args.file.now.labels =
+    c.as_slice-2.ensures ∙ ap (λ (f : File). f.labels) c.file.view_is in
+    let Second : List Constraint → Type 0 = λ xs. c.put_constraint_section.new.out.items
+    ≡ c.put_sizes.new.out.items ++ section 2 (flat_map constraint_bytes xs) in
+    let Third : List ℕ → Type 0 = λ xs. c.put_label_section.new.out.items
+    ≡ c.put_constraint_section.new.out.items ++ section 3 (flat_map (to_le_bytes w64) xs) in
+    file_put c.args.file.now c.new-out.result.items c.put_header.new.out.items
+    c.put_sizes.new.out.items c.put_constraint_section.new.out.items
+    c.put_label_section.new.out.items c.new-out.ensures.items c.in_ok-put_header.ensures
+    c.in_ok-put_sizes.ensures.bytes
+    (subst Second ks c.in_ok-put_constraint_section.ensures.bytes)
+    (subst Third ls c.in_ok-put_label_section.ensures.bytes)
 
 pub returns-clause-read_back : goal.returns-clause-read_back
 returns-clause-read_back c =
-    let ks : c.as_slice.result.now ≡ c.args.file.now.constraints = c.as_slice.ensures ∙ ap (λ (f : File). f.constraints) c.file.view_is in
-    let ls : c.as_slice-2.result.now ≡ c.args.file.now.labels = c.as_slice-2.ensures ∙ ap (λ (f : File). f.labels) c.file.view_is in
+    let ks : c.as_slice.result.now ≡ c.args.file.now.constraints =
+    c.as_slice.ensures ∙ ap (λ (f : File). f.constraints) c.file.view_is in
+    let ls : c.as_slice-2.result.now ≡ c.args.file.now.labels =
+    c.as_slice-2.ensures ∙ ap (λ (f : File). f.labels) c.file.view_is in
     let Labels : List ℕ → Type 0 = λ xs. All (λ n. n < 2 ^ 64) xs in
     let Forms : List Constraint → Type 0 = λ xs. All HasForms xs in
     let whole : IsWhole c.args.file.now = record {
@@ -29,4 +40,10 @@ returns-clause-read_back c =
       labels = subst Labels ls c.in_ok-put_label_section.ensures.fits;
       forms = subst Forms ks c.in_ok-put_constraint_section.ensures.forms;
     } in
-    ap r1cs_of (returns-clause-bytes c) ∙ file_again c.args.file.now whole (record { wires = c.requires.wires; constraints = c.requires.constraints; terms = c.requires.terms })
+    ap r1cs_of (returns-clause-bytes c)
+    ∙ file_again c.args.file.now whole
+    (record {
+      wires = c.requires.wires;
+      constraints = c.requires.constraints;
+      terms = c.requires.terms;
+    })

@@ -9,10 +9,14 @@ use Rattle.iden_files.proofs.wtns_reading.repeated_values.Goals as goal
 
 pub returns-in_err-v-clause-read : goal.returns-in_err-v-clause-read
 returns-in_err-v-clause-read c =
-    let p = err_from_is_err_and c.from_residual-in_err-v.result c.from_residual-in_err-v.ensures.1 in
+    let p = err_from_is_err_and c.from_residual-in_err-v.result
+    c.from_residual-in_err-v.ensures.1 in
     let field = value_at c.args.fields.now.end in
     let read = rw c.loop.invariant.ends at c.in_err-v.ensures.read in
-    rw (p.1, p.2) (field_fails field c.in_err-v.field-0.0 c.loop.values.items c.args.count c.loop.counter c.loop.fields.rest.now (repeated field c.args.count c.args.fields.now.rest.now) c.loop-test.true read c.loop.invariant.so_far)
+    rw (p.1, p.2)
+    (field_fails field c.in_err-v.field-0.0 c.loop.values.items c.args.count c.loop.counter
+    c.loop.fields.rest.now (repeated field c.args.count c.args.fields.now.rest.now)
+    c.loop-test.true read c.loop.invariant.so_far)
 
 pub loop-preserved : goal.loop-preserved
 loop-preserved c =
@@ -21,6 +25,16 @@ loop-preserved c =
     let read = rw inv.ends at c.in_ok-v.ensures.read in
     record {
       ends = c.in_ok-v.ensures.end ∙ inv.ends;
-      so_far = rw c.in_ok-push.ensures.items (goes_on field c.loop.values.items c.args.count c.loop.counter c.loop.fields.rest.now c.in_ok-v.v c.next_value.new.fields.rest.now (repeated field c.args.count c.args.fields.now.rest.now) c.loop-test.true read inv.so_far);
-      counted = omega (arith, inv.counted, ap length c.in_ok-push.ensures.items, length_push c.loop.values.items c.in_ok-v.v);
+      so_far = rw c.in_ok-push.ensures.items
+          (goes_on field c.loop.values.items c.args.count c.loop.counter c.loop.fields.rest.now
+          c.in_ok-v.v c.next_value.new.fields.rest.now
+          (repeated field c.args.count c.args.fields.now.rest.now) c.loop-test.true read
+          inv.so_far);
+      counted =
+          omega (
+            arith,
+            inv.counted,
+            ap length c.in_ok-push.ensures.items,
+            length_push c.loop.values.items c.in_ok-v.v,
+          );
     }

@@ -6,4 +6,6 @@ use Rattle.lig_layout.proofs.matrix.side_values.Given as goal
 -- the values of the constraints so far
 abbrev pub invariant-loop-constraint : goal.invariant-loop-constraint
 invariant-loop-constraint l =
-    l.values.items ≡ map (λ k. value_at (slice_index l.w) (form_of l.side k)) (take l.constraint-index l.constraints)
+    l.values.items
+    ≡ map (λ k. value_at (slice_index l.w) (form_of l.side k))
+    (take l.constraint-index l.constraints)

@@ -5,4 +5,5 @@ use Rattle.lig_merkle.proofs.hash.absorb.Given as goal
 
 -- the values so far have been added
 abbrev pub invariant-loop-value : goal.invariant-loop-value
-invariant-loop-value l = Absorbs (column_bytes (take l.value-index l.values)) l.initial.hasher l.hasher
+invariant-loop-value l =
+    Absorbs (column_bytes (take l.value-index l.values)) l.initial.hasher l.hasher

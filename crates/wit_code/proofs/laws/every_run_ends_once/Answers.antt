@@ -7,4 +7,5 @@ returns-clause-ends c = λ procs code reads fuel w. ends_so procs code reads fue
 
 pub returns-clause-once : goal.returns-clause-once
 returns-clause-once c =
-    λ procs code reads fuel a b r s. one_outcome procs code reads r.0 s.0 (start_of code fuel) a b r.1 s.1
+    λ procs code reads fuel a b r s. one_outcome procs code reads r.0 s.0
+    (start_of code fuel) a b r.1 s.1

@@ -7,4 +7,5 @@ use Rattle.wit_code.proofs.well_formed.are_procs.Given as goal
 
 abbrev pub invariant-loop-proc : goal.invariant-loop-proc
 invariant-loop-proc l =
-    (k : ℕ) → k < l.proc-index → (callee : Proc) → slice_get l.procs k ≡ Some callee → IsCode l.procs InProc callee
+    (k : ℕ) → k < l.proc-index → (callee : Proc) → slice_get l.procs k ≡ Some callee
+    → IsCode l.procs InProc callee

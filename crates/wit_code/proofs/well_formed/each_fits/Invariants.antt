@@ -6,4 +6,5 @@ use Rattle.wit_code.proofs.well_formed.each_fits.Given as goal
 
 abbrev pub invariant-loop-place : goal.invariant-loop-place
 invariant-loop-place l =
-    (k : ℕ) → k < l.place → (op : Op) → slice_get l.code.body k ≡ Some op → Fits l.procs l.stands l.code k op
+    (k : ℕ) → k < l.place → (op : Op) → slice_get l.code.body k ≡ Some op
+    → Fits l.procs l.stands l.code k op

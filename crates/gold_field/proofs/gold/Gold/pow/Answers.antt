@@ -15,9 +15,12 @@ loop-i-preserved c = record {
   power = elim c.if-rest-eq1.branch [
     | then-rest-eq1 w ↦
         rw (w.power-is, w.mul-power.ensures, c.mul-square.ensures)
-        (odd_turn P c.loop-i.power c.loop-i.square c.loop-i.rest (sym (and_mask c.loop-i.rest 1) ∙ w.if-rest-eq1.true) ∙ c.loop-i.invariant.power)
+        (odd_turn P c.loop-i.power c.loop-i.square c.loop-i.rest (sym (and_mask c.loop-i.rest 1)
+        ∙ w.if-rest-eq1.true) ∙ c.loop-i.invariant.power)
     | else-rest-eq1 w ↦
         rw (w.power-is, c.mul-square.ensures)
-        (even_turn P c.loop-i.power c.loop-i.square c.loop-i.rest (omega (arith, and_mask c.loop-i.rest 1, w.if-rest-eq1.false)) ∙ c.loop-i.invariant.power)
+        (even_turn P c.loop-i.power c.loop-i.square c.loop-i.rest
+        (omega (arith, and_mask c.loop-i.rest 1, w.if-rest-eq1.false))
+        ∙ c.loop-i.invariant.power)
   ];
 }

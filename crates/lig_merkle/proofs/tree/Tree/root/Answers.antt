@@ -13,5 +13,6 @@ returns c =
     let IsRoot : Leaves → Type 0 = λ t. c.index.result.now ≡ root_at t.depth t.hashes in
     subst IsRoot c.self.view_is
     (get_or_read c.self.inside.nodes.items 1 c.index.result.now within c.index.ensures []
-    ∙ below c.self.inside.depth 0 (2 ^ c.self.inside.depth) 1 c.self.inside.nodes.items c.self.invariant.joined (ap (λ n. 2 ^ n) (omega arith)) (omega arith) (omega arith)
+    ∙ below c.self.inside.depth 0 (2 ^ c.self.inside.depth) 1 c.self.inside.nodes.items
+    c.self.invariant.joined (ap (λ n. 2 ^ n) (omega arith)) (omega arith) (omega arith)
     ∙ ap (λ n. root_at c.self.inside.depth (drop n c.self.inside.nodes.items)) (omega arith))

@@ -5,4 +5,8 @@ use Rattle.wit_code.proofs.frames.Frames.depth.Goals as goal
 
 pub returns : goal.returns
 returns c =
-    omega (arith, length_opened [] c.self.inside.callers.items c.self.inside.numbers.items, ap (λ (f : Frames). length f.open_calls) c.self.view_is)
+    omega (
+      arith,
+      length_opened [] c.self.inside.callers.items c.self.inside.numbers.items,
+      ap (λ (f : Frames). length f.open_calls) c.self.view_is,
+    )
