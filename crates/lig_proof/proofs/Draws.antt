@@ -1,7 +1,8 @@
 -- Drawing numbers one after another.
-use Rattle.std.proofs.Common.{◌≡◌, ℕ, suc, ◌+◌, ◌-◌, ◌*◌, ◌<◌, List, [], ◌∷◌, ◌++◌, sym, ap, ◌∙◌, append_assoc, arith, All, map, ◌%◌, zero-add}
+use Rattle.std.proofs.Common.{◌≡◌, ℕ, zero, suc, refl, length, ◌+◌, ◌-◌, ◌*◌, ◌<◌, List, [], ◌∷◌, ◌++◌, sym, ap, ◌∙◌, append_assoc, arith, All, map, ◌%◌, zero-add}
 use Rattle.std.proofs.lemmas.List.FromFn.{length-map-range_with_len, get_or-map-range_with_len}
 use Rattle.std.proofs.lemmas.Nat.{mod_below}
+use Rattle.std.proofs.lemmas.List.{length-append}
 use Rattle.std.specs.List.{range_with_len}
 use Rattle.rand_chacha.specs.ChaCha.{ChaCha}
 use Rattle.lig_proof.specs.Drawing.{number_at, numbers_of}
@@ -35,3 +36,19 @@ each_below f n m pos = λ k d within.
     let is = get_or-map-range_with_len (λ q. f q % m) 0 n k k d inside (zero-add k) in
     let low = mod_below (f k) m pos in
     omega (arith, is, low)
+
+-- as many as are asked for
+pub length-numbers_of : (key : List ℕ) (stream place n : ℕ) → length (numbers_of key stream place n) ≡ n
+length-numbers_of key stream place zero = refl
+length-numbers_of key stream place (suc n) = ap suc (length-numbers_of key stream (place + 2) n)
+
+-- numbers for two repetitions, in a list that was empty
+pub length_twice : (n : ℕ) (first second : ChaCha) (start once twice : List ℕ) → start ≡ []
+    → once ≡ start ++ numbers_of first.key first.stream first.word_pos n → twice ≡ once ++ numbers_of second.key second.stream second.word_pos n → length twice ≡ 2 * n
+length_twice n first second start once twice e f g =
+    let one = numbers_of first.key first.stream first.word_pos n in
+    let two = numbers_of second.key second.stream second.word_pos n in
+    let none = ap length e in
+    let half = ap length f in
+    let whole = ap length g in
+    omega (arith, length-append start one, length-append once two, length-numbers_of first.key first.stream first.word_pos n, length-numbers_of second.key second.stream second.word_pos n)

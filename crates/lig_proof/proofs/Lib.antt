@@ -1,4 +1,13 @@
+pub mod AnyWhole
 pub mod Draws
+pub mod Interpolants
 pub mod Loops
+pub mod MadeOnce
+pub mod Once
+pub mod PointSums
+pub mod SharedSteps
+pub mod SharedWhole
 pub mod Takes
+pub mod TestValues
+pub mod VerdictOnce
 pub mod Whole

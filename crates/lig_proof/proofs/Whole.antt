@@ -81,7 +81,7 @@ proof_takes p bytes proof h e =
 
 -- ---- and back
 
-each_of : {A : Type 0} (F : A → Type 0) (xs : List A) → AllByRecursion F xs → Each F xs
+pub each_of : {A : Type 0} (F : A → Type 0) (xs : List A) → AllByRecursion F xs → Each F xs
 each_of F [] h = tt
 each_of F (x ∷ xs) h = (h.0, each_of F xs h.1)
 
@@ -99,11 +99,11 @@ value_again end = record {
       ((u64_again end).again v rest (omega arith)) (lt-ltb v P fits);
 }
 
-hash_again : (end : ℕ) → ReadsBack (hash_at end) (λ hash. hash) IsHash
+pub hash_again : (end : ℕ) → ReadsBack (hash_at end) (λ hash. hash) IsHash
 unfolding hash_at
 hash_again end = record { again = λ hash rest fits. ap (λ r. or_short r end) (front_again hash rest 32 fits.count) }
 
-values_again : (end n : ℕ) (values rest : List ℕ) → AreValues n values → repeated (value_at end) n (column_bytes values ++ rest) ≡ Ok (values, rest)
+pub values_again : (end n : ℕ) (values rest : List ℕ) → AreValues n values → repeated (value_at end) n (column_bytes values ++ rest) ≡ Ok (values, rest)
 values_again end n values rest fit =
     ap (λ k. repeated (value_at end) k (column_bytes values ++ rest)) (sym fit.count)
     ∙ repeated_again (value_at end) (to_le_bytes w64) (λ value. value < P) (value_again end) values rest (each_of (λ value. value < P) values fit.each)

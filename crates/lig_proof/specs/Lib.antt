@@ -2,3 +2,14 @@ pub mod ProofBytes
 pub mod Reading
 pub mod Transcript
 pub mod Drawing
+pub mod Points
+pub mod Encoding
+pub mod Masks
+pub mod Columns
+pub mod Tests
+pub mod Audit
+pub mod SharedProof
+pub mod Proving
+pub mod Values
+pub mod SharedReading
+pub mod Acceptance

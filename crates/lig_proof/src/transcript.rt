@@ -1,11 +1,11 @@
 //! The challenges.
 
-ghost use Rattle.std.specs.Prelude.{◌≡◌, ◌<◌, ◌*◌, ◌^◌, All, IfOk, length};
+ghost use Rattle.std.specs.Prelude.{◌≡◌, ◌<◌, ◌*◌, ◌^◌, All, IfOk, length, vec_len};
 ghost use Rattle.lig_layout.specs.Sizes.{IsParams};
 ghost use Rattle.lig_proof.specs.Transcript.{first_key, second_key, challenges_of, opened_columns};
 
 use crate::challenge::{Challenges, OPENED};
-use crate::draw::{draw, next_column};
+use crate::drawing::{draw, next_column};
 use gold_field::Gold;
 use items::Items;
 use lig_layout::Params;
@@ -29,8 +29,11 @@ pub fn challenges(
 ) -> Result<Challenges, AllocError>
     requires params { IsParams params.now }
     requires publics { length publics.now < 2 ^ 32 }
-    ensures { IfOk result (λ c. c
+    ensures value { IfOk result (λ c. c
         ≡ challenges_of params.now equations (first_key r1cs_bytes.now publics.now root.now)) }
+    ensures alpha { IfOk result (λ c. length c.alpha ≡ 2 * params.now.rows) }
+    ensures r { IfOk result (λ c. length c.r ≡ 2 * equations) }
+    ensures rho { IfOk result (λ c. length c.rho ≡ 2 * params.now.constraint_rows) }
 {
     let first = first_key(r1cs_bytes, publics, root);
     let mut words = ChaCha20Rng::from_seed(first);
@@ -61,6 +64,7 @@ pub fn queries(
 ) -> Result<Vec<u32>, AllocError>
     requires { IsParams params.now }
     ensures columns { IfOk result (λ v. v.items ≡ opened_columns params.now first.now polys.now) }
+    ensures count { IfOk result (λ v. vec_len v ≡ 96) }
     ensures below { IfOk result (λ v. All (λ column. column < 8 * params.now.l) v.items) }
 {
     let mut words = ChaCha20Rng::from_seed(second_key(first, polys));
@@ -72,7 +76,8 @@ pub fn queries(
     Ok(opened)
 }
 
-fn first_key(r1cs_bytes: &[u8], publics: &[Gold], root: &Hash) -> Hash
+/// The first key, of the relation, the public values and the root.
+pub fn first_key(r1cs_bytes: &[u8], publics: &[Gold], root: &Hash) -> Hash
     requires { length publics.now < 2 ^ 32 }
     ensures { result ≡ first_key r1cs_bytes.now publics.now root.now }
 {

@@ -1,8 +1,9 @@
 //! Writing a proof.
 
-ghost use Rattle.std.specs.Prelude.{◌≡◌, ◌++◌, IfOk, OnOk, length};
+ghost use Rattle.std.specs.Prelude.{◌≡◌, ◌++◌, IfOk, OnOk, codes, length};
+ghost use Rattle.std.specs.Int.{w32, to_le_bytes};
 ghost use Rattle.std.specs.List.{flat_map};
-ghost use Rattle.lig_proof.specs.ProofBytes.{proof_bytes, head_bytes, hashes_bytes, openings_bytes};
+ghost use Rattle.lig_proof.specs.ProofBytes.{proof_bytes, hashes_bytes, openings_bytes};
 ghost use Rattle.lig_merkle.specs.Merkle.{column_bytes};
 ghost use Rattle.lig_proof.specs.declared.challenge.TheConstants.{OPENED};
 
@@ -20,27 +21,28 @@ pub fn write_proof(alloc: Global, proof: &Proof) -> Result<Vec<u8>, AllocError>
     ensures { IfOk result (λ v. v.items ≡ proof_bytes proof.now) }
 {
     let mut out = Vec::new(alloc);
-    put_head(&mut out)?;
+    put_head(&mut out, 1)?;
     put_hash(&mut out, &proof.root)?;
     put_values(&mut out, proof.polys.as_slice())?;
     put_openings(&mut out, proof.columns.as_slice(), proof.paths.as_slice())?;
     Ok(out)
 }
 
-fn put_head(out: &mut Vec<u8>) -> Result<(), AllocError>
-    ensures { OnOk result (out.new.items ≡ out.old.items ++ head_bytes) }
+pub fn put_head(out: &mut Vec<u8>, version: u32) -> Result<(), AllocError>
+    ensures { OnOk result (out.new.items
+        ≡ out.old.items ++ (codes "ligg" ++ to_le_bytes w32 version)) }
 {
     out.extend_from_slice(b"ligg")?;
-    put_u32(out, 1)
+    put_u32(out, version)
 }
 
-fn put_hash(out: &mut Vec<u8>, hash: &Hash) -> Result<(), AllocError>
+pub fn put_hash(out: &mut Vec<u8>, hash: &Hash) -> Result<(), AllocError>
     ensures { OnOk result (out.new.items ≡ out.old.items ++ hash.now) }
 {
     out.extend_from_slice(hash)
 }
 
-fn put_values(out: &mut Vec<u8>, values: &[Gold]) -> Result<(), AllocError>
+pub fn put_values(out: &mut Vec<u8>, values: &[Gold]) -> Result<(), AllocError>
     ensures { OnOk result (out.new.items ≡ out.old.items ++ column_bytes values.now) }
 {
     for value in values {
@@ -49,7 +51,7 @@ fn put_values(out: &mut Vec<u8>, values: &[Gold]) -> Result<(), AllocError>
     Ok(())
 }
 
-fn put_hashes(out: &mut Vec<u8>, hashes: &[Hash]) -> Result<(), AllocError>
+pub fn put_hashes(out: &mut Vec<u8>, hashes: &[Hash]) -> Result<(), AllocError>
     ensures { OnOk result (out.new.items ≡ out.old.items ++ hashes_bytes hashes.now) }
 {
     for hash in hashes {

@@ -1,6 +1,6 @@
 use Rattle.std.proofs.Common.{◌+◌, List, ℕ, sym, subst}
 use Rattle.lig_proof.proofs.Draws.{Drawing, drawn_more}
-use Rattle.lig_proof.proofs.draw.draw.Goals as goal
+use Rattle.lig_proof.proofs.drawing.draw.Goals as goal
 
 pub loop-preserved : goal.loop-preserved
 loop-preserved c =

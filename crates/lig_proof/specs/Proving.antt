@@ -1,0 +1,84 @@
+-- What a prover makes of a relation, the values of its vectors and a seed.
+use Rattle.std.specs.Prelude.{◌≡◌, ℕ, ◌*◌, ◌<◌, List, [], map, slice_index_or}
+use Rattle.iden_files.specs.File.{File}
+use Rattle.lig_layout.specs.declared.params.Params.{Params}
+use Rattle.lig_layout.specs.declared.matrix.Vectors.{Vectors}
+use Rattle.lig_layout.specs.Sizes.{params_of, IsParams}
+use Rattle.lig_layout.specs.Layout.{message, row_at}
+use Rattle.lig_layout.specs.Laws.{publics_of}
+use Rattle.lig_layout.specs.System.{combined, left_sides, equation_count}
+use Rattle.lig_merkle.specs.Merkle.{path_at}
+use Rattle.lig_merkle.specs.Shared.{shared_nodes}
+use Rattle.lig_proof.specs.declared.challenge.Challenges.{Challenges}
+use Rattle.lig_proof.specs.declared.version.Version.{Version}
+use Rattle.lig_proof.specs.declared.version.Version.TheVariants.{One, Two}
+use Rattle.lig_proof.specs.ProofBytes.{proof_bytes}
+use Rattle.lig_proof.specs.SharedProof.{opened_once, proof2_bytes}
+use Rattle.lig_proof.specs.Transcript.{first_key, challenges_of, opened_columns}
+use Rattle.lig_proof.specs.Encoding.{IsCode, InterpolateRows}
+use Rattle.lig_proof.specs.Masks.{row_mask, code_mask, linear_mask, product_mask}
+use Rattle.lig_proof.specs.Columns.{Encoded, column_at, leaves, commitment}
+use Rattle.lig_proof.specs.Tests.{r_numbers, in_order, sent_polynomials}
+
+-- the encoded matrix of the vectors, with the masks that the seed gives
+pub record IsEncoded (p : Params) (v : Vectors) (seed : List ℕ) (e : Encoded) : Type 0 where
+  pub row : (k : ℕ) → k < p.rows
+      → IsCode p (row_at p (message p v) k) (row_mask p seed k) (e.row k)
+  pub code : (t : ℕ) → t < 2 → e.code t ≡ code_mask p seed t
+  pub linear : (t : ℕ) → t < 2 → e.linear t ≡ linear_mask p seed t
+  pub product : (t : ℕ) → t < 2 → e.product t ≡ product_mask p seed t
+
+-- the polynomials of the rows of the linear system, combined by the numbers of each repetition
+abbrev pub AreSystems : File → Challenges → (ℕ → ℕ → List ℕ) → Type 0
+AreSystems f c system = (t : ℕ) → t < 2 → (let p = params_of f in
+    let numbers = r_numbers (equation_count f) c t in
+    InterpolateRows p (combined (p.rows * p.l) numbers (left_sides p f)) (system t))
+
+-- the first key and the challenges, for these public values and this commitment
+abbrev pub challenges_for : List ℕ → File → List ℕ → List ℕ → Challenges
+challenges_for r1cs_bytes f publics root =
+    challenges_of (params_of f) (equation_count f) (first_key r1cs_bytes publics root)
+
+-- the proof that opens these columns, each with its path
+abbrev pub first_proof_bytes : Params → Encoded → List ℕ → List ℕ → List ℕ
+first_proof_bytes p e polys drawn = proof_bytes (record {
+  root = commitment p e;
+  polys = polys;
+  columns = map (column_at p e) drawn;
+  paths = map (path_at p.depth (leaves p e)) drawn;
+})
+
+-- and the one with shared nodes
+abbrev pub second_proof_bytes : Params → Encoded → List ℕ → List ℕ → List ℕ
+second_proof_bytes p e polys drawn =
+    let opened = opened_once p drawn in
+    proof2_bytes (record {
+      root = commitment p e;
+      polys = polys;
+      columns = map (column_at p e) opened;
+      nodes = shared_nodes p.depth (λ i. slice_index_or (leaves p e) i []) opened;
+    })
+
+abbrev pub bytes_in : Version → Params → Encoded → List ℕ → List ℕ → List ℕ
+bytes_in One = first_proof_bytes
+bytes_in Two = second_proof_bytes
+
+-- the bytes of a proof, as a prover makes them
+pub record AreMade (version : Version) (r1cs_bytes : List ℕ) (f : File) (v : Vectors)
+    (seed bytes : List ℕ) : Type 0 where
+  pub encoded : Encoded
+  pub challenges : Challenges
+  pub system : ℕ → ℕ → List ℕ
+  pub rows : IsEncoded (params_of f) v seed encoded
+  pub drawn : (let root = commitment (params_of f) encoded in
+      challenges ≡ challenges_for r1cs_bytes f (publics_of f v.w) root)
+  pub systems : AreSystems f challenges system
+  pub spelled : (let p = params_of f in
+      let polys = in_order (sent_polynomials p challenges encoded system) in
+      bytes ≡ bytes_in version p encoded polys (opened_columns p challenges.first polys))
+
+-- in each version there is one such proof
+abbrev pub ProofsAreOne : Type 0
+ProofsAreOne = (version : Version) (r1cs_bytes : List ℕ) (f : File) (v : Vectors)
+    (seed xs ys : List ℕ) → IsParams (params_of f) → AreMade version r1cs_bytes f v seed xs
+    → AreMade version r1cs_bytes f v seed ys → xs ≡ ys

@@ -1,0 +1,24 @@
+use crate::proof::Proof;
+use gold_field::Gold;
+use items::Items;
+use lig_merkle::Hash;
+
+/// A proof of version 2: each opened column and each node on the ways to the root once.
+#[derive(Debug, Drop)]
+pub struct Proof2 {
+    /// The root over the columns of the encoded matrix.
+    pub root: Hash,
+    /// The coefficients of the six polynomials, as in version 1.
+    pub polys: Items<Gold>,
+    /// The opened columns, by rising index.
+    pub columns: Items<Items<Gold>>,
+    /// The nodes that lead from these columns to the root.
+    pub nodes: Items<Hash>,
+}
+
+/// A proof of either version.
+#[derive(Debug, Drop)]
+pub enum AnyProof {
+    First(Proof),
+    Second(Proof2),
+}
