@@ -1,0 +1,14 @@
+pub mod Sizes
+pub mod Matrix
+pub mod Folding
+pub mod Codes
+pub mod Columns
+pub mod Places
+pub mod Solved
+pub mod AtColumns
+pub mod AtMessage
+pub mod Hashes
+pub mod Opened
+pub mod Messages
+pub mod Spelled
+pub mod Accepted
