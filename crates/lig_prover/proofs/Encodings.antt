@@ -1,0 +1,99 @@
+-- The matrix that the rows and the masks make.
+use Rattle.std.proofs.Common.{◌≡◌, ℕ, zero, suc, ◌+◌, ◌-◌, ◌*◌, ◌<◌, ◌≤◌, List, [], ◌++◌, length, get_or, replicate, sym, ap, subst, ◌∙◌, arith}
+use Rattle.std.specs.List.{AllZip, range_with_len}
+use Rattle.std.proofs.lemmas.List.{get_or_append_left, get_or-append-add, length-append, length-replicate}
+use Rattle.lig_layout.specs.declared.params.Params.{Params}
+use Rattle.lig_layout.specs.declared.matrix.Vectors.{Vectors}
+use Rattle.lig_layout.specs.Sizes.{IsParams}
+use Rattle.lig_layout.specs.Layout.{message, padded, row_at}
+use Rattle.lig_proof.specs.Encoding.{IsCode}
+use Rattle.lig_proof.specs.Masks.{row_mask, code_mask, linear_mask, product_mask}
+use Rattle.lig_proof.specs.Proving.{IsEncoded}
+use Rattle.lig_prover.specs.Matrix.{encoded_by, test_masks}
+use Rattle.lig_prover.proofs.Collected.{at_first, placed_length}
+
+-- the vectors fit their rows
+pub record FitRows (p : Params) (v : Vectors) : Type 0 where
+  pub w : length v.w ≤ p.wire_rows * p.l
+  pub x : length v.x ≤ p.constraint_rows * p.l
+  pub y : length v.y ≤ p.constraint_rows * p.l
+  pub z : length v.z ≤ p.constraint_rows * p.l
+
+length-padded : (n : ℕ) (values : List ℕ) → length values ≤ n → length (padded n values) ≡ n
+length-padded n values l =
+    omega (
+      arith,
+      length-append values (replicate (n - length values) 0),
+      length-replicate {A = ℕ}
+          (n - length values) 0,
+    )
+
+pub length-message : (p : Params) (v : Vectors) → IsParams p → FitRows p v
+    → length (message p v) ≡ p.rows * p.l
+length-message p v h fit =
+    let side = p.constraint_rows * p.l in
+    let wires = p.wire_rows * p.l in
+    let w = length-padded wires v.w fit.w in
+    let x = length-padded side v.x fit.x in
+    let y = length-padded side v.y fit.y in
+    let z = length-padded side v.z fit.z in
+    let last = length-append (padded side v.y) (padded side v.z) in
+    let middle = length-append (padded side v.x) (padded side v.y ++ padded side v.z) in
+    let whole = length-append (padded wires v.w)
+    (padded side v.x ++ (padded side v.y ++ padded side v.z)) in
+    let sides : (p.wire_rows + 3 * p.constraint_rows) * p.l
+    ≡ wires + (side + (side + side)) = omega arith in
+    let sum : length (message p v) ≡ wires + (side + (side + side)) = omega
+    (arith, whole, w, middle, x, last, y, z) in
+    sum ∙ sym sides ∙ ap (λ r. r * p.l) (sym h.rows)
+
+-- the rows have these codes
+abbrev pub RowCodes : Params → List ℕ → List ℕ → List (List ℕ) → Type 0
+RowCodes p values seed rows =
+    AllZip (λ k code. IsCode p (row_at p values k) (row_mask p seed k) code)
+    (range_with_len 0 p.rows) rows
+
+mask_at : (p : Params) (seed : List ℕ) (rows : List (List ℕ)) (place k : ℕ)
+    → place ≡ length rows + k
+    → get_or (rows ++ test_masks p seed) place [] ≡ get_or (test_masks p seed) k []
+mask_at p seed rows place k is =
+    ap (λ j. get_or (rows ++ test_masks p seed) j []) is
+    ∙ get_or-append-add rows (test_masks p seed) k []
+
+pub encoded_from : (p : Params) (v : Vectors) (seed values : List ℕ) (rows : List (List ℕ))
+    → values ≡ message p v → RowCodes p values seed rows
+    → IsEncoded p v seed (encoded_by p (rows ++ test_masks p seed))
+encoded_from p v seed values rows is codes =
+    let count : length rows ≡ p.rows = placed_length
+    (λ k code. IsCode p (row_at p values k) (row_mask p seed k) code) 0 p.rows rows codes in
+    record {
+      row = λ k l.
+          let here = get_or_append_left rows (test_masks p seed) [] k (omega arith) in
+          let Code : List ℕ → List ℕ → Type 0 = λ vs code. IsCode p (row_at p vs k)
+          (row_mask p seed k) code in
+          subst (λ code. Code (message p v) code) (sym here)
+          (subst (λ vs. Code vs (get_or rows k [])) is
+          (at_first (λ k code. IsCode p (row_at p values k) (row_mask p seed k) code) p.rows rows []
+          codes k l));
+      code = λ t l. code_at count t l;
+      linear = λ t l. linear_at count t l;
+      product = λ t l. product_at count t l;
+    }
+  where
+    code_at : length rows ≡ p.rows → (t : ℕ) → t < 2
+        → get_or (rows ++ test_masks p seed) (p.rows + t) [] ≡ code_mask p seed t
+    code_at count zero l = mask_at p seed rows (p.rows + 0) 0 (omega arith)
+    code_at count (suc zero) l = mask_at p seed rows (p.rows + 1) 1 (omega arith)
+    code_at count (suc (suc t)) l = absurd (omega arith)
+
+    linear_at : length rows ≡ p.rows → (t : ℕ) → t < 2
+        → get_or (rows ++ test_masks p seed) (p.rows + 2 + t) [] ≡ linear_mask p seed t
+    linear_at count zero l = mask_at p seed rows (p.rows + 2 + 0) 2 (omega arith)
+    linear_at count (suc zero) l = mask_at p seed rows (p.rows + 2 + 1) 3 (omega arith)
+    linear_at count (suc (suc t)) l = absurd (omega arith)
+
+    product_at : length rows ≡ p.rows → (t : ℕ) → t < 2
+        → get_or (rows ++ test_masks p seed) (p.rows + 4 + t) [] ≡ product_mask p seed t
+    product_at count zero l = mask_at p seed rows (p.rows + 4 + 0) 4 (omega arith)
+    product_at count (suc zero) l = mask_at p seed rows (p.rows + 4 + 1) 5 (omega arith)
+    product_at count (suc (suc t)) l = absurd (omega arith)

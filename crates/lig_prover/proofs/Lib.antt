@@ -1,0 +1,6 @@
+pub mod Adding
+pub mod Collected
+pub mod Coset
+pub mod Encodings
+pub mod Made
+pub mod Points

@@ -1,0 +1,67 @@
+use Rattle.std.proofs.Common.{◌≡◌, ◌*◌, length, map, ap, ◌∙◌}
+use Rattle.std.specs.List.{range_with_len}
+use Rattle.std.proofs.lemmas.List.FromFn.{length-map-range_with_len}
+use Rattle.rayon.proofs.ListFacts.{IfOk-then}
+use Rattle.lig_layout.specs.Laws.{publics_of}
+use Rattle.lig_merkle.specs.Merkle.{leaf_hash, root_at}
+use Rattle.lig_proof.specs.Columns.{commitment}
+use Rattle.lig_proof.specs.Proving.{AreMade, bytes_in}
+use Rattle.lig_proof.specs.Transcript.{first_key, challenges_of, opened_columns}
+use Rattle.lig_prover.specs.Matrix.{column_in, encoded_by}
+use Rattle.lig_prover.specs.Spelling.{spelled_by}
+use Rattle.lig_prover.proofs.Made.{made_for, leaves_same, spelled_same}
+use Rattle.lig_prover.proofs.proving.prove_any_as.Goals as goal
+
+pub proof_in-requires-clause-leaves : goal.proof_in-requires-clause-leaves
+proof_in-requires-clause-leaves g c =
+    let p = c.of-params.result in
+    let codes = c.deref.result.now in
+    ap length c.in_ok-tree.ensures.leaves ∙ length-map-range_with_len
+    (λ i. leaf_hash (column_in codes i)) 0 (8 * p.l)
+
+pub proof_in-requires-clause-below : goal.proof_in-requires-clause-below
+proof_in-requires-clause-below g c = rw c.deref-5.ensures.value c.in_ok-opened.ensures.below
+
+pub returns : goal.returns
+returns g c =
+    let p = c.of-params.result in
+    let h = c.of-params.ensures.params in
+    let f = c.args.file.now in
+    let v = c.args.vectors.now in
+    let seed = c.args.seed in
+    let version = c.args.version in
+    let r1cs_bytes = c.args.r1cs_bytes.now in
+    let polys = c.in_ok-polynomials.polynomials.items in
+    let codes = c.in_ok-polynomials.codes.items in
+    let are = c.in_ok-polynomials.ensures.codes in
+    let e = encoded_by p polys in
+    let challenges = c.in_ok-drawn.drawn in
+    let all = c.in_ok-polys.polys.items in
+    let opened = c.in_ok-opened.opened.items in
+    let tree = c.in_ok-tree.tree.hashes in
+    let hashes = c.in_ok-tree.ensures.leaves
+    ∙ ap (λ cs. map (λ i. leaf_hash (column_in cs i)) (range_with_len 0 (8 * p.l)))
+    c.deref.ensures.value
+    ∙ leaves_same p polys codes h are in
+    let root : c.root.result ≡ commitment p e =
+    c.root.ensures ∙ (λ i. root_at (c.in_ok-tree.ensures.depth i) (hashes i)) in
+    let publics = c.publics_of-publics.ensures ∙ ap (publics_of f) c.as_slice.ensures in
+    let equations = c.equation_count-equations.ensures in
+    let sent = c.in_ok-polys.ensures in
+    let columns = c.in_ok-opened.ensures.columns
+    ∙ ap (opened_columns p challenges.first) (c.deref-3.ensures.value ∙ sent.2) in
+    IfOk-then c.proof_in.result _ (λ bytes. AreMade version r1cs_bytes f v seed bytes.items)
+    c.proof_in.ensures
+    (λ bytes made. made_for p version r1cs_bytes f v seed bytes.items polys challenges sent.0
+    c.of-params.ensures.value
+    (record {
+      rows = c.in_ok-polynomials.ensures.encoded;
+      drawn = c.in_ok-drawn.ensures.value ∙ (λ i. challenges_of p (equations i)
+          (first_key r1cs_bytes (publics i) (root i)));
+      systems = sent.1;
+      spelled = made ∙ (λ i. spelled_by version p tree (c.deref-4.ensures.value i) all
+          (c.deref-5.ensures.value i))
+          ∙ spelled_same version p polys codes tree all opened h are hashes
+          c.in_ok-opened.ensures.below
+          ∙ (λ i. bytes_in version p e (sent.2 i) (columns i));
+    }))

@@ -1,0 +1,10 @@
+use Rattle.std.proofs.Common.{[]}
+use Rattle.rayon.proofs.ListFacts.{IfOk-then}
+use Rattle.lig_prover.specs.Transform.{values_at}
+use Rattle.lig_prover.proofs.Collected.{mapped}
+use Rattle.lig_prover.proofs.rows.evaluated.Goals as goal
+
+pub returns : goal.returns
+returns g c =
+    IfOk-then c.each_place.result _ _ c.each_place.ensures
+    (λ v h. mapped (values_at c.args.log) c.args.polynomials.now [] v.items h)

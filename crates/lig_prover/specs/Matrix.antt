@@ -1,0 +1,72 @@
+-- The encoded matrix as code keeps it: its polynomials in the order of a column, and their codes.
+use Rattle.std.specs.Prelude.{◌≡◌, ℕ, ◌+◌, ◌-◌, ◌*◌, ◌%◌, ◌<◌, List, [], ◌∷◌, length, map, slice_index, slice_index_or}
+use Rattle.gold_field.specs.declared.gold.TheConstants.{P}
+use Rattle.gold_ntt.specs.Polynomial.{sum_to}
+use Rattle.iden_files.specs.File.{File}
+use Rattle.lig_layout.specs.declared.params.Params.{Params}
+use Rattle.lig_layout.specs.System.{combined, left_sides, equation_count}
+use Rattle.lig_proof.specs.declared.challenge.Challenges.{Challenges}
+use Rattle.lig_proof.specs.Columns.{Encoded}
+use Rattle.lig_proof.specs.Encoding.{InterpolateRows}
+use Rattle.lig_proof.specs.Masks.{code_mask, linear_mask, product_mask}
+use Rattle.lig_proof.specs.Tests.{rho, r_numbers, linear_test}
+use Rattle.lig_proof.specs.Values.{HasDegrees}
+use Rattle.lig_prover.specs.Transform.{values_at}
+
+-- value i of row k
+abbrev pub entry_of : List (List ℕ) → ℕ → ℕ → ℕ
+entry_of rows k i = slice_index (slice_index_or rows k []) i
+
+-- the masks of the tests, in the order of a column
+abbrev pub test_masks : Params → List ℕ → List (List ℕ)
+test_masks p seed =
+    code_mask p seed 0 ∷ code_mask p seed 1 ∷ linear_mask p seed 0 ∷ linear_mask p seed 1
+    ∷ product_mask p seed 0 ∷ product_mask p seed 1 ∷ []
+
+-- the matrix that has these polynomials
+abbrev pub encoded_by : Params → List (List ℕ) → Encoded
+encoded_by p polynomials = record {
+  row = λ k. slice_index_or polynomials k [];
+  code = λ t. slice_index_or polynomials (p.rows + t) [];
+  linear = λ t. slice_index_or polynomials (p.rows + 2 + t) [];
+  product = λ t. slice_index_or polynomials (p.rows + 4 + t) [];
+}
+
+-- column i of the matrix that has these codes
+abbrev pub column_in : List (List ℕ) → ℕ → List ℕ
+column_in codes i = map (λ code. slice_index code i) codes
+
+-- the codes of these polynomials
+pub record AreCodes (p : Params) (polynomials codes : List (List ℕ)) : Type 0 where
+  pub count : length polynomials ≡ p.rows + 6
+  pub degrees : HasDegrees p (encoded_by p polynomials)
+  pub each : codes ≡ map (values_at p.depth) polynomials
+
+-- the test of the linear system at code point i, where the system's rows have the values at place j
+abbrev pub linear_value : Params → List (List ℕ) → List (List ℕ) → ℕ → ℕ → ℕ → ℕ
+linear_value p codes factors t i j =
+    (entry_of codes (p.rows + 2 + t) i
+    + sum_to p.rows (λ k. entry_of factors k j * entry_of codes k i)) % P
+
+-- the test of the products at code point i
+abbrev pub product_value : Params → Challenges → List (List ℕ) → ℕ → ℕ → ℕ
+product_value p c codes t i =
+    let x = λ (k : ℕ). entry_of codes (p.wire_rows + k) i in
+    let y = λ (k : ℕ). entry_of codes (p.wire_rows + p.constraint_rows + k) i in
+    let z = λ (k : ℕ). entry_of codes (p.wire_rows + 2 * p.constraint_rows + k) i in
+    (entry_of codes (p.rows + 4 + t) i
+    + sum_to p.constraint_rows (λ k. rho p c t k * (x k * y k + (P - z k)))) % P
+
+-- the test of the linear system, with the polynomials of the system's rows
+abbrev pub IsLinearTest : Params → File → Challenges → List (List ℕ) → ℕ → List ℕ → Type 0
+IsLinearTest p f c polynomials t values =
+    let numbers = r_numbers (equation_count f) c t in
+    (system : ℕ → List ℕ)
+    × InterpolateRows p (combined (p.rows * p.l) numbers (left_sides p f)) system
+    × (values ≡ linear_test p (encoded_by p polynomials) system t)
+
+-- and those of both repetitions
+abbrev pub AreSystemsOf : Params → File → Challenges → (ℕ → ℕ → List ℕ) → Type 0
+AreSystemsOf p f c system = (t : ℕ) → t < 2
+    → (let numbers = r_numbers (equation_count f) c t in
+    InterpolateRows p (combined (p.rows * p.l) numbers (left_sides p f)) (system t))

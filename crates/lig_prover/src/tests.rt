@@ -1,0 +1,294 @@
+//! The six polynomials that are sent.
+
+ghost use Rattle.std.specs.Prelude.{◌≡◌, ℕ, ◌≤◌, ◌<◌, ◌+◌, ◌-◌, ◌*◌, ◌%◌, ◌^◌, List, [], IfOk, length, map, take, slice_index, slice_index_or};
+ghost use Rattle.std.specs.List.{AllZip, range_with_len};
+ghost use Rattle.gold_field.specs.declared.gold.TheConstants.{P};
+ghost use Rattle.gold_ntt.specs.Polynomial.{sum_to};
+ghost use Rattle.iden_files.specs.File.{InLimits};
+ghost use Rattle.lig_layout.specs.Sizes.{IsParams, params_of};
+ghost use Rattle.lig_layout.specs.Layout.{row_at};
+ghost use Rattle.lig_layout.specs.System.{combined, left_sides, equation_count};
+ghost use Rattle.lig_proof.specs.Encoding.{Interpolates, InterpolateRows};
+ghost use Rattle.lig_proof.specs.ProofBytes.{AreValues};
+ghost use Rattle.lig_proof.specs.Tests.{alpha, r_numbers, code_test, linear_test, product_test};
+ghost use Rattle.lig_prover.specs.Matrix.{AreCodes, IsLinearTest, encoded_by, entry_of, linear_value, product_value};
+ghost use Rattle.lig_prover.specs.Transform.{values_at};
+
+use crate::parallel::each_place;
+use crate::rows::{evaluated, row_at};
+use crate::transform::{interpolate, number_at, row_polynomial};
+use gold_field::Gold;
+use iden_files::R1cs;
+use items::Items;
+use lig_layout::{Params, combine};
+use lig_proof::Challenges;
+use std::alloc::{AllocError, Global};
+use std::thread::Threads;
+
+// Value `i` of row `k`.
+fn entry(rows: &[Items<Gold>], k: usize, i: usize) -> Gold
+    ensures { result ≡ entry_of rows.now k i }
+{
+    match rows.get(k) {
+        Some(row) => number_at(row.as_slice(), i),
+        None => Gold::ZERO,
+    }
+}
+
+/// The polynomial of one repetition that tests that the rows are codes.
+pub fn code_test<R: Threads + Sync>(
+    rt: &R,
+    alloc: Global,
+    params: &Params,
+    challenges: &Challenges,
+    polynomials: &[Items<Gold>],
+    t: usize,
+) -> Result<Vec<Gold>, AllocError>
+    requires params { IsParams params.now }
+    requires repetition { t < 2 }
+    ensures { IfOk result (λ v. v.items
+        ≡ code_test params.now challenges.now (encoded_by params.now polynomials.now) t) }
+{
+    each_place(
+        rt,
+        alloc,
+        2 * params.l as usize,
+        |i: usize| -> Result<Gold, AllocError>
+            requires { IsParams params.now × (t < 2) }
+            ensures { IfOk result (λ value. value
+                ≡ (entry_of polynomials.entry.now (params.entry.now.rows + t) i
+                + sum_to params.entry.now.rows
+                (λ k. alpha params.entry.now challenges.entry.now t k
+                * entry_of polynomials.entry.now k i)) % P) }
+        { Ok(code_coefficient(params, challenges, polynomials, t, i)) },
+    )
+}
+
+fn code_coefficient(
+    params: &Params,
+    challenges: &Challenges,
+    polynomials: &[Items<Gold>],
+    t: usize,
+    i: usize,
+) -> Gold
+    requires params { IsParams params.now }
+    requires repetition { t < 2 }
+    ensures { result ≡ (entry_of polynomials.now (params.now.rows + t) i + sum_to params.now.rows
+        (λ k. alpha params.now challenges.now t k * entry_of polynomials.now k i)) % P }
+{
+    let rows = params.rows as usize;
+    let mut sum = Gold::ZERO;
+    for k in 0..rows {
+        let number = number_at(challenges.alpha.as_slice(), t * rows + k);
+        sum = sum.add(number.mul(entry(polynomials, k, i)));
+    }
+    entry(polynomials, rows + t, i).add(sum)
+}
+
+/// The polynomial of one repetition that tests the linear system.
+pub fn linear_test<R: Threads + Sync>(
+    rt: &R,
+    alloc: Global,
+    file: &R1cs,
+    params: &Params,
+    challenges: &Challenges,
+    codes: &[Items<Gold>],
+    t: usize,
+) -> Result<Vec<Gold>, AllocError>
+    requires limits { InLimits file.now }
+    requires file { params.now ≡ params_of file.now }
+    requires params { IsParams params.now }
+    requires numbers { length challenges.now.r ≡ 2 * equation_count file.now }
+    requires repetition { t < 2 }
+    ensures { IfOk result (λ v. (polynomials : List (List ℕ))
+        → AreCodes params.now polynomials codes.now
+        → IsLinearTest params.now file.now challenges.now polynomials t v.items) }
+{
+    let system = combine(alloc, file, params, r_numbers(challenges, t))?;
+    let rows = row_polynomials(rt, alloc, params, &system)?;
+    let factors = evaluated(rt, alloc, &rows, params.depth - 1)?;
+    let values = linear_values(rt, alloc, params, codes, &factors, t)?;
+    Ok(coefficients_of(params, values, 3 * params.l as usize))
+}
+
+// The first coefficients of the polynomial that has these values at every other code point.
+fn coefficients_of(params: &Params, values: Vec<Gold>, count: usize) -> Vec<Gold>
+    requires params { IsParams params.now }
+    requires each { length values.items ≡ 4 * params.now.l }
+    ensures { (coefs : List ℕ) → AreValues (4 * params.now.l) coefs
+        → values.items ≡ values_at (params.now.depth - 1) coefs → result.items ≡ take count coefs }
+{
+    let mut coefs = values;
+    interpolate(&mut coefs);
+    coefs.truncate(count);
+    coefs
+}
+
+// The numbers of one repetition, for each equation one.
+fn r_numbers(challenges: &Challenges, t: usize) -> &[Gold]
+    requires { t < 2 }
+    ensures { (equations : ℕ) → length challenges.now.r ≡ 2 * equations
+        → result.now ≡ r_numbers equations challenges.now t }
+{
+    let numbers = challenges.r.as_slice();
+    let equations = numbers.len() / 2;
+    let (_, from) = numbers.split_at(t * equations);
+    let (of_one, _) = from.split_at(equations);
+    of_one
+}
+
+fn row_polynomials<R: Threads + Sync>(
+    rt: &R,
+    alloc: Global,
+    params: &Params,
+    values: &[Gold],
+) -> Result<Vec<Items<Gold>>, AllocError>
+    requires params { IsParams params.now }
+    requires whole { length values.now ≡ params.now.rows * params.now.l }
+    ensures count { IfOk result (λ v. length v.items ≡ params.now.rows) }
+    ensures rows { IfOk result (λ v. InterpolateRows params.now values.now
+        (λ k. slice_index_or v.items k [])) }
+{
+    let rows = each_place(
+        rt,
+        alloc,
+        params.rows as usize,
+        |k: usize| -> Result<Items<Gold>, AllocError>
+            requires { IsParams params.now × (k < params.now.rows)
+                × (length values.now ≡ params.now.rows * params.now.l) }
+            ensures { IfOk result (Interpolates params.entry.now
+                (row_at params.entry.now values.entry.now k)) }
+        { polynomial_at(alloc, params, values, k) },
+    )?;
+    Ok(rows)
+}
+
+fn polynomial_at(
+    alloc: Global,
+    params: &Params,
+    values: &[Gold],
+    k: usize,
+) -> Result<Items<Gold>, AllocError>
+    requires params { IsParams params.now }
+    requires row { k < params.now.rows }
+    requires whole { length values.now ≡ params.now.rows * params.now.l }
+    ensures { IfOk result (Interpolates params.now (row_at params.now values.now k)) }
+{
+    let coefs = row_polynomial(alloc, params, row_at(params, values, k))?;
+    Ok(Items::of(coefs))
+}
+
+fn linear_values<R: Threads + Sync>(
+    rt: &R,
+    alloc: Global,
+    params: &Params,
+    codes: &[Items<Gold>],
+    factors: &[Items<Gold>],
+    t: usize,
+) -> Result<Vec<Gold>, AllocError>
+    requires params { IsParams params.now }
+    requires repetition { t < 2 }
+    ensures { IfOk result (λ v. v.items
+        ≡ map (λ j. linear_value params.now codes.now factors.now t (2 * j) j)
+        (range_with_len 0 (4 * params.now.l))) }
+{
+    each_place(
+        rt,
+        alloc,
+        4 * params.l as usize,
+        |j: usize| -> Result<Gold, AllocError>
+            requires { IsParams params.now × (t < 2) × (j < 4 * params.now.l) }
+            ensures { IfOk result (λ value. value ≡ linear_value params.entry.now codes.entry.now
+                factors.entry.now t (2 * j) j) }
+        { Ok(linear_value(params, codes, factors, t, j)) },
+    )
+}
+
+fn linear_value(
+    params: &Params,
+    codes: &[Items<Gold>],
+    factors: &[Items<Gold>],
+    t: usize,
+    j: usize,
+) -> Gold
+    requires params { IsParams params.now }
+    requires repetition { t < 2 }
+    requires place { j < 4 * params.now.l }
+    ensures { result ≡ linear_value params.now codes.now factors.now t (2 * j) j }
+{
+    let rows = params.rows as usize;
+    let mut sum = Gold::ZERO;
+    for k in 0..rows {
+        sum = sum.add(entry(factors, k, j).mul(entry(codes, k, 2 * j)));
+    }
+    entry(codes, rows + 2 + t, 2 * j).add(sum)
+}
+
+/// The polynomial of one repetition that tests the products.
+pub fn product_test<R: Threads + Sync>(
+    rt: &R,
+    alloc: Global,
+    params: &Params,
+    challenges: &Challenges,
+    codes: &[Items<Gold>],
+    t: usize,
+) -> Result<Vec<Gold>, AllocError>
+    requires params { IsParams params.now }
+    requires repetition { t < 2 }
+    ensures { IfOk result (λ v. (polynomials : List (List ℕ))
+        → AreCodes params.now polynomials codes.now
+        → v.items ≡ product_test params.now challenges.now (encoded_by params.now polynomials) t) }
+{
+    let values = product_values(rt, alloc, params, challenges, codes, t)?;
+    Ok(coefficients_of(params, values, 4 * params.l as usize))
+}
+
+fn product_values<R: Threads + Sync>(
+    rt: &R,
+    alloc: Global,
+    params: &Params,
+    challenges: &Challenges,
+    codes: &[Items<Gold>],
+    t: usize,
+) -> Result<Vec<Gold>, AllocError>
+    requires params { IsParams params.now }
+    requires repetition { t < 2 }
+    ensures { IfOk result (λ v. v.items
+        ≡ map (λ j. product_value params.now challenges.now codes.now t (2 * j))
+        (range_with_len 0 (4 * params.now.l))) }
+{
+    each_place(
+        rt,
+        alloc,
+        4 * params.l as usize,
+        |j: usize| -> Result<Gold, AllocError>
+            requires { IsParams params.now × (t < 2) × (j < 4 * params.now.l) }
+            ensures { IfOk result (λ value. value ≡ product_value params.entry.now
+                challenges.entry.now codes.entry.now t (2 * j)) }
+        { Ok(product_value(params, challenges, codes, t, 2 * j)) },
+    )
+}
+
+fn product_value(
+    params: &Params,
+    challenges: &Challenges,
+    codes: &[Items<Gold>],
+    t: usize,
+    i: usize,
+) -> Gold
+    requires params { IsParams params.now }
+    requires repetition { t < 2 }
+    ensures { result ≡ product_value params.now challenges.now codes.now t i }
+{
+    let rows = params.constraint_rows as usize;
+    let first = params.wire_rows as usize;
+    let mut sum = Gold::ZERO;
+    for k in 0..rows {
+        let number = number_at(challenges.rho.as_slice(), t * rows + k);
+        let x = entry(codes, first + k, i);
+        let y = entry(codes, first + rows + k, i);
+        let z = entry(codes, first + 2 * rows + k, i);
+        sum = sum.add(number.mul(x.mul(y).sub(z)));
+    }
+    entry(codes, params.rows as usize + 4 + t, i).add(sum)
+}

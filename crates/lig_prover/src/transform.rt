@@ -1,0 +1,136 @@
+//! Polynomials and their values. A polynomial is the list of its coefficients, lowest first.
+
+ghost use Rattle.std.specs.Prelude.{◌≡◌, ℕ, ◌≤◌, ◌<◌, ◌+◌, ◌-◌, ◌*◌, ◌%◌, ◌^◌, List, IfOk, length, slice_index};
+ghost use Rattle.gold_field.specs.declared.gold.TheConstants.{P};
+ghost use Rattle.gold_ntt.specs.Polynomial.{IsPadded, shifted_at};
+ghost use Rattle.gold_ntt.specs.Transform.{IsLength};
+ghost use Rattle.lig_layout.specs.Sizes.{IsParams};
+ghost use Rattle.lig_proof.specs.Encoding.{Interpolates, IsCode, masked};
+ghost use Rattle.lig_proof.specs.ProofBytes.{AreValues};
+ghost use Rattle.lig_prover.specs.Transform.{values_at};
+
+use gold_field::Gold;
+use gold_ntt::{coset_ntt, intt};
+use lig_layout::Params;
+use std::alloc::{AllocError, Global};
+
+// The inverse of 7 modulo p.
+const INVERSE_OF_SEVEN: u128 = 2635249152773512046;
+
+/// The number at a place, and 0 behind the last.
+pub fn number_at(values: &[Gold], at: usize) -> Gold
+    ensures { result ≡ slice_index values.now at }
+{
+    match values.get(at) {
+        Some(value) => *value,
+        None => Gold::ZERO,
+    }
+}
+
+/// The values of a polynomial at 7 times the powers of the root of order `2^log`.
+pub fn evaluate(alloc: Global, coefs: &[Gold], log: u32) -> Result<Vec<Gold>, AllocError>
+    requires small { log ≤ 20 }
+    requires fits { length coefs.now ≤ 2 ^ log }
+    ensures { IfOk result (λ v. v.items ≡ values_at log coefs.now) }
+{
+    let mut values = padded(alloc, coefs, 1usize << log)?;
+    coset_ntt(&mut values);
+    Ok(values)
+}
+
+// The same polynomial, with zeros behind.
+fn padded(alloc: Global, coefs: &[Gold], size: usize) -> Result<Vec<Gold>, AllocError>
+    requires { length coefs.now ≤ size }
+    ensures places { IfOk result (λ v. length v.items ≡ size) }
+    ensures same { IfOk result (λ v. IsPadded coefs.now v.items) }
+{
+    let mut all = Vec::with_capacity(alloc, size)?;
+    all.extend_from_slice(coefs)?;
+    all.resize(size, Gold::ZERO)?;
+    Ok(all)
+}
+
+/// The polynomial that has these values at 7 times the powers of the root, in their place.
+pub fn interpolate(values: &mut [Gold])
+    requires { IsLength (length values.old) }
+    ensures { (e : ℕ) (coefs : List ℕ) → AreValues (2 ^ e) coefs
+        → values.old ≡ values_at e coefs → values.new ≡ coefs }
+{
+    intt(values);
+    scale_by_powers(values, Gold::from_wide(INVERSE_OF_SEVEN));
+}
+
+// Number `k` times `factor ^ k`.
+fn scale_by_powers(values: &mut [Gold], factor: Gold)
+    ensures { (k : ℕ) → k < length values.old
+        → slice_index values.new k ≡ slice_index values.old k * factor ^ k % P }
+{
+    let mut power = Gold::ONE;
+    for x in values.iter_mut() {
+        *x = x.mul(power);
+        power = power.mul(factor);
+    }
+}
+
+/// The polynomial of a row.
+pub fn row_polynomial(alloc: Global, params: &Params, row: &[Gold]) -> Result<Vec<Gold>, AllocError>
+    requires params { IsParams params.now }
+    requires row { length row.now ≡ params.now.l }
+    ensures { IfOk result (λ v. Interpolates params.now row.now v.items) }
+{
+    let mut coefs = Vec::from_slice(alloc, row)?;
+    intt(&mut coefs);
+    Ok(coefs)
+}
+
+/// The code of a row under a mask.
+pub fn row_code(
+    alloc: Global,
+    params: &Params,
+    row: &[Gold],
+    mask: &[Gold],
+) -> Result<Vec<Gold>, AllocError>
+    requires params { IsParams params.now }
+    requires row { length row.now ≡ params.now.l }
+    ensures { IfOk result (λ v. IsCode params.now row.now mask.now v.items) }
+{
+    let polynomial = row_polynomial(alloc, params, row)?;
+    let l = params.l as usize;
+    masked(alloc, l, 2 * l, &polynomial, mask)
+}
+
+/// So many coefficients of `base + (X^l - 1) * mask`.
+pub fn masked(
+    alloc: Global,
+    l: usize,
+    count: usize,
+    base: &[Gold],
+    mask: &[Gold],
+) -> Result<Vec<Gold>, AllocError>
+    ensures { IfOk result (λ v. v.items ≡ masked l count base.now mask.now) }
+{
+    let mut coefs = Vec::with_capacity(alloc, count)?;
+    for i in 0..count {
+        coefs.push(masked_at(l, base, mask, i))?;
+    }
+    Ok(coefs)
+}
+
+fn masked_at(l: usize, base: &[Gold], mask: &[Gold], i: usize) -> Gold
+    ensures { let above = shifted_at l mask.now i + (P - slice_index mask.now i) in
+        result ≡ (slice_index base.now i + above) % P }
+{
+    let shifted = shifted_at(l, mask, i);
+    number_at(base, i).add(shifted.sub(number_at(mask, i)))
+}
+
+// A coefficient of `X^l` times the polynomial.
+fn shifted_at(l: usize, coefs: &[Gold], i: usize) -> Gold
+    ensures { result ≡ shifted_at l coefs.now i }
+{
+    if i < l {
+        Gold::ZERO
+    } else {
+        number_at(coefs, i - l)
+    }
+}
