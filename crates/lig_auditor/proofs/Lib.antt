@@ -1,0 +1,6 @@
+pub mod Adding
+pub mod Folding
+pub mod Matching
+pub mod RightSums
+pub mod Systems
+pub mod Concluding

@@ -1,0 +1,101 @@
+//! The opened columns of a proof, and the points at which they were encoded.
+
+ghost use Rattle.std.specs.Prelude.{◌≡◌, ◌≤◌, ◌<◌, ◌+◌, ◌*◌, ◌↔◌, IfOk, IsTrue, ℕ, length, slice_index};
+ghost use Rattle.gold_ntt.specs.Polynomial.{eval_at};
+ghost use Rattle.lig_layout.specs.Sizes.{IsParams};
+ghost use Rattle.gold_ntt.specs.Transform.{root_of};
+ghost use Rattle.lig_layout.specs.declared.params.Params.{Params};
+ghost use Rattle.lig_proof.specs.Points.{code_point};
+ghost use Rattle.lig_proof.specs.Tests.{polynomials_of};
+ghost use Rattle.lig_auditor.specs.Opened.{IsOpening, ArePoints, HasValuesAt};
+
+use gold_field::Gold;
+use gold_ntt::{eval, root};
+use items::Items;
+use lig_layout::Params;
+use lig_proof::Challenges;
+use std::alloc::{AllocError, Global};
+
+/// What is tested of a proof whose columns lead to the root.
+#[derive(Clone, Copy)]
+pub struct Opening<'a> {
+    pub params: &'a Params,
+    pub challenges: &'a Challenges,
+    /// The coefficients of the six polynomials.
+    pub polys: &'a [Gold],
+    /// The columns' indices.
+    pub indices: &'a [u32],
+    pub columns: &'a [Items<Gold>],
+}
+
+/// The points at which columns with these indices were encoded.
+pub fn points(alloc: Global, params: &Params, indices: &[u32]) -> Result<Vec<Gold>, AllocError>
+    requires { IsParams params.now }
+    ensures { IfOk result (λ points. ArePoints params.now indices.now points.items) }
+{
+    let root = root(params.depth);
+    let mut points = Vec::with_capacity(alloc, indices.len())?;
+    for index in indices {
+        points.push(point(root, *index))?;
+    }
+    Ok(points)
+}
+
+// 7 times a power of the root.
+fn point(root: Gold, index: u32) -> Gold
+    ensures { (p : Params) → root ≡ root_of p.depth → result ≡ code_point p index }
+{
+    Gold::from_wide(7).mul(root.pow(u64::from(index)))
+}
+
+/// Whether a polynomial has these values at these points.
+pub fn has_values(polynomial: &[Gold], points: &[Gold], values: &[Gold]) -> bool
+    requires { length values.now ≡ length points.now }
+    ensures { IsTrue result ↔ HasValuesAt polynomial.now points.now values.now }
+{
+    for (q, point) in points.iter().enumerate() {
+        if eval(polynomial, *point) != values[q] {
+            return false;
+        }
+    }
+    true
+}
+
+/// The polynomial that was sent for the codes, in a repetition.
+pub fn code_polynomial<'a>(opening: &Opening<'a>, t: usize) -> &'a [Gold]
+    requires opening { IsOpening opening.now }
+    requires repetition { t < 2 }
+    ensures value { result.now
+        ≡ (polynomials_of opening.now.params.now opening.now.polys.now).code t }
+    ensures count { length result.now ≡ 2 * opening.now.params.now.l }
+{
+    let l = opening.params.l as usize;
+    let first = t * (9 * l);
+    &opening.polys[first..first + 2 * l]
+}
+
+/// The one for the linear system.
+pub fn linear_polynomial<'a>(opening: &Opening<'a>, t: usize) -> &'a [Gold]
+    requires opening { IsOpening opening.now }
+    requires repetition { t < 2 }
+    ensures value { result.now
+        ≡ (polynomials_of opening.now.params.now opening.now.polys.now).linear t }
+    ensures count { length result.now ≡ 3 * opening.now.params.now.l }
+{
+    let l = opening.params.l as usize;
+    let first = t * (9 * l) + 2 * l;
+    &opening.polys[first..first + 3 * l]
+}
+
+/// The one for the products.
+pub fn product_polynomial<'a>(opening: &Opening<'a>, t: usize) -> &'a [Gold]
+    requires opening { IsOpening opening.now }
+    requires repetition { t < 2 }
+    ensures value { result.now
+        ≡ (polynomials_of opening.now.params.now opening.now.polys.now).product t }
+    ensures count { length result.now ≡ 4 * opening.now.params.now.l }
+{
+    let l = opening.params.l as usize;
+    let first = t * (9 * l) + 5 * l;
+    &opening.polys[first..first + 4 * l]
+}
