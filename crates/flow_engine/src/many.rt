@@ -33,15 +33,18 @@ fn pairs(alloc: Global, answers: &FlowAnswers<'_>) -> Result<Vec<(u32, Gold)>, A
     Ok(pairs)
 }
 
-// A pool in which the strands without predecessors are ready.
+// A pool in which the strands without predecessors are ready. The last to go in is the first to come
+// out, so the strands go in from the last one down: neighbours lie side by side in memory.
 fn first_pool(alloc: Global, graph: &Graph) -> Result<Pool, AllocError> {
+    let strands = graph.strands;
     let mut ready = Vec::new(alloc);
-    for strand in 0..graph.strands {
+    for above in 0..strands {
+        let strand = strands - 1 - above;
         if graph.preds_of(strand).is_empty() {
             ready.push(strand)?;
         }
     }
-    let state = PoolState::make(alloc, graph.strands, ready.as_slice())?;
+    let state = PoolState::make(alloc, strands, ready.as_slice())?;
     Ok(Pool::make(state))
 }
 

@@ -5,7 +5,7 @@ ghost use Rattle.flow_core.specs.Quiet.{IsBelow};
 ghost use Rattle.flow_board.specs.Closed.{cell_in, done_in, least_in};
 ghost use Rattle.wit_flow.specs.OneThread.{IsOutcome, one_thread};
 ghost use Rattle.flow_engine.specs.Task.{answers_of};
-ghost use Rattle.flow_engine.specs.Sweep.{AreClosed, HasCome, Goes};
+ghost use Rattle.flow_engine.specs.Sweep.{AreClosed, AreAllDone, HasCome, Goes};
 
 use crate::answers::FlowAnswers;
 use flow_board::Words;
@@ -124,8 +124,55 @@ fn finish(
     Ok(Outcome::Done(Items::of(values)))
 }
 
-/// The answer of one thread, from the words of a closed board.
-pub fn sweep(alloc: Global, answers: &FlowAnswers<'_>, words: &Words) -> Result<Outcome, AllocError>
+// Whether no strand is refused and all are done.
+fn are_all_done(words: &Words, strands: u32) -> bool
+    requires { strands ≡ words.now.strands }
+    ensures { IsTrue result → AreAllDone words.now }
+{
+    if words.least().is_some() {
+        return false;
+    }
+    for strand in 0..strands {
+        if !words.done(strand) {
+            return false;
+        }
+    }
+    true
+}
+
+// The numbers that the words have for all cells; 0 stands for a cell without one.
+fn all_numbers(alloc: Global, words: &Words, cells: u32) -> Result<Vec<Gold>, AllocError>
+    requires { cells ≡ words.now.cells }
+    ensures each { IfOk result (λ v. length v.items ≡ cells) }
+    ensures numbers { IfOk result (λ v. (c : ℕ) → c < length v.items
+        → slice_index v.items c ≡ unwrap_or (cell_in words.now c) 0) }
+{
+    let mut numbers = Vec::with_capacity(alloc, cells as usize)?;
+    for cell in 0..cells {
+        numbers.push(words.cell(cell).unwrap_or(Gold::ZERO))?;
+    }
+    Ok(numbers)
+}
+
+// The outcome where the workers have run all strands.
+fn outcome_in(
+    alloc: Global,
+    answers: &FlowAnswers<'_>,
+    words: &Words,
+) -> Result<Outcome, AllocError>
+    requires closed { AreClosed (answers_of answers.now) words.now }
+    requires all { AreAllDone words.now }
+    ensures { IfOk result (λ o. IsOutcome answers.now.plan.graph.cells o
+        (one_thread answers.now.plan answers.now.start answers.now.fuel)) }
+{
+    answers.facts();
+    let graph = answers.graph();
+    let numbers = all_numbers(alloc, words, graph.cells)?;
+    Ok(Outcome::Done(Items::of(numbers)))
+}
+
+// The run in order of all strands that aren't done.
+fn run_rest(alloc: Global, answers: &FlowAnswers<'_>, words: &Words) -> Result<Outcome, AllocError>
     requires { AreClosed (answers_of answers.now) words.now }
     ensures { IfOk result (λ o. IsOutcome answers.now.plan.graph.cells o
         (one_thread answers.now.plan answers.now.start answers.now.fuel)) }
@@ -139,4 +186,18 @@ pub fn sweep(alloc: Global, answers: &FlowAnswers<'_>, words: &Words) -> Result<
         }
     }
     finish(alloc, answers, cells.as_slice())
+}
+
+/// The answer of one thread, from the words of a closed board.
+pub fn sweep(alloc: Global, answers: &FlowAnswers<'_>, words: &Words) -> Result<Outcome, AllocError>
+    requires { AreClosed (answers_of answers.now) words.now }
+    ensures { IfOk result (λ o. IsOutcome answers.now.plan.graph.cells o
+        (one_thread answers.now.plan answers.now.start answers.now.fuel)) }
+{
+    let graph = answers.graph();
+    if are_all_done(words, graph.strands) {
+        outcome_in(alloc, answers, words)
+    } else {
+        run_rest(alloc, answers, words)
+    }
 }

@@ -1,5 +1,5 @@
 // What one worker does.
-ghost use Rattle.std.specs.Prelude.{◌≡◌, ◌<◌, None, Some, IfOk, IsTrue};
+ghost use Rattle.std.specs.Prelude.{◌≡◌, ◌<◌, None, Some, OnOk, IsTrue};
 ghost use Rattle.flow_core.specs.Flow.{Gives, answer_of};
 ghost use Rattle.flow_core.specs.Events.{hold};
 ghost use Rattle.flow_engine.specs.Task.{answers_of, AreRead};
@@ -22,14 +22,25 @@ pub struct Job<'a, 'g, 's, G> {
     pub gate: &'a G,
 }
 
-// The values of the cells that the seat's strand reads.
+/// What a worker keeps from strand to strand.
+#[derive(Drop)]
+struct Desk {
+    // The strands that it runs next, the last one first.
+    mine: Vec<u32>,
+    // The strands that its own last one made ready.
+    ready: Vec<u32>,
+    // The values of the cells that its strand reads.
+    reads: Vec<Gold>,
+}
+
+// Puts the values of the cells that the seat's strand reads on the desk.
 fn gather(
-    alloc: Global,
     board: &Board<'_, FlowAnswers<'_>>,
     answers: &FlowAnswers<'_>,
     seat: &mut WorkSeat,
     strand: u32,
-) -> Result<Vec<Gold>, AllocError>
+    reads: &mut Vec<Gold>,
+) -> Result<(), AllocError>
     requires flow { board.now.flow ≡ answers_of answers.now }
     requires own { seat.old.place ≡ board.now }
     requires near { strand < answers.now.plan.graph.strands }
@@ -37,26 +48,36 @@ fn gather(
     ensures own { seat.new.place ≡ board.now }
     ensures held { seat.new.holding ≡ Some (hold strand 0 0) }
     ensures share { seat.new.share ≡ seat.old.share }
-    ensures reads { IfOk result (λ v. AreRead (answers_of answers.now) strand v.items) }
+    ensures reads { OnOk result (AreRead (answers_of answers.now) strand reads.new.items) }
 {
     let graph = answers.graph();
     let cells = graph.reads_of(strand);
-    let mut values = Vec::with_capacity(alloc, cells.len())?;
+    reads.clear();
     for i in 0..cells.len() {
-        values.push(board.read(seat, cells[i]))?;
+        reads.push(board.read(seat, cells[i]))?;
     }
-    Ok(values)
+    Ok(())
 }
 
-// Puts a strand's values, tells its successors and gives it up as done. Of the successors that are
-// ready the last is the answer, and the pool gets the others.
+// Of the strands that have become ready the last is this worker's next one, and the pool gets the others.
+fn share_out<R: Wait>(rt: &R, pool: &Pool, desk: &mut Desk) {
+    if let Some(last) = desk.ready.pop() {
+        pool.put_all(rt, desk.ready.as_slice());
+        if desk.mine.push(last).is_err() {
+            pool.put(rt, last);
+        }
+    }
+}
+
+// Puts a strand's values, tells its successors and gives it up as done.
 fn hand_in<R: Wait, G: Gate>(
     rt: &R,
     job: &Job<'_, '_, '_, G>,
     seat: &mut WorkSeat,
     strand: u32,
     values: &[Gold],
-) -> Option<u32>
+    ready: &mut Vec<u32>,
+)
     requires flow { job.now.board.now.flow ≡ answers_of job.now.answers.now }
     requires own { seat.old.place ≡ job.now.board.now }
     requires near { strand < job.now.answers.now.plan.graph.strands }
@@ -71,18 +92,13 @@ fn hand_in<R: Wait, G: Gate>(
     for i in 0..values.len() {
         board.publish(seat, values[i]);
     }
-    let mut last = None;
     for told in 0..graph.succs_of(strand).len() {
         let released = board.release(seat);
-        if released.ready {
-            if let Some(other) = last {
-                job.pool.put(rt, other);
-            }
-            last = Some(released.strand);
+        if released.ready && ready.push(released.strand).is_err() {
+            job.pool.put(rt, released.strand);
         }
     }
     board.finish(seat);
-    last
 }
 
 // Runs the strand that the seat has taken. Nothing of it is put before it has ended.
@@ -92,24 +108,27 @@ fn run_taken<R: Wait, G: Gate>(
     job: &Job<'_, '_, '_, G>,
     seat: &mut WorkSeat,
     strand: u32,
-) -> Result<Option<u32>, AllocError>
+    desk: &mut Desk,
+) -> Result<(), AllocError>
     requires flow { job.now.board.now.flow ≡ answers_of job.now.answers.now }
     requires own { seat.old.place ≡ job.now.board.now }
     requires near { strand < job.now.answers.now.plan.graph.strands }
     requires held { seat.old.holding ≡ Some (hold strand 0 0) }
     ensures own { seat.new.place ≡ job.now.board.now }
-    ensures free { IfOk result (λ _. seat.new.holding ≡ None) }
+    ensures free { OnOk result (seat.new.holding ≡ None) }
     ensures share { seat.new.share ≡ seat.old.share }
 {
     job.gate.enter(strand);
-    let reads = gather(alloc, job.board, job.answers, seat, strand)?;
-    match job.answers.run(alloc, strand, reads.as_slice())? {
-        StrandOut::Values(values) => Ok(hand_in(rt, job, seat, strand, values.as_slice())),
-        StrandOut::Refused { .. } => {
-            job.board.refuse(seat);
-            Ok(None)
+    gather(job.board, job.answers, seat, strand, &mut desk.reads)?;
+    match job.answers.run(alloc, strand, desk.reads.as_slice())? {
+        StrandOut::Values(values) => {
+            desk.ready.clear();
+            hand_in(rt, job, seat, strand, values.as_slice(), &mut desk.ready);
+            share_out(rt, job.pool, desk);
         }
+        StrandOut::Refused { .. } => job.board.refuse(seat),
     }
+    Ok(())
 }
 
 // Runs nothing more, and asks until the pool is closed.
@@ -137,6 +156,37 @@ fn is_wanted<G: Gate>(job: &Job<'_, '_, '_, G>, seat: &mut WorkSeat, strand: u32
     }
 }
 
+// Runs a strand, unless it isn't wanted or another worker has it.
+fn attend<R: Wait, G: Gate>(
+    rt: &R,
+    alloc: Global,
+    job: &Job<'_, '_, '_, G>,
+    seat: &mut WorkSeat,
+    strand: u32,
+    desk: &mut Desk,
+) -> Result<(), AllocError>
+    requires flow { job.now.board.now.flow ≡ answers_of job.now.answers.now }
+    requires own { seat.old.place ≡ job.now.board.now }
+    requires free { seat.old.holding ≡ None }
+    ensures own { seat.new.place ≡ job.now.board.now }
+    ensures free { OnOk result (seat.new.holding ≡ None) }
+    ensures share { seat.new.share ≡ seat.old.share }
+{
+    if is_wanted(job, seat, strand) && job.board.take(seat, strand) {
+        run_taken(rt, alloc, job, seat, strand, desk)
+    } else {
+        Ok(())
+    }
+}
+
+// The strand that comes next.
+fn next<R: Wait>(rt: &R, pool: &Pool, mine: &mut Vec<u32>) -> Option<u32> {
+    match mine.pop() {
+        Some(strand) => Some(strand),
+        None => pool.next_some(rt, mine),
+    }
+}
+
 /// Runs strands until the pool is closed: those that this worker made ready first. Where memory
 /// runs out the seat is left with its strand.
 pub fn work<R: Wait, G: Gate>(rt: &R, alloc: Global, job: &Job<'_, '_, '_, G>, seat: &mut WorkSeat)
@@ -147,20 +197,18 @@ pub fn work<R: Wait, G: Gate>(rt: &R, alloc: Global, job: &Job<'_, '_, '_, G>, s
     ensures share { seat.new.share ≡ seat.old.share }
 {
     job.pool.enter(rt);
-    let mut mine = None;
+    let mut desk = Desk {
+        mine: Vec::new(alloc),
+        ready: Vec::new(alloc),
+        reads: Vec::new(alloc),
+    };
     for _ in rt.forever() {
-        let Some(strand) = mine.or_else(|| job.pool.next(rt)) else {
+        let Some(strand) = next(rt, job.pool, &mut desk.mine) else {
             break;
         };
-        mine = None;
-        if is_wanted(job, seat, strand) && job.board.take(seat, strand) {
-            match run_taken(rt, alloc, job, seat, strand) {
-                Ok(next) => mine = next,
-                Err(_) => {
-                    give_up(rt, job.pool);
-                    break;
-                }
-            }
+        if attend(rt, alloc, job, seat, strand, &mut desk).is_err() {
+            give_up(rt, job.pool);
+            break;
         }
     }
 }

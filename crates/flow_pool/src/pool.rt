@@ -1,6 +1,12 @@
 use crate::state::PoolState;
 use std::sync::{Condvar, Mutex, Wait};
 
+/// `next_some` hands out at most so many strands beside the one that is asked for, and no more than
+/// one in `SPARED` of those that are left.
+const MOST: usize = 32;
+
+const SPARED: usize = 64;
+
 /// Ready strands, which any number of threads share. No clause says what the lock holds at a call,
 /// and no answer of the engine rests on it.
 #[derive(Drop)]
@@ -25,8 +31,25 @@ impl Pool {
 
     /// Adds a strand, and wakes a worker for it. A strand for which there is no room is dropped.
     pub fn put<R: Wait>(&self, rt: &R, strand: u32) {
-        let _put = self.state.lock(rt).put(strand);
-        self.changed.notify_one();
+        self.put_all(rt, &[strand]);
+    }
+
+    /// Adds strands under one lock, and wakes workers for them.
+    pub fn put_all<R: Wait>(&self, rt: &R, strands: &[u32]) {
+        if strands.is_empty() {
+            return;
+        }
+        let mut state = self.state.lock(rt);
+        for strand in strands {
+            let _put = state.put(*strand);
+        }
+        let rests = state.has_resting();
+        drop(state);
+        if rests && strands.len() == 1 {
+            self.changed.notify_one();
+        } else if rests {
+            self.changed.notify_all();
+        }
     }
 
     /// A strand, for which a worker may wait; None where the pool is closed.
@@ -51,5 +74,25 @@ impl Pool {
             }
         }
         unreachable!()
+    }
+
+    /// What `next` gives; and where many strands are left some of them too, so that not every strand
+    /// costs a lock: these go into `more`, the next one last. Each worker leaves far more to the others.
+    pub fn next_some<R: Wait>(&self, rt: &R, more: &mut Vec<u32>) -> Option<u32> {
+        let mut state = self.state.lock(rt);
+        let Some(strand) = state.take() else {
+            drop(state);
+            return self.next(rt);
+        };
+        for _ in 0..MOST.min(state.left() / SPARED) {
+            if let Some(other) = state.take() {
+                if more.push(other).is_err() {
+                    let _put = state.put(other);
+                }
+            }
+        }
+        drop(state);
+        more.reverse();
+        Some(strand)
     }
 }

@@ -1,4 +1,4 @@
-ghost use Rattle.std.specs.Prelude.{◌≡◌, ◌≤◌, length, IfOk};
+ghost use Rattle.std.specs.Prelude.{◌≡◌, ◌≤◌, ◌<◌, ◌↔◌, length, IfOk, IsTrue};
 ghost use Rattle.flow_pool.specs.Pool.{opening, entered, has_room, put_in, Leaves, with_rest, at_end};
 ghost use Rattle.flow_pool.specs.Pool.{after_rest, after_wake};
 
@@ -104,5 +104,19 @@ impl PoolState {
         ensures { result ≡ self.now.closed }
     {
         self.closed
+    }
+
+    /// How many strands wait for a worker.
+    pub fn left(&self) -> usize
+        ensures { result ≡ length self.now.ready }
+    {
+        self.ready.len()
+    }
+
+    /// Whether a worker rests.
+    pub fn has_resting(&self) -> bool
+        ensures { IsTrue result ↔ (0 < self.now.idle) }
+    {
+        self.idle > 0
     }
 }

@@ -204,6 +204,14 @@ module _ (p : Plan) (ok : IsPlan p) (start : List ℕ) (fuel : ℕ) (each : leng
     | inr by ↦ written_stays k c x by.0 (ok.net.preds_below by.0 k ((ok.net.preds_feed by.0 k).1 (c, writes_in_list c x by.0 by.1, reads))) by.1
   ]
 
+  -- once all strands have answered, a cell holds its value
+  pub value_at_end : (c x : ℕ) → HasValue f c x → cells_at p.graph.strands c ≡ Some x
+  value_at_end c x h = elim h [
+    | inl begun ↦ start_stays p.graph.strands c x begun
+    | inr by ↦ written_stays p.graph.strands c x by.0
+        (strand_near by.0 c (writes_in_list c x by.0 by.1)) by.1
+  ]
+
   lacks : (k : ℕ) → k < p.graph.strands → answer_of f k ≡ Unreached → LacksRead f k
   lacks k near is =
       let e = ok.strands_each in let lt : k < length p.strands = omega arith in let is' = sym (answer_is k near) ∙ is in

@@ -10,8 +10,8 @@ invariant-loop-i l = record {
   own : l.seat.place ≡ l.board;
   held : l.seat.holding ≡ Some (hold l.strand 0 0);
   share : l.seat.share ≡ l.fn.seat.share;
-  each : length l.values.items ≡ l.i;
+  each : length l.reads.items ≡ l.i;
   has : (j : ℕ) → j < l.i
       → HasValue (answers_of l.answers) (get_or (reads_of l.answers.plan.graph l.strand) j 0)
-      (get_or l.values.items j 0);
+      (get_or l.reads.items j 0);
 }
