@@ -1,8 +1,8 @@
-# Sourced by the scripts here that time a small program beside one in C. The program is made in a folder of its own,
+# Sourced by the scripts here that time a small program, mostly beside one in C. The program is made in a folder of its own,
 # outside the repository, and built once; that proves the crates below it, if they aren't proved on this machine yet.
 
 # make_program FOLDER_bench LINE ..: builds the program of bench/FOLDER over the crates of these lines of crates.txt,
-# and bench/FOLDER.c. Sets work, and the two programs, ours and plain.
+# and bench/FOLDER.c, if there is one. Sets work, and the two programs, ours and plain.
 make_program() {
     name=$1
     shift
@@ -26,9 +26,9 @@ make_program() {
     echo >> "$work/crates.txt"
     echo "building $name" >&2
     (cd "$work/crates/$name" && rt run -- 1 > "$work/build.log" 2>&1) || { tail -5 "$work/build.log" >&2; exit 1; }
-    ${CC:-cc} -O2 -o "$work/${folder}_c" "$top/bench/$folder.c"
     ours=$work/crates/$name/out/$name
     plain=$work/${folder}_c
+    if [ -f "$top/bench/$folder.c" ]; then ${CC:-cc} -O2 -o "$plain" "$top/bench/$folder.c"; fi
 }
 
 # best FILE PROGRAM WORD ..: the least processor time of the runs, whose first line goes to the file.

@@ -1,0 +1,7 @@
+//! Tests of the runs of whole flows, on one thread and on workers.
+#![tactic(auto)]
+
+#[cfg(test)]
+mod flow;
+#[cfg(test)]
+mod many;
