@@ -1,0 +1,5 @@
+use Rattle.std.proofs.Common.{arith}
+use Rattle.simplify_tests.proofs.chains.sum.Goals as goal
+
+pub loop-signal-preserved : goal.loop-signal-preserved
+loop-signal-preserved c = c.in_ok-sum.ensures _ (omega arith) c.loop-signal.invariant
