@@ -6,6 +6,8 @@ mod constraint_files;
 #[cfg(test)]
 mod fields;
 #[cfg(test)]
+mod inputs;
+#[cfg(test)]
 mod lists;
 #[cfg(test)]
 mod stores;

@@ -1,0 +1,5 @@
+pub mod Documents
+pub mod Digits
+pub mod Nested
+pub mod Members
+pub mod Steps

@@ -1,0 +1,16 @@
+//! The values of a circuit's inputs, and its public values, read from JSON; and the JSON file of
+//! public values.
+#![tactic(auto)]
+
+mod checks;
+mod document;
+mod fault;
+mod input;
+mod names;
+mod number;
+mod publics;
+mod values;
+
+pub use fault::InputFault;
+pub use input::read_input;
+pub use publics::{read_publics, write_publics};
