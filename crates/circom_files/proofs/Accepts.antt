@@ -1,0 +1,206 @@
+-- Proofs that are made are accepted, and what is accepted.
+use Rattle.std.proofs.Common.{◌≡◌, ◌≢◌, ◌==◌, ◌∙◌, ◌<◌, ◌↔◌, ℕ, Bool, true, false, List, All, length, slice_index, Option, Some, None, Result, Ok, Err, IfOk, if◌then◌else◌, refl, sym, ap, subst, arith}
+use Rattle.gold_field.specs.declared.gold.TheConstants.{P}
+use Rattle.out_io.specs.Calls.{Told}
+use Rattle.out_io.specs.Contents.{Contents}
+use Rattle.out_io.specs.declared.fault.IoFault.{IoFault}
+use Rattle.iden_files.specs.Failing.{first_failing_from}
+use Rattle.iden_files.specs.File.{File, IsFile, InLimits}
+use Rattle.lig_complete.proofs.Accepted.{accepted, none_is_refused}
+use Rattle.lig_complete.specs.Completeness.{IsWitness}
+use Rattle.lig_layout.specs.Layout.{vectors_of}
+use Rattle.lig_layout.specs.Laws.{publics_of}
+use Rattle.lig_proof.specs.Acceptance.{IsVerdict}
+use Rattle.lig_proof.specs.Proving.{AreMade}
+use Rattle.lig_proof.specs.declared.verdict.Verdict.{Verdict as Audited}
+use Rattle.lig_proof.specs.declared.verdict.Verdict.TheVariants as audits
+use Rattle.lig_proof.specs.declared.version.Version.{Version}
+use Rattle.lig_prover.specs.Refusing.{failing, refusal_of}
+use Rattle.lig_prover.specs.declared.fault.ProveFault.{ProveFault}
+use Rattle.lig_prover.specs.declared.fault.ProveFault.TheVariants as faults
+use Rattle.circom_words.specs.declared.answer.Verdict.{Verdict}
+use Rattle.circom_words.specs.declared.answer.Verdict.TheVariants.{CountsDiffer, WireZero, ConstraintFails, Satisfied}
+use Rattle.circom_words.specs.Lines.{verdict_status}
+use Rattle.circom_words.specs.Proving.{audit_status}
+use Rattle.circom_words.specs.Words.{ProveOptions}
+use Rattle.circom_words.specs.declared.answer.Refusal.{Refusal}
+use Rattle.circom_files.specs.Accepted.{IsAccepted, IsAcceptedFor, IsProofOf, WritesProof}
+use Rattle.circom_files.specs.Check.{verdict, satisfaction}
+use Rattle.circom_files.specs.Proving.{Audits, FoundIn, IsAudited, IsProved, Proves, offer_of, witness_of}
+use Rattle.circom_files.specs.Reply.{Reply, audited, proved}
+use Rattle.circom_files.specs.Satisfaction.{Satisfies}
+use Rattle.circom_files.specs.Steps.{StepsTo}
+use Rattle.circom_files.specs.Stops.{EndsBy}
+use Rattle.circom_files.specs.declared.reply.Reply.{Reply as CodeReply}
+use Rattle.circom_files.specs.declared.stop.Stop.{Stop}
+use Rattle.circom_files.specs.declared.stop.Stop.TheVariants.{Refused, StoreFailed, OutOfMemory}
+use Rattle.circom_files.specs.declared.outcome.Witness.{Witness}
+use Rattle.circom_files.specs.declared.outcome.Offer.{Offer}
+use Rattle.circom_files.specs.declared.outcome.Outcome.{Outcome}
+use Rattle.circom_files.specs.declared.outcome.Outcome.TheVariants.{Made, Unmade}
+use Rattle.circom_files.proofs.CheckLaws.{satisfied}
+use Rattle.circom_files.proofs.Once.{one_verdict}
+
+-- why there is no proof, as the verdict on the values
+abbrev pub verdict_on : Option ProveFault → Verdict
+verdict_on None = Satisfied
+verdict_on (Some (faults.WrongLength has wants)) = CountsDiffer has wants
+verdict_on (Some faults.WireZero) = WireZero
+verdict_on (Some (faults.Unsatisfied constraint)) = ConstraintFails constraint
+verdict_on (Some faults.OutOfMemory) = Satisfied
+
+found_verdict : (found : Option ℕ) → satisfaction found ≡ verdict_on (failing found)
+found_verdict None = refl
+found_verdict (Some constraint) = refl
+
+moved : (a b : Bool) (found : Option ℕ) (has wants : ℕ)
+    → (if a then (if b then satisfaction found else WireZero) else CountsDiffer has wants)
+    ≡ verdict_on (if a then (if b then failing found else Some faults.WireZero)
+    else Some (faults.WrongLength has wants))
+moved true true found has wants = found_verdict found
+moved true false found has wants = refl
+moved false b found has wants = refl
+
+pub refusal_verdict : (f : File) (w : List ℕ) → verdict f w ≡ verdict_on (refusal_of f w)
+refusal_verdict f w =
+    moved (length w == f.wires) (slice_index w 0 == 1) (first_failing_from 0 w f.constraints)
+    (length w) f.wires
+
+witness_is : (f : File) (w : List ℕ) → All (λ v. v < P) w → verdict f w ≡ Satisfied → IsWitness f w
+witness_is f w numbers is =
+    let s : Satisfies f w = (satisfied f w).0 is in record {
+      count = s.assignment.counts;
+      numbers = numbers;
+      one = s.assignment.one;
+      holds = s.holds;
+    }
+
+-- what is made of values that satisfy the file is accepted
+pub always_accepted : (version : Version) (w : Witness) (seed proof : List ℕ) → IsFile w.file
+    → InLimits w.file → All (λ v. v < P) w.values → verdict w.file w.values ≡ Satisfied
+    → AreMade version w.bytes w.file (vectors_of w.file w.values) seed proof
+    → IsAcceptedFor w proof
+always_accepted version w seed proof file limits numbers is made =
+    let witness = witness_is w.file w.values numbers is in
+    λ found. (
+      none_is_refused version w.bytes w.file w.values seed proof found file limits witness made,
+      λ e. subst
+          (IsVerdict w.bytes w.file (publics_of w.file w.values) proof) (sym e)
+          (accepted version w.bytes w.file w.values seed proof file limits witness made),
+    )
+
+-- nothing is found to be wrong with values that satisfy the file
+never_satisfied : (options : ProveOptions) (read : Result Witness Refusal) (v : Verdict)
+    → FoundIn (IsProved options) read (Ok (Unmade v)) → v ≢ Satisfied
+never_satisfied options (Ok w) v h = h.1
+never_satisfied options (Err r) v h = absurd h
+
+zero_satisfied : (v : Verdict) → verdict_status v ≡ 0 → v ≡ Satisfied
+zero_satisfied (CountsDiffer values wires) e = absurd (omega (arith, e))
+zero_satisfied WireZero e = absurd (omega (arith, e))
+zero_satisfied (ConstraintFails index) e = absurd (omega (arith, e))
+zero_satisfied Satisfied e = refl
+
+-- the reply that writes a proof writes what is accepted
+pub writes_proof : (contents : Option Contents) (r1cs wtns out : List ℕ) (options : ProveOptions)
+    (outcome : Outcome) (r : Reply)
+    → Told contents (λ files. Proves files r1cs wtns options (Ok outcome))
+    → ((proof : List ℕ) → outcome ≡ Made proof
+    → Told contents (λ files. IsProofOf files r1cs wtns proof)) → r ≡ proved out outcome
+    → r.status ≡ 0 → Told contents (λ files. WritesProof files r1cs wtns out r)
+writes_proof None r1cs wtns out options outcome r told accepts is zero = tt
+writes_proof (Some files) r1cs wtns out options (Made proof) r told accepts is zero = record {
+  bytes = proof;
+  file = ap (λ (x : Reply). x.file) is;
+  proof = accepts proof refl;
+}
+writes_proof (Some files) r1cs wtns out options (Unmade v) r told accepts is zero =
+    let status : verdict_status v ≡ 0 = sym (ap (λ (x : Reply). x.status) is) ∙ zero in
+    absurd (never_satisfied options (witness_of files r1cs wtns) v told (zero_satisfied v status))
+
+-- a command that was stopped is no success
+pub unsuccessful : (P : CodeReply → Type 0) (stop : Stop) (result : Result CodeReply IoFault)
+    → EndsBy stop result → IfOk result (λ r. r.status ≡ 0 → P r)
+unsuccessful P (Refused refusal) (Ok r) e = λ zero.
+    absurd (omega (arith, ap (λ (x : Reply). x.status) e, zero))
+unsuccessful P StoreFailed (Ok r) e = absurd e
+unsuccessful P OutOfMemory (Ok r) e = absurd e
+unsuccessful P stop (Err fault) e = tt
+
+same_offer : (read : Result Offer Refusal) (x y : Offer) → read ≡ Ok x → read ≡ Ok y → x ≡ y
+same_offer (Ok o) x y p q = cc
+same_offer (Err r) x y p q = cc
+
+-- a verdict on what was read is the one on it
+pub read_once : (contents : Option Contents) (r1cs publics proof : List ℕ) (o : Offer)
+    (found : Audited) → InLimits o.file
+    → Told contents (λ files. offer_of files r1cs publics proof ≡ Ok o) → IsAudited o found
+    → Told contents (λ files. IsAccepted files r1cs publics proof → found ≡ audits.Accepted)
+read_once None r1cs publics proof o found limits read is = tt
+read_once (Some files) r1cs publics proof o found limits read is = λ a.
+    let same : a.offer ≡ o =
+    same_offer (offer_of files r1cs publics proof) a.offer o a.read read in
+    one_verdict o limits found audits.Accepted is
+    (subst (λ x. IsAudited x audits.Accepted) same a.accepted)
+
+-- the offer on which a verdict was found
+found_offer : (read : Result Offer Refusal) (found : Audited)
+    → FoundIn IsAudited read (Ok found) → (o : Offer) × (read ≡ Ok o) × IsAudited o found
+found_offer (Ok o) found h = (o, refl, h)
+found_offer (Err r) found h = absurd h
+
+refused_offer : (read : Result Offer Refusal) (o : Offer) (refusal : Refusal)
+    → FoundIn IsAudited read (Err refusal) → read ≡ Ok o → ⊥
+refused_offer (Ok x) o refusal h e = h
+refused_offer (Err r) o refusal h e = cc
+
+zero_accepted : (v : Audited) → audit_status v ≡ 0 → v ≡ audits.Accepted
+zero_accepted audits.Accepted e = refl
+zero_accepted audits.PublicCount e = absurd (omega (arith, e))
+zero_accepted (audits.Malformed offset) e = absurd (omega (arith, e))
+zero_accepted (audits.BadPath opened) e = absurd (omega (arith, e))
+zero_accepted audits.Proximity e = absurd (omega (arith, e))
+zero_accepted audits.LinearSum e = absurd (omega (arith, e))
+zero_accepted audits.LinearColumn e = absurd (omega (arith, e))
+zero_accepted audits.QuadZero e = absurd (omega (arith, e))
+zero_accepted audits.QuadColumn e = absurd (omega (arith, e))
+
+-- an audit is a success exactly where the offer is accepted
+pub says_accepted : (contents : Option Contents) (r1cs publics proof : List ℕ) (found : Audited)
+    (r : Reply) → Told contents (λ files. Audits files r1cs publics proof (Ok found))
+    → Told contents (λ files. IsAccepted files r1cs publics proof → found ≡ audits.Accepted)
+    → r ≡ audited found
+    → Told contents (λ files. (r.status ≡ 0) ↔ IsAccepted files r1cs publics proof)
+says_accepted None r1cs publics proof found r told one is = tt
+says_accepted (Some files) r1cs publics proof found r told one is =
+    let status : r.status ≡ audit_status found = ap (λ (x : Reply). x.status) is in
+    let offer = found_offer (offer_of files r1cs publics proof) found told in (
+      λ zero. record {
+        offer = offer.0;
+        read = offer.1;
+        accepted = subst (IsAudited offer.0) (zero_accepted found (sym status ∙ zero)) offer.2;
+      },
+      λ a. status ∙ ap audit_status (one a),
+    )
+
+stopped_audit : (contents : Option Contents) (r1cs publics proof : List ℕ) (failed : Type 0)
+    (stop : Stop) (r : CodeReply) → StepsTo (λ (v : Audited). v) contents
+    (λ files found. Audits files r1cs publics proof found) failed (Err stop)
+    → EndsBy stop (Ok r)
+    → Told contents (λ files. (r.status ≡ 0) ↔ IsAccepted files r1cs publics proof)
+stopped_audit None r1cs publics proof failed stop r told e = tt
+stopped_audit (Some files) r1cs publics proof failed (Refused refusal) r told e = (
+  λ zero. absurd (omega (arith, ap (λ (x : Reply). x.status) e, zero)),
+  λ a. absurd (refused_offer (offer_of files r1cs publics proof) a.offer refusal told a.read),
+)
+stopped_audit (Some files) r1cs publics proof failed StoreFailed r told e = absurd e
+stopped_audit (Some files) r1cs publics proof failed OutOfMemory r told e = absurd e
+
+pub ended_audit : (contents : Option Contents) (r1cs publics proof : List ℕ) (failed : Type 0)
+    (stop : Stop) (result : Result CodeReply IoFault) → StepsTo (λ (v : Audited). v) contents
+    (λ files found. Audits files r1cs publics proof found) failed (Err stop)
+    → EndsBy stop result → IfOk result (λ r. Told contents
+    (λ files. (r.status ≡ 0) ↔ IsAccepted files r1cs publics proof))
+ended_audit contents r1cs publics proof failed stop (Ok r) told e =
+    stopped_audit contents r1cs publics proof failed stop r told e
+ended_audit contents r1cs publics proof failed stop (Err fault) told e = tt

@@ -1,0 +1,5 @@
+pub mod Accepts
+pub mod CheckLaws
+pub mod Ended
+pub mod Numbers
+pub mod Once

@@ -1,0 +1,55 @@
+-- What the files that a command names mean, or why the first one is refused.
+use Rattle.std.specs.Prelude.{ℕ, List, Option, Some, None, Result, Ok, Err, codes}
+use Rattle.binary_format.specs.Reading.{◌>>=◌}
+use Rattle.out_io.specs.Contents.{Contents}
+use Rattle.iden_files.specs.File.{File}
+use Rattle.iden_files.specs.ReadR1cs.{r1cs_of}
+use Rattle.iden_files.specs.ReadWtns.{wtns_of}
+use Rattle.iden_files.specs.Refusal.{Refusal as Fault}
+use Rattle.circom_words.specs.declared.answer.Refusal.{Refusal}
+use Rattle.circom_words.specs.declared.answer.Refusal.TheVariants.{NoSuchFile, BadFile, BadInput as BadInputs}
+use Rattle.circom_words.specs.declared.answer.BadInput.{BadInput}
+use Rattle.circom_words.specs.declared.answer.BadInput.TheVariants.{NotJson, BadNumber as BadNumbers}
+use Rattle.wit_input.specs.Publics.{publics_of}
+use Rattle.wit_input.specs.declared.fault.InputFault.{InputFault}
+use Rattle.wit_input.specs.declared.fault.InputFault.TheVariants.{BadNumber}
+
+-- the bytes under the name
+abbrev pub bytes_in : Contents → List ℕ → Result (List ℕ) Refusal
+bytes_in files name = found name (files name)
+  where
+    found : List ℕ → Option (List ℕ) → Result (List ℕ) Refusal
+    found name None = Err (NoSuchFile name)
+    found name (Some bytes) = Ok bytes
+
+-- what a reader of this file's bytes gives
+abbrev pub accepted : {X : Type 0} → List ℕ → Result X Fault → Result X Refusal
+accepted name (Ok x) = Ok x
+accepted name (Err fault) = Err (BadFile name fault.cause fault.offset)
+
+-- the file of constraints under the name
+unfoldable pub r1cs_in : Contents → List ℕ → Result File Refusal
+r1cs_in files name = do
+  bytes ← bytes_in files name
+  accepted name (r1cs_of bytes)
+
+-- the values under the name
+unfoldable pub wtns_in : Contents → List ℕ → Result (List ℕ) Refusal
+wtns_in files name = do
+  bytes ← bytes_in files name
+  accepted name (wtns_of bytes)
+
+-- what is wrong with a public file: it is no array, or a value of it is no number
+abbrev pub bad_publics : InputFault → BadInput
+bad_publics (BadNumber input index) = BadNumbers (codes "public") index
+bad_publics _ = NotJson
+
+abbrev pub accepted_publics : Result (List ℕ) InputFault → Result (List ℕ) Refusal
+accepted_publics (Ok values) = Ok values
+accepted_publics (Err fault) = Err (BadInputs (bad_publics fault))
+
+-- the public values under the name
+unfoldable pub publics_in : Contents → List ℕ → Result (List ℕ) Refusal
+publics_in files name = do
+  bytes ← bytes_in files name
+  accepted_publics (publics_of bytes)

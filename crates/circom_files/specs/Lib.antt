@@ -1,0 +1,9 @@
+pub mod Accepted
+pub mod Check
+pub mod Files
+pub mod Proving
+pub mod Reply
+pub mod Satisfaction
+pub mod Shown
+pub mod Steps
+pub mod Stops

@@ -1,0 +1,80 @@
+-- The replies to commands over files of constraints and values.
+use Rattle.std.specs.Prelude.{◌≡◌, ℕ, List, length, Option, Some, None, Result, Ok, Err}
+use Rattle.out_io.specs.Calls.{Told}
+use Rattle.out_io.specs.Contents.{Contents}
+use Rattle.lig_proof.specs.declared.verdict.Verdict.{Verdict as Audited}
+use Rattle.wit_input.specs.Publics.{publics_text}
+use Rattle.circom_words.specs.Lines.{usage_line, fault_line, refusal_line, verdict_status, verdict_line}
+use Rattle.circom_words.specs.Proving.{proved_line, public_line, audit_status, audit_line}
+use Rattle.circom_words.specs.declared.answer.Refusal.{Refusal}
+use Rattle.circom_words.specs.declared.answer.Verdict.{Verdict}
+use Rattle.circom_files.specs.declared.outcome.Outcome.{Outcome}
+use Rattle.circom_files.specs.declared.outcome.Outcome.TheVariants.{Made, Unmade}
+use Rattle.circom_files.specs.declared.outcome.Published.{Published}
+use Rattle.circom_files.specs.declared.outcome.Published.TheVariants.{Values, Wrong}
+
+-- a file that is written
+pub record NewFile : Type 0 where
+  pub name : List ℕ
+  pub bytes : List ℕ
+
+-- the exit status, all that is put, and the file that is written, if any
+pub record Reply : Type 0 where
+  pub status : ℕ
+  pub text : List ℕ
+  pub file : Option NewFile
+
+-- the reply to words without a reading
+abbrev pub usage : Reply
+usage = record { status = 64; text = usage_line; file = None }
+
+-- what is said where the store failed
+abbrev pub store_failed : Reply
+store_failed = record { status = 3; text = fault_line; file = None }
+
+abbrev pub refused : Refusal → Reply
+refused refusal = record { status = 1; text = refusal_line refusal; file = None }
+
+abbrev pub checked : Verdict → Reply
+checked verdict = record {
+  status = verdict_status verdict;
+  text = verdict_line verdict;
+  file = None;
+}
+
+-- success, with this line, and a file under the name
+abbrev pub written : (text out bytes : List ℕ) → Reply
+written text out bytes = record {
+  status = 0;
+  text = text;
+  file = Some (record { name = out; bytes = bytes });
+}
+
+-- the proof is written under the name
+abbrev pub proved : List ℕ → Outcome → Reply
+proved out (Made bytes) = written (proved_line (length bytes)) out bytes
+proved out (Unmade verdict) = checked verdict
+
+-- the public values are written under the name
+abbrev pub published : List ℕ → Published → Reply
+published out (Values values) = written (public_line (length values)) out (publics_text values)
+published out (Wrong verdict) = checked verdict
+
+abbrev pub audited : Audited → Reply
+audited verdict = record {
+  status = audit_status verdict;
+  text = audit_line verdict;
+  file = None;
+}
+
+-- what a command found as its reply, or its refusal
+abbrev pub said : {X : Type 0} → (X → Reply) → Result X Refusal → Reply
+said reply (Ok x) = reply x
+said reply (Err refusal) = refused refusal
+
+-- the reply says what the command finds in the files, where the store tells them
+abbrev pub Says : {X : Type 0} → Option Contents → (X → Reply)
+    → (Contents → Result X Refusal → Type 0) → Reply → Type 0
+Says {X} contents reply Finds r =
+    (found : Result X Refusal)
+    × Told contents (λ files. Finds files found) × (r ≡ said reply found)

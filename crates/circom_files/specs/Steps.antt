@@ -1,0 +1,52 @@
+-- What one step of a command did.
+use Rattle.std.specs.Prelude.{◌≡◌, ℕ, List, Option, Result, Ok, Err}
+use Rattle.out_io.specs.Calls.{Told}
+use Rattle.out_io.specs.Contents.{Contents}
+use Rattle.iden_files.specs.declared.fault.FileFault.{FileFault}
+use Rattle.iden_files.specs.declared.fault.FileFault.TheVariants as file
+use Rattle.circom_words.specs.declared.answer.Refusal.{Refusal}
+use Rattle.circom_words.specs.declared.answer.Refusal.TheVariants.{BadFile, BadInput}
+use Rattle.wit_input.specs.declared.fault.InputFault.{InputFault}
+use Rattle.wit_input.specs.declared.fault.InputFault.TheVariants as input
+use Rattle.circom_files.specs.Files.{bad_publics}
+use Rattle.circom_files.specs.declared.stop.Stop.{Stop}
+use Rattle.circom_files.specs.declared.stop.Stop.TheVariants.{Refused, StoreFailed, OutOfMemory}
+
+-- The step gave what the definition gives over the contents, or its refusal. It failed only where
+-- the store did; want of memory is free.
+abbrev pub Steps : {X Y : Type 0} → (X → Y) → Option Contents → (Contents → Result Y Refusal)
+    → Type 0 → Result X Stop → Type 0
+Steps view contents meaning failed (Ok x) = Told contents (λ files. meaning files ≡ Ok (view x))
+Steps view contents meaning failed (Err (Refused refusal)) =
+    Told contents (λ files. meaning files ≡ Err refusal)
+Steps view contents meaning failed (Err StoreFailed) = failed
+Steps view contents meaning failed (Err OutOfMemory) = Unit {0}
+
+-- the command ends for this fault of the file under the name; memory may lack for the name
+abbrev pub Refuses : List ℕ → FileFault → Stop → Type 0
+Refuses name (file.At cause offset) (Refused refusal) = refusal ≡ BadFile name cause offset
+Refuses name fault OutOfMemory = Unit {0}
+Refuses name fault stop = ⊥
+
+-- The same where what the command finds is a relation.
+abbrev pub StepsTo : {X Y : Type 0} → (X → Y) → Option Contents
+    → (Contents → Result Y Refusal → Type 0) → Type 0 → Result X Stop → Type 0
+StepsTo view contents Finds failed (Ok x) = Told contents (λ files. Finds files (Ok (view x)))
+StepsTo view contents Finds failed (Err (Refused refusal)) =
+    Told contents (λ files. Finds files (Err refusal))
+StepsTo view contents Finds failed (Err StoreFailed) = failed
+StepsTo view contents Finds failed (Err OutOfMemory) = Unit {0}
+
+-- what a step over bytes that were read gave: the store has no part in it
+abbrev pub Gets : {X Y : Type 0} → (X → Y) → Result Y Refusal → Result X Stop → Type 0
+Gets view meaning (Ok x) = meaning ≡ Ok (view x)
+Gets view meaning (Err (Refused refusal)) = meaning ≡ Err refusal
+Gets view meaning (Err StoreFailed) = ⊥
+Gets view meaning (Err OutOfMemory) = Unit {0}
+
+-- and for this fault of a public file
+abbrev pub RefusesPublics : InputFault → Stop → Type 0
+RefusesPublics input.OutOfMemory (Refused refusal) = ⊥
+RefusesPublics fault (Refused refusal) = refusal ≡ BadInput (bad_publics fault)
+RefusesPublics fault OutOfMemory = Unit {0}
+RefusesPublics fault StoreFailed = ⊥

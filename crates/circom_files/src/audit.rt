@@ -1,0 +1,108 @@
+ghost use Rattle.std.specs.Prelude.{◌≡◌, ◌↔◌, IfOk, IsErrOf};
+ghost use Rattle.out_io.specs.Calls.{OnlyReads, Told};
+ghost use Rattle.out_io.specs.Faults.{Rose};
+ghost use Rattle.out_io.specs.declared.fault.IoFault.TheVariants.{Failed};
+ghost use Rattle.iden_files.specs.File.{InLimits};
+ghost use Rattle.lig_proof.specs.declared.verdict.Verdict.TheVariants.{Accepted};
+ghost use Rattle.circom_files.specs.Accepted.{IsAccepted};
+ghost use Rattle.circom_files.specs.Proving.{Audits, IsAudited, offer_of};
+ghost use Rattle.circom_files.specs.Reply.{Says, audited};
+ghost use Rattle.circom_files.specs.Shown.{shown};
+ghost use Rattle.circom_files.specs.Steps.{Steps, StepsTo};
+
+use crate::inputs::{bytes_in, publics_in, r1cs_from};
+use crate::outcome::Offer;
+use crate::reply::Reply;
+use crate::stop::Stop;
+use items::Items;
+use lig_auditor::audit;
+use lig_proof::Verdict;
+use out_io::{IoFault, Store};
+use std::alloc::{AllocError, Global};
+
+/// The reply of `audit`: the verdict on the bytes that one file offers as a proof.
+pub fn audit_reply<'w, S: Store>(
+    alloc: Global,
+    r1cs: &str,
+    publics: &str,
+    proof: &str,
+    store: &mut S,
+) -> Result<Reply<'w>, IoFault>
+    ensures says { IfOk result (λ r. Says (S.contents store.old) audited
+        (λ files found. Audits files r1cs.now publics.now proof.now found) (shown r)) }
+    ensures accepted { IfOk result (λ r. Told (S.contents store.old) (λ files.
+        (r.status ≡ 0) ↔ IsAccepted files r1cs.now publics.now proof.now)) }
+    ensures fault { IsErrOf result Failed → Rose (S.faults store.old) (S.faults store.new) }
+    ensures store { OnlyReads (S.contents store.old) (S.contents store.new)
+        (S.faults store.old) (S.faults store.new)
+        (S.never_fails store.old) (S.never_fails store.new) }
+{
+    match verdict_in(alloc, r1cs, publics, proof, store) {
+        Ok(verdict) => Ok(Reply::audited(alloc, verdict)?),
+        Err(stop) => stop.reply(alloc),
+    }
+}
+
+// The verdict on what is offered.
+fn verdict_in<S: Store>(
+    alloc: Global,
+    r1cs: &str,
+    publics: &str,
+    proof: &str,
+    store: &mut S,
+) -> Result<Verdict, Stop>
+    ensures step { StepsTo (λ verdict. verdict) (S.contents store.old)
+        (λ files found. Audits files r1cs.now publics.now proof.now found)
+        (Rose (S.faults store.old) (S.faults store.new)) result }
+    ensures one { IfOk result (λ verdict. Told (S.contents store.old)
+        (λ files. IsAccepted files r1cs.now publics.now proof.now → verdict ≡ Accepted)) }
+    ensures store { OnlyReads (S.contents store.old) (S.contents store.new)
+        (S.faults store.old) (S.faults store.new)
+        (S.never_fails store.old) (S.never_fails store.new) }
+{
+    let offer = offer_in(alloc, r1cs, publics, proof, store)?;
+    let verdict = verdict_on(alloc, &offer)?;
+    Ok(verdict)
+}
+
+fn verdict_on(alloc: Global, offer: &Offer) -> Result<Verdict, AllocError>
+    requires { InLimits offer.now.file }
+    ensures { IfOk result (IsAudited offer.now) }
+{
+    audit(
+        alloc,
+        offer.bytes.as_slice(),
+        &offer.file,
+        offer.publics.as_slice(),
+        offer.proof.as_slice(),
+    )
+}
+
+// The file of constraints, the public values and the proof.
+#[tactic(auto, unfolding(crate::specs::Proving::offer_of))]
+fn offer_in<S: Store>(
+    alloc: Global,
+    r1cs: &str,
+    publics: &str,
+    proof: &str,
+    store: &mut S,
+) -> Result<Offer, Stop>
+    ensures step { Steps (λ o. o) (S.contents store.old)
+        (λ files. offer_of files r1cs.now publics.now proof.now)
+        (Rose (S.faults store.old) (S.faults store.new)) result }
+    ensures limits { IfOk result (λ o. InLimits o.file) }
+    ensures store { OnlyReads (S.contents store.old) (S.contents store.new)
+        (S.faults store.old) (S.faults store.new)
+        (S.never_fails store.old) (S.never_fails store.new) }
+{
+    let bytes = bytes_in(alloc, store, r1cs)?;
+    let file = r1cs_from(alloc, r1cs, bytes.as_slice())?;
+    let values = publics_in(alloc, store, publics)?;
+    let offered = bytes_in(alloc, store, proof)?;
+    Ok(Offer {
+        bytes: Items::of(bytes),
+        file,
+        publics: Items::of(values),
+        proof: Items::of(offered),
+    })
+}

@@ -1,0 +1,21 @@
+//! The commands of `circom_gold` over files of constraints and values: what they find in the files,
+//! and their replies.
+#![tactic(auto)]
+
+mod audit;
+mod check;
+mod inputs;
+mod laws;
+mod outcome;
+mod prove;
+mod publics;
+mod reply;
+mod stop;
+
+pub use audit::audit_reply;
+pub use check::check_reply;
+pub use laws::check_laws;
+pub use prove::prove_reply;
+pub use publics::public_reply;
+pub use reply::{NewFile, Reply};
+pub use stop::Stop;

@@ -1,0 +1,155 @@
+ghost use Rattle.std.specs.Prelude.{◌≡◌, ◌⊎◌, ◌<◌, ℕ, List, Some, None, All, IfErr, IfOk, IsErrOf};
+ghost use Rattle.out_io.specs.Calls.{OnlyReads, Told};
+ghost use Rattle.out_io.specs.Faults.{Rose};
+ghost use Rattle.out_io.specs.declared.fault.IoFault.TheVariants.{Failed};
+ghost use Rattle.iden_files.specs.File.{InLimits, IsFile};
+ghost use Rattle.gold_field.specs.declared.gold.TheConstants.{P};
+ghost use Rattle.lig_layout.specs.Layout.{vectors_of};
+ghost use Rattle.lig_proof.specs.Proving.{AreMade};
+ghost use Rattle.lig_prover.specs.Refusing.{refusal_of};
+ghost use Rattle.lig_prover.specs.declared.fault.ProveFault.TheVariants.{OutOfMemory};
+ghost use Rattle.circom_words.specs.Words.{meant_proving};
+ghost use Rattle.circom_files.specs.Accepted.{IsAcceptedFor, IsProofOf, WritesProof};
+ghost use Rattle.circom_files.specs.Proving.{IsProved, Proves, witness_of};
+ghost use Rattle.circom_files.specs.Reply.{Says, proved};
+ghost use Rattle.circom_files.specs.Shown.{shown};
+ghost use Rattle.circom_files.specs.Steps.{Steps, StepsTo};
+ghost use Rattle.circom_files.specs.declared.outcome.Outcome.TheVariants.{Made};
+
+use crate::inputs::{bytes_in, r1cs_from, wtns_in};
+use crate::outcome::{Outcome, Witness};
+use crate::reply::Reply;
+use crate::stop::Stop;
+use circom_words::{ProveOptions, Verdict};
+use items::Items;
+use lig_proof::Version;
+use lig_prover::{ProveFault, prove, prove2};
+use out_io::{IoFault, Store};
+use std::alloc::{AllocError, Global};
+use std::thread::Threads;
+
+/// The reply of `prove`: the proof, under the name `out`, that the values in one file satisfy the
+/// constraints in the other.
+pub fn prove_reply<'w, R: Threads + AllocGlobal + Sync, S: Store>(
+    rt: &R,
+    alloc: Global,
+    r1cs: &str,
+    wtns: &str,
+    out: &'w str,
+    options: ProveOptions,
+    store: &mut S,
+) -> Result<Reply<'w>, IoFault>
+    ensures says { IfOk result (λ r. Says (S.contents store.old) (proved out.entry.now)
+        (λ files found. Proves files r1cs.now wtns.now (meant_proving options) found) (shown r)) }
+    ensures accepted { IfOk result (λ r. r.status ≡ 0 → Told (S.contents store.old)
+        (λ files. WritesProof files r1cs.now wtns.now out.entry.now (shown r))) }
+    ensures fault { IsErrOf result Failed → Rose (S.faults store.old) (S.faults store.new) }
+    ensures store { OnlyReads (S.contents store.old) (S.contents store.new)
+        (S.faults store.old) (S.faults store.new)
+        (S.never_fails store.old) (S.never_fails store.new) }
+{
+    match outcome_in(rt, alloc, r1cs, wtns, options, store) {
+        Ok(outcome) => Ok(Reply::proved(alloc, out, outcome)?),
+        Err(stop) => stop.reply(alloc),
+    }
+}
+
+// The proof, or what is wrong with the values.
+fn outcome_in<R: Threads + AllocGlobal + Sync, S: Store>(
+    rt: &R,
+    alloc: Global,
+    r1cs: &str,
+    wtns: &str,
+    options: ProveOptions,
+    store: &mut S,
+) -> Result<Outcome, Stop>
+    ensures step { StepsTo (λ outcome. outcome) (S.contents store.old)
+        (λ files found. Proves files r1cs.now wtns.now (meant_proving options) found)
+        (Rose (S.faults store.old) (S.faults store.new)) result }
+    ensures accepted { IfOk result (λ outcome. (proof : List ℕ) → outcome ≡ Made proof
+        → Told (S.contents store.old) (λ files. IsProofOf files r1cs.now wtns.now proof)) }
+    ensures store { OnlyReads (S.contents store.old) (S.contents store.new)
+        (S.faults store.old) (S.faults store.new)
+        (S.never_fails store.old) (S.never_fails store.new) }
+{
+    let witness = witness_in(alloc, r1cs, wtns, store)?;
+    let outcome = outcome_of(rt, &witness, options)?;
+    Ok(outcome)
+}
+
+// The file of constraints and the values.
+#[tactic(auto, unfolding(crate::specs::Proving::witness_of))]
+fn witness_in<S: Store>(
+    alloc: Global,
+    r1cs: &str,
+    wtns: &str,
+    store: &mut S,
+) -> Result<Witness, Stop>
+    ensures step { Steps (λ w. w) (S.contents store.old)
+        (λ files. witness_of files r1cs.now wtns.now)
+        (Rose (S.faults store.old) (S.faults store.new)) result }
+    ensures limits { IfOk result (λ w. InLimits w.file) }
+    ensures numbers { IfOk result (λ w. All (λ value. value < P) w.values) }
+    ensures store { OnlyReads (S.contents store.old) (S.contents store.new)
+        (S.faults store.old) (S.faults store.new)
+        (S.never_fails store.old) (S.never_fails store.new) }
+{
+    let bytes = bytes_in(alloc, store, r1cs)?;
+    let file = r1cs_from(alloc, r1cs, bytes.as_slice())?;
+    let values = wtns_in(alloc, store, wtns)?;
+    Ok(Witness {
+        bytes: Items::of(bytes),
+        file,
+        values: Items::of(values),
+    })
+}
+
+// The proof that the values satisfy the file, or what is wrong with them.
+fn outcome_of<R: Threads + AllocGlobal + Sync>(
+    rt: &R,
+    witness: &Witness,
+    options: ProveOptions,
+) -> Result<Outcome, AllocError>
+    requires limits { InLimits witness.now.file }
+    requires numbers { All (λ value. value < P) witness.now.values }
+    ensures proved { IfOk result (IsProved (meant_proving options) witness.now) }
+    ensures accepted { IfOk result (λ outcome. (proof : List ℕ) → outcome ≡ Made proof
+        → IsAcceptedFor witness.now proof) }
+{
+    match proof_of(rt, witness, options) {
+        Ok(proof) => Ok(Outcome::Made(Items::of(proof))),
+        Err(ProveFault::WrongLength { has, wants }) => Ok(Outcome::Unmade(Verdict::CountsDiffer {
+            values: has,
+            wires: wants,
+        })),
+        Err(ProveFault::WireZero) => Ok(Outcome::Unmade(Verdict::WireZero)),
+        Err(ProveFault::Unsatisfied { constraint }) => {
+            Ok(Outcome::Unmade(Verdict::ConstraintFails { index: constraint }))
+        }
+        Err(ProveFault::OutOfMemory) => Err(AllocError),
+    }
+}
+
+// The proof in the version that is asked for.
+fn proof_of<R: Threads + AllocGlobal + Sync>(
+    rt: &R,
+    witness: &Witness,
+    options: ProveOptions,
+) -> Result<Vec<u8>, ProveFault>
+    requires { InLimits witness.now.file }
+    ensures made { IfOk result (λ v. AreMade options.version witness.now.bytes witness.now.file
+        (vectors_of witness.now.file witness.now.values) options.seed v.items) }
+    ensures satisfied { IfOk result
+        (λ v. refusal_of witness.now.file witness.now.values ≡ None) }
+    ensures refused { IfErr result (λ fault. (fault ≡ OutOfMemory)
+        ⊎ (refusal_of witness.now.file witness.now.values ≡ Some fault)) }
+    ensures file { IsFile witness.now.file }
+{
+    let _constraints = witness.file.constraints();
+    let bytes = witness.bytes.as_slice();
+    let values = witness.values.as_slice();
+    match options.version {
+        Version::One => prove(rt, bytes, &witness.file, values, options.seed),
+        Version::Two => prove2(rt, bytes, &witness.file, values, options.seed),
+    }
+}

@@ -1,0 +1,78 @@
+ghost use Rattle.std.specs.Prelude.{◌≡◌, IfOk, IsErrOf};
+ghost use Rattle.out_io.specs.Calls.{OnlyReads};
+ghost use Rattle.out_io.specs.Faults.{Rose};
+ghost use Rattle.out_io.specs.declared.fault.IoFault.TheVariants.{Failed};
+ghost use Rattle.circom_files.specs.Proving.{public_of, published_values};
+ghost use Rattle.circom_files.specs.Reply.{Says, published};
+ghost use Rattle.circom_files.specs.Shown.{shown};
+ghost use Rattle.circom_files.specs.Steps.{Steps};
+
+use crate::inputs::{r1cs_in, wtns_in};
+use crate::outcome::Published;
+use crate::reply::Reply;
+use crate::stop::Stop;
+use circom_words::Verdict;
+use gold_field::Gold;
+use iden_files::R1cs;
+use items::Items;
+use out_io::{IoFault, Store};
+use std::alloc::{AllocError, Global};
+
+/// The reply of `public`: the public values among those in one file, under the name `out`.
+pub fn public_reply<'w, S: Store>(
+    alloc: Global,
+    r1cs: &str,
+    wtns: &str,
+    out: &'w str,
+    store: &mut S,
+) -> Result<Reply<'w>, IoFault>
+    ensures says { IfOk result (λ r. Says (S.contents store.old) (published out.entry.now)
+        (λ files found. public_of files r1cs.now wtns.now ≡ found) (shown r)) }
+    ensures fault { IsErrOf result Failed → Rose (S.faults store.old) (S.faults store.new) }
+    ensures store { OnlyReads (S.contents store.old) (S.contents store.new)
+        (S.faults store.old) (S.faults store.new)
+        (S.never_fails store.old) (S.never_fails store.new) }
+{
+    match published_in(alloc, r1cs, wtns, store) {
+        Ok(published) => Ok(Reply::published(alloc, out, published)?),
+        Err(stop) => stop.reply(alloc),
+    }
+}
+
+// The public values, or what is wrong with the values.
+#[tactic(auto, unfolding(crate::specs::Proving::public_of))]
+fn published_in<S: Store>(
+    alloc: Global,
+    r1cs: &str,
+    wtns: &str,
+    store: &mut S,
+) -> Result<Published, Stop>
+    ensures step { Steps (λ found. found) (S.contents store.old)
+        (λ files. public_of files r1cs.now wtns.now)
+        (Rose (S.faults store.old) (S.faults store.new)) result }
+    ensures store { OnlyReads (S.contents store.old) (S.contents store.new)
+        (S.faults store.old) (S.faults store.new)
+        (S.never_fails store.old) (S.never_fails store.new) }
+{
+    let file = r1cs_in(alloc, store, r1cs)?;
+    let values = wtns_in(alloc, store, wtns)?;
+    Ok(published_values(alloc, &file, values.as_slice())?)
+}
+
+// By the count of values, then wire 0.
+fn published_values(alloc: Global, file: &R1cs, values: &[Gold]) -> Result<Published, AllocError>
+    ensures { IfOk result (λ found. found ≡ published_values file.now values.now) }
+{
+    if values.len() != file.wires as usize {
+        return Ok(Published::Wrong(Verdict::CountsDiffer {
+            values: values.len() as u64,
+            wires: file.wires,
+        }));
+    }
+    if values.is_empty() || values[0].get() != 1 {
+        return Ok(Published::Wrong(Verdict::WireZero));
+    }
+    let count = file.outputs as usize + file.public_inputs as usize;
+    let rest = &values[1..];
+    Ok(Published::Values(Items::from_slice(alloc, &rest[..count])?))
+}

@@ -1,0 +1,114 @@
+ghost use Rattle.std.specs.Prelude.{◌≡◌, IfOk};
+ghost use Rattle.circom_files.specs.Shown.{shown};
+
+use crate::outcome::{Outcome, Published};
+use circom_words::{
+    Refusal, Verdict, audit_line, audit_status, fault_line, proved_line, public_line, usage_line,
+};
+use items::Items;
+use lig_proof::Verdict as Audited;
+use std::alloc::{AllocError, Global};
+use wit_input::write_publics;
+
+/// What the program answers: the exit status, all that it puts, and the file that it writes before,
+/// if any.
+#[derive(Debug, Drop)]
+pub struct Reply<'w> {
+    pub status: u8,
+    pub text: Items<u8>,
+    pub file: Option<NewFile<'w>>,
+}
+
+/// A file that is written.
+#[derive(Debug, Drop)]
+pub struct NewFile<'w> {
+    pub name: &'w str,
+    pub bytes: Items<u8>,
+}
+
+impl<'w> Reply<'w> {
+    ghost use Rattle.circom_files.specs.Reply.{usage, refused, checked, written, proved, published, audited, store_failed};
+
+    /// A reply that writes no file.
+    fn saying(status: u8, text: Vec<u8>) -> Reply<'w>
+        ensures { shown result ≡ record { status = status; text = text.items; file = None } }
+    {
+        Reply {
+            status,
+            text: Items::of(text),
+            file: None,
+        }
+    }
+
+    /// The reply to words without a reading.
+    pub fn usage(alloc: Global) -> Result<Reply<'w>, AllocError>
+        ensures { IfOk result (λ r. shown r ≡ usage) }
+    {
+        Ok(Reply::saying(64, usage_line(alloc)?))
+    }
+
+    pub fn refused(alloc: Global, refusal: &Refusal) -> Result<Reply<'w>, AllocError>
+        ensures { IfOk result (λ r. shown r ≡ refused refusal.now) }
+    {
+        Ok(Reply::saying(1, refusal.line(alloc)?))
+    }
+
+    /// The reply of `check`.
+    pub fn checked(alloc: Global, verdict: Verdict) -> Result<Reply<'w>, AllocError>
+        ensures { IfOk result (λ r. shown r ≡ checked verdict) }
+    {
+        Ok(Reply::saying(verdict.status(), verdict.line(alloc)?))
+    }
+
+    /// Success, with this line, and a file under the name.
+    pub fn written(text: Vec<u8>, out: &'w str, bytes: Items<u8>) -> Reply<'w>
+        ensures { shown result ≡ written text.items out.entry.now bytes }
+    {
+        Reply {
+            status: 0,
+            text: Items::of(text),
+            file: Some(NewFile { name: out, bytes }),
+        }
+    }
+
+    /// The reply of `prove`.
+    pub fn proved(alloc: Global, out: &'w str, outcome: Outcome) -> Result<Reply<'w>, AllocError>
+        ensures { IfOk result (λ r. shown r ≡ proved out.entry.now outcome) }
+    {
+        match outcome {
+            Outcome::Made(bytes) => {
+                let text = proved_line(alloc, bytes.len())?;
+                Ok(Reply::written(text, out, bytes))
+            }
+            Outcome::Unmade(verdict) => Reply::checked(alloc, verdict),
+        }
+    }
+
+    /// The reply of `public`.
+    pub fn published(alloc: Global, out: &'w str, found: Published) -> Result<Reply<'w>, AllocError>
+        ensures { IfOk result (λ r. shown r ≡ published out.entry.now found) }
+    {
+        match found {
+            Published::Values(values) => {
+                let bytes = write_publics(alloc, values.as_slice())?;
+                let text = public_line(alloc, values.len())?;
+                Ok(Reply::written(text, out, Items::of(bytes)))
+            }
+            Published::Wrong(verdict) => Reply::checked(alloc, verdict),
+        }
+    }
+
+    /// The reply of `audit`.
+    pub fn audited(alloc: Global, verdict: Audited) -> Result<Reply<'w>, AllocError>
+        ensures { IfOk result (λ r. shown r ≡ audited verdict) }
+    {
+        Ok(Reply::saying(audit_status(verdict), audit_line(alloc, verdict)?))
+    }
+
+    /// What is said where the store failed.
+    pub fn store_failed(alloc: Global) -> Result<Reply<'w>, AllocError>
+        ensures { IfOk result (λ r. shown r ≡ store_failed) }
+    {
+        Ok(Reply::saying(3, fault_line(alloc)?))
+    }
+}

@@ -1,0 +1,5 @@
+pub mod Lines
+pub mod Matches
+pub mod Numbers
+pub mod Proving
+pub mod Words

@@ -1,0 +1,53 @@
+use iden_files::FileCause;
+use items::Items;
+
+/// Why a command refuses what it was given.
+#[derive(Debug, Drop)]
+pub enum Refusal {
+    NoSuchFile {
+        name: Items<u8>,
+    },
+    /// What is wrong with a file, and the place of the byte where it is.
+    BadFile {
+        name: Items<u8>,
+        cause: FileCause,
+        offset: u64,
+    },
+    /// What is wrong with a source, and where.
+    BadSource(cir_ast::Refusal),
+    /// What is wrong with inputs or public values.
+    BadInput(BadInput),
+}
+
+/// What is wrong with a JSON file of inputs, or of public values, whose name is then `public`.
+#[derive(Debug, Drop)]
+pub enum BadInput {
+    NotJson,
+    Missing {
+        name: Items<u8>,
+    },
+    UnknownSignal {
+        key: Items<u8>,
+    },
+    WrongCount {
+        name: Items<u8>,
+        has: u64,
+        wants: u32,
+    },
+    BadNumber {
+        name: Items<u8>,
+        index: u64,
+    },
+}
+
+/// What `check` finds.
+#[derive(Clone, Copy, Debug, PartialEq, Eq)]
+pub enum Verdict {
+    /// There aren't as many values as wires.
+    CountsDiffer { values: u64, wires: u32 },
+    /// The value of wire 0 isn't 1.
+    WireZero,
+    /// The least constraint that the values don't satisfy, counted from 0.
+    ConstraintFails { index: u32 },
+    Satisfied,
+}
