@@ -4,18 +4,22 @@
 ghost use Rattle.std.specs.Prelude.{◌≡◌, IfOk, IsErr};
 
 use circom_gold::run;
-use out_io::{RealSink, RealStore};
-use std::alloc::AllocError;
+use out_io::{RealSink, RealStore, Sink, Store};
+use std::alloc::{AllocError, AllocGlobal};
 use std::env;
 use std::io::ErrorKind;
 use std::process::ExitCode;
 use std::rt::Env;
+use std::thread::Threads;
 
 // The exit status where memory ran out.
 const WANT_OF_MEMORY: u8 = 4;
 
 fn main(rt: HostRuntime) -> ExitCode {
-    let outcome = outcome(&rt);
+    let outcome = match devices(&rt) {
+        Ok((mut store, mut out)) => outcome(&rt, &mut store, &mut out),
+        Err(error) => Err(error),
+    };
     if outcome.is_err() {
         let _ = eprintln!(rt; "want of memory");
     }
@@ -33,11 +37,20 @@ fn exit_status(outcome: Result<u8, AllocError>) -> u8
     }
 }
 
-fn outcome(rt: &HostRuntime) -> Result<u8, AllocError> {
+// The real files and the real standard output.
+fn devices(
+    rt: &HostRuntime,
+) -> Result<(RealStore<HostRuntime>, RealSink<HostRuntime>), AllocError> {
+    Ok((RealStore::new(rt.clone()?), RealSink::new(rt.clone()?)))
+}
+
+fn outcome<R: Threads + Env + AllocGlobal + Sync, S: Store, K: Sink>(
+    rt: &R,
+    store: &mut S,
+    out: &mut K,
+) -> Result<u8, AllocError> {
     let words = words(rt)?;
-    let mut store = RealStore::new(rt.clone()?);
-    let mut out = RealSink::new(rt.clone()?);
-    run(rt.alloc(), words.as_slice(), &mut store, &mut out)
+    run(rt, rt.alloc(), words.as_slice(), store, out)
 }
 
 // The words behind the program's name. Where one isn't UTF-8 there are none, which have no reading

@@ -1,4 +1,2 @@
-pub mod Forms
 pub mod OneReply
 pub mod Replies
-pub mod CheckLaws

@@ -1,11 +1,14 @@
 -- The files decide the reply.
-use Rattle.std.proofs.Common.{◌≡◌, ◌∙◌, Option, Some, None, Result, ap, sym}
+use Rattle.std.proofs.Common.{◌≡◌, ◌∙◌, ℕ, List, Option, Some, None, Result, Ok, Err, ap, refl, sym, subst}
 use Rattle.out_io.specs.Contents.{Contents}
-use Rattle.circom_gold.specs.Check.{check_of}
+use Rattle.circom_words.specs.Words.{Command, ProveOptions, check, compile, prove, public, audit}
+use Rattle.circom_words.specs.declared.answer.Refusal.{Refusal}
+use Rattle.circom_files.proofs.Once.{one_outcome, one_audit}
+use Rattle.circom_files.specs.Check.{check_of}
+use Rattle.circom_files.specs.Proving.{Audits, Proves, public_of}
+use Rattle.circom_files.specs.Reply.{Reply, Says, audited, checked, proved, published, said}
 use Rattle.circom_gold.specs.Compile.{Compiles}
-use Rattle.circom_gold.specs.Reply.{Reply, Answers, IsDecided, Says, checked, compiled, said}
-use Rattle.circom_gold.specs.Words.{Command, check, compile}
-use Rattle.circom_gold.specs.declared.answer.Refusal.{Refusal}
+use Rattle.circom_gold.specs.Reply.{Answers, IsDecided, compiled}
 
 -- what is said is one where what is found is one
 one_said : {X : Type 0} (files : Contents) (reply : X → Reply)
@@ -24,3 +27,12 @@ one_reply files (Some (check r1cs wtns)) a b decided p q =
     (λ x y e f. sym e ∙ f) p q
 one_reply files (Some (compile source out options)) a b decided p q =
     one_said files (compiled out) (λ from found. Compiles from source options found) a b decided p q
+one_reply files (Some (prove r1cs wtns out options)) a b decided p q =
+    one_said files (proved out) (λ from found. Proves from r1cs wtns options found) a b
+    (one_outcome files r1cs wtns options decided) p q
+one_reply files (Some (public r1cs wtns out)) a b decided p q =
+    one_said files (published out) (λ from found. public_of from r1cs wtns ≡ found) a b
+    (λ x y e f. sym e ∙ f) p q
+one_reply files (Some (audit r1cs publics proof)) a b decided p q =
+    one_said files audited (λ from found. Audits from r1cs publics proof found) a b
+    (one_audit files r1cs publics proof decided) p q

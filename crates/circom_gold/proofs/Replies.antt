@@ -1,5 +1,5 @@
 -- What a command says where it was stopped, and what a run does with its reply.
-use Rattle.std.proofs.Common.{◌≡◌, ◌<◌, ◌∙◌, ◌++◌, ℕ, List, [], length, Option, Some, None, Result, Ok, Err, IfOk, refl, sym, ap, subst, inl, inr, arith}
+use Rattle.std.proofs.Common.{◌≡◌, ◌<◌, ◌∙◌, ◌++◌, ◌↔◌, ◌⊎◌, ℕ, List, [], length, Option, Some, None, Result, Ok, Err, IfOk, refl, sym, ap, subst, inl, inr, arith}
 use Rattle.std.proofs.Math.Seq.{take-length}
 use Rattle.std.proofs.lemmas.List.{append-nil}
 use Rattle.std.proofs.lemmas.Result.{IfOk-weaker}
@@ -13,29 +13,30 @@ use Rattle.iden_files.specs.File.{File}
 use Rattle.iden_files.specs.ReadR1cs.{r1cs_of}
 use Rattle.iden_files.specs.Spelling.{r1cs_bytes}
 use Rattle.circom_gold.specs.Compile.{Compiles, HoldsConstraintsOf, SourceSteps}
-use Rattle.circom_gold.specs.Lines.{fault_line, verdict_status}
-use Rattle.circom_gold.specs.Reply.{Reply, NewFile, Answers, Says, WritesConstraintsOf, said, checked, compiled, store_failed}
+use Rattle.circom_words.specs.Lines.{fault_line, verdict_status}
+use Rattle.circom_words.specs.Proving.{audit_status}
+use Rattle.lig_proof.specs.declared.verdict.Verdict.{Verdict as Audited}
+use Rattle.lig_proof.specs.declared.verdict.Verdict.TheVariants as audits
+use Rattle.circom_files.specs.Accepted.{HoldsProof, IsAccepted, WritesProof}
+use Rattle.circom_files.specs.Proving.{Audits, Proves}
+use Rattle.circom_files.specs.Reply.{Reply, NewFile, Says, said, checked, proved, published, audited, store_failed}
+use Rattle.circom_files.specs.declared.outcome.Outcome.{Outcome}
+use Rattle.circom_files.specs.declared.outcome.Outcome.TheVariants.{Made, Unmade}
+use Rattle.circom_files.specs.declared.outcome.Published.{Published}
+use Rattle.circom_files.specs.declared.outcome.Published.TheVariants.{Values, Wrong}
+use Rattle.circom_gold.specs.Reply.{Answers, WritesConstraintsOf, compiled}
 use Rattle.circom_gold.specs.Run.{Ends, Stays, Leaves, LeavesInPart, Puts, Replies, Writing}
-use Rattle.circom_gold.specs.Shown.{shown}
-use Rattle.circom_gold.specs.Steps.{Steps}
-use Rattle.circom_gold.specs.Stops.{EndsBy}
-use Rattle.circom_gold.specs.Words.{Command, Options, check, compile}
-use Rattle.circom_gold.specs.declared.answer.Refusal.{Refusal}
-use Rattle.circom_gold.specs.declared.answer.Verdict.{Verdict}
-use Rattle.circom_gold.specs.declared.answer.Verdict.TheVariants.{CountsDiffer, WireZero, ConstraintFails, Satisfied}
-use Rattle.circom_gold.specs.declared.reply.Reply.{Reply as CodeReply}
-use Rattle.circom_gold.specs.declared.stop.Stop.{Stop}
-use Rattle.circom_gold.specs.declared.stop.Stop.TheVariants.{Refused, StoreFailed, OutOfMemory}
+use Rattle.circom_files.specs.Shown.{shown}
+use Rattle.circom_files.specs.Stops.{EndsBy}
+use Rattle.circom_words.specs.Words.{Command, Options, ProveOptions, check, compile, prove, public, audit}
+use Rattle.circom_words.specs.declared.answer.Refusal.{Refusal}
+use Rattle.circom_words.specs.declared.answer.Verdict.{Verdict}
+use Rattle.circom_words.specs.declared.answer.Verdict.TheVariants.{CountsDiffer, WireZero, ConstraintFails, Satisfied}
+use Rattle.circom_files.specs.declared.reply.Reply.{Reply as CodeReply}
+use Rattle.circom_files.specs.declared.stop.Stop.{Stop}
+use Rattle.circom_files.specs.declared.stop.Stop.TheVariants.{Refused, StoreFailed, OutOfMemory}
 
 -- a command that was stopped says its refusal
-pub stopped : {X : Type 0} (contents : Option Contents) (reply : X → Reply)
-    (meaning : Contents → Result X Refusal) (failed : Type 0) (stop : Stop) (r : CodeReply)
-    → Steps (λ (x : X). x) contents meaning failed (Err stop) → EndsBy stop (Ok r)
-    → Says contents reply (λ files found. meaning files ≡ found) (shown r)
-stopped contents reply meaning failed (Refused refusal) r told e = (Err refusal, told, e)
-stopped contents reply meaning failed StoreFailed r told e = absurd e
-stopped contents reply meaning failed OutOfMemory r told e = absurd e
-
 pub source_stopped : (contents : Option Contents) (reply : File → Reply) (source : List ℕ)
     (options : Options) (failed : Type 0) (stop : Stop) (r : CodeReply)
     → SourceSteps contents source options failed (Err stop) → EndsBy stop (Ok r)
@@ -54,15 +55,6 @@ pub source_ended : (contents : Option Contents) (reply : File → Reply) (source
 source_ended contents reply source options failed stop (Ok r) told e =
     source_stopped contents reply source options failed stop r told e
 source_ended contents reply source options failed stop (Err fault) told e = tt
-
-pub ended : {X : Type 0} (contents : Option Contents) (reply : X → Reply)
-    (meaning : Contents → Result X Refusal) (failed : Type 0) (stop : Stop)
-    (result : Result CodeReply IoFault) → Steps (λ (x : X). x) contents meaning failed (Err stop)
-    → EndsBy stop result
-    → IfOk result (λ r. Says contents reply (λ files found. meaning files ≡ found) (shown r))
-ended contents reply meaning failed stop (Ok r) told e =
-    stopped contents reply meaning failed stop r told e
-ended contents reply meaning failed stop (Err fault) told e = tt
 
 -- the reply of a source that compiles writes a file of its constraints
 pub writes : (contents : Option Contents) (source : List ℕ) (options : Options) (out : List ℕ)
@@ -211,12 +203,73 @@ success_written result old new sink source options out r writes leaves puts =
     holds_written old new source options out r
     (writes (status_of_success r sink exit put zero)) leaves) puts
 
+-- the same of a proof
+pub holds_proof : (old new : Option Contents) (r1cs wtns out : List ℕ) (r : Reply)
+    → Told old (λ files. WritesProof files r1cs wtns out r) → Changes (Leaves r.file) old new
+    → Changes (λ files after. HoldsProof files r1cs wtns (after out)) old new
+holds_proof None new r1cs wtns out r told leaves = tt
+holds_proof (Some files) None r1cs wtns out r told leaves = absurd leaves
+holds_proof (Some files) (Some after) r1cs wtns out r told leaves =
+    let written : Leaves (Some (record { name = out; bytes = told.bytes })) files after =
+    subst (λ (file : Option NewFile). Leaves file files after) told.file leaves in
+    record { bytes = told.bytes; there = written.here; proof = told.proof }
+
+pub proof_written : (result : Result ℕ AllocError) (old new : Option Contents)
+    (sink : Course (List ℕ)) (r1cs wtns out : List ℕ) (r : Reply)
+    → (r.status ≡ 0 → Told old (λ files. WritesProof files r1cs wtns out r))
+    → Changes (Leaves r.file) old new → IfOk result (Puts r sink)
+    → IfOk result (λ exit. exit ≡ 0 → Changes
+    (λ files after. HoldsProof files r1cs wtns (after out)) old new)
+proof_written result old new sink r1cs wtns out r writes leaves puts =
+    IfOk-weaker result (Puts r sink)
+    (λ exit. exit ≡ 0 → Changes
+    (λ files after. HoldsProof files r1cs wtns (after out)) old new)
+    (λ exit put zero.
+    holds_proof old new r1cs wtns out r
+    (writes (status_of_success r sink exit put zero)) leaves) puts
+
+-- an exit that isn't 3 is the status of the audit
+pub audit_told : (result : Result ℕ AllocError) (old : Option Contents) (sink : Course (List ℕ))
+    (r1cs publics proof : List ℕ) (r : Reply)
+    → Told old (λ files. (r.status ≡ 0) ↔ IsAccepted files r1cs publics proof)
+    → IfOk result (Puts r sink)
+    → IfOk result (λ exit. (exit ≡ 3)
+    ⊎ Told old (λ files. (exit ≡ 0) ↔ IsAccepted files r1cs publics proof))
+audit_told result old sink r1cs publics proof r told puts =
+    IfOk-weaker result (Puts r sink)
+    (λ exit. (exit ≡ 3) ⊎ Told old (λ files. (exit ≡ 0) ↔ IsAccepted files r1cs publics proof))
+    (λ exit put. elim put [
+      | inl whole ↦ inr (subst
+          (λ (status : ℕ). Told old (λ files. (status ≡ 0) ↔ IsAccepted files r1cs publics proof))
+          (sym whole.0) told)
+      | inr lost ↦ inl lost.0
+    ]) puts
+
 -- and 64 is the status of the usage line alone
 verdict_below : (v : Verdict) → verdict_status v < 64
 verdict_below (CountsDiffer values wires) = omega arith
 verdict_below WireZero = omega arith
 verdict_below (ConstraintFails index) = omega arith
 verdict_below Satisfied = omega arith
+
+proved_below : (out : List ℕ) (o : Outcome) → (proved out o).status < 64
+proved_below out (Made bytes) = omega arith
+proved_below out (Unmade v) = verdict_below v
+
+published_below : (out : List ℕ) (o : Published) → (published out o).status < 64
+published_below out (Values values) = omega arith
+published_below out (Wrong v) = verdict_below v
+
+audit_below : (v : Audited) → audit_status v < 64
+audit_below audits.Accepted = omega arith
+audit_below audits.PublicCount = omega arith
+audit_below (audits.Malformed offset) = omega arith
+audit_below (audits.BadPath opened) = omega arith
+audit_below audits.Proximity = omega arith
+audit_below audits.LinearSum = omega arith
+audit_below audits.LinearColumn = omega arith
+audit_below audits.QuadZero = omega arith
+audit_below audits.QuadColumn = omega arith
 
 said_below : {X : Type 0} (reply : X → Reply) (found : Result X Refusal)
     → ((x : X) → (reply x).status < 64) → (said reply found).status < 64
@@ -238,6 +291,12 @@ usage_alone contents (Some (check r1cs wtns)) r answers is =
     absurd (says_below contents checked _ r verdict_below answers is)
 usage_alone contents (Some (compile source out options)) r answers is =
     absurd (says_below contents (compiled out) _ r (λ f. omega arith) answers is)
+usage_alone contents (Some (prove r1cs wtns out options)) r answers is =
+    absurd (says_below contents (proved out) _ r (proved_below out) answers is)
+usage_alone contents (Some (public r1cs wtns out)) r answers is =
+    absurd (says_below contents (published out) _ r (published_below out) answers is)
+usage_alone contents (Some (audit r1cs publics proof)) r answers is =
+    absurd (says_below contents audited _ r audit_below answers is)
 
 -- no call failed
 unfailed : (before after : ℕ) → before ≡ 0 → after ≡ before → Rose before after → ⊥

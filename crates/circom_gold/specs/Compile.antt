@@ -12,11 +12,11 @@ use Rattle.cir_names.specs.Loading.{IsLoaded}
 use Rattle.cir_inst.specs.Meaning.Program.{Satisfies}
 use Rattle.cir_compile.specs.Compiled.{Task, IsBuilt, IsCompiled, IsRefused}
 use Rattle.cir_compile.specs.Written.{AreValues}
-use Rattle.circom_gold.specs.Words.{Options}
-use Rattle.circom_gold.specs.declared.answer.Refusal.{Refusal}
-use Rattle.circom_gold.specs.declared.answer.Refusal.TheVariants.{NoSuchFile, BadFile, BadSource}
-use Rattle.circom_gold.specs.declared.stop.Stop.{Stop}
-use Rattle.circom_gold.specs.declared.stop.Stop.TheVariants.{Refused, StoreFailed, OutOfMemory}
+use Rattle.circom_words.specs.Words.{Options}
+use Rattle.circom_words.specs.declared.answer.Refusal.{Refusal}
+use Rattle.circom_words.specs.declared.answer.Refusal.TheVariants.{NoSuchFile, BadFile, BadSource, BadInput}
+use Rattle.circom_files.specs.declared.stop.Stop.{Stop}
+use Rattle.circom_files.specs.declared.stop.Stop.TheVariants.{Refused, StoreFailed, OutOfMemory}
 
 -- the source is compiled with these options
 abbrev pub task_of : List ℕ → Options → Task
@@ -35,6 +35,7 @@ Compiles files source options (Err (NoSuchFile missing)) =
 Compiles files source options (Err (BadSource refusal)) =
     IsRefused files (task_of source options) refusal
 Compiles files source options (Err (BadFile name cause offset)) = ⊥
+Compiles files source options (Err (BadInput what)) = ⊥
 
 -- what reading and compiling the source gave; it failed only where the store did, and want of
 -- memory is free

@@ -1,12 +1,3 @@
-pub mod Check
 pub mod Compile
-pub mod Files
-pub mod Lines
-pub mod Matches
 pub mod Reply
 pub mod Run
-pub mod Satisfaction
-pub mod Shown
-pub mod Steps
-pub mod Stops
-pub mod Words

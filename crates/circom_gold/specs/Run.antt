@@ -3,9 +3,10 @@ use Rattle.std.specs.Prelude.{◌≡◌, ℕ, List, [], ◌⊎◌, Option, Some,
 use Rattle.out_io.specs.Calls.{Course, HasFailed}
 use Rattle.out_io.specs.Contents.{Contents, Changes, Replaces, ReplacesInPart}
 use Rattle.out_io.specs.Written.{IsAppended, IsAppendedInPart}
-use Rattle.circom_gold.specs.Lines.{fault_line}
-use Rattle.circom_gold.specs.Reply.{Reply, NewFile, Answers}
-use Rattle.circom_gold.specs.Words.{Command}
+use Rattle.circom_words.specs.Lines.{fault_line}
+use Rattle.circom_files.specs.Reply.{Reply, NewFile}
+use Rattle.circom_gold.specs.Reply.{Answers}
+use Rattle.circom_words.specs.Words.{Command}
 
 -- the files after it are the reply's: no file, or this one, was written
 abbrev pub Leaves : Option NewFile → Contents → Contents → Type 0

@@ -6,16 +6,14 @@ ghost use Rattle.iden_files.specs.File.{InLimits};
 ghost use Rattle.iden_files.specs.ReadR1cs.{r1cs_of};
 ghost use Rattle.iden_files.specs.Spelling.{r1cs_bytes};
 ghost use Rattle.circom_gold.specs.Compile.{Compiles, SourceSteps};
-ghost use Rattle.circom_gold.specs.Reply.{Says, compiled, WritesConstraintsOf};
-ghost use Rattle.circom_gold.specs.Shown.{shown};
-ghost use Rattle.circom_gold.specs.Words.{meant_options};
+ghost use Rattle.circom_gold.specs.Reply.{compiled, WritesConstraintsOf};
+ghost use Rattle.circom_files.specs.Reply.{Says};
+ghost use Rattle.circom_files.specs.Shown.{shown};
+ghost use Rattle.circom_words.specs.Words.{meant_options};
 
-use crate::answer::Refusal;
-use crate::lines::compiled_line;
-use crate::reply::{NewFile, Reply};
-use crate::stop::Stop;
-use crate::words::Options;
 use cir_compile::CompileFault;
+use circom_files::{Reply, Stop};
+use circom_words::{Options, Refusal, compiled_line};
 use iden_files::{R1cs, write_r1cs};
 use items::Items;
 use out_io::{IoFault, Store};
@@ -79,12 +77,5 @@ fn compiled<'w>(alloc: Global, out: &'w str, file: &R1cs) -> Result<Reply<'w>, A
 {
     let bytes = write_r1cs(alloc, file)?;
     let text = compiled_line(alloc, file.wires, file.constraints().len() as u32)?;
-    Ok(Reply {
-        status: 0,
-        text: Items::of(text),
-        file: Some(NewFile {
-            name: out,
-            bytes: Items::of(bytes),
-        }),
-    })
+    Ok(Reply::written(text, out, Items::of(bytes)))
 }

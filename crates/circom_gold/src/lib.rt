@@ -2,19 +2,12 @@
 //! and the file that is written.
 #![tactic(auto)]
 
-mod answer;
-mod check;
 mod compile;
-mod inputs;
 mod laws;
-mod lines;
 mod program;
-mod reply;
-mod sources;
-mod stop;
-mod words;
 
-pub use laws::{check_laws, one_reply};
+pub use circom_files::check_laws;
+pub use laws::one_reply;
 pub use program::{run, run_in_memory};
 
 #[cfg(test)]

@@ -1,4 +1,4 @@
-ghost use Rattle.std.specs.Prelude.{◌≡◌, ◌⊎◌, ◌≢◌, ℕ, List, [], None, Some, IfOk, IsErrOf, IsOk, OnOk, OnErr, option_map};
+ghost use Rattle.std.specs.Prelude.{◌≡◌, ◌⊎◌, ◌≢◌, ◌↔◌, ℕ, List, [], None, Some, IfOk, IsErrOf, IsOk, OnOk, OnErr, option_map};
 ghost use Rattle.out_io.specs.Calls.{Counting, OnlyReads, Told, course};
 ghost use Rattle.out_io.specs.Contents.{Changes};
 ghost use Rattle.out_io.specs.Faults.{Rose};
@@ -6,31 +6,34 @@ ghost use Rattle.out_io.specs.Memory.{files_of};
 ghost use Rattle.out_io.specs.Written.{IsAppendedInPart};
 ghost use Rattle.out_io.specs.declared.fault.IoFault.TheVariants.{Failed};
 ghost use Rattle.circom_gold.specs.Compile.{HoldsConstraintsOf};
-ghost use Rattle.circom_gold.specs.Reply.{Reply, Answers, WritesConstraintsOf};
+ghost use Rattle.circom_files.specs.Accepted.{HoldsProof, IsAccepted, WritesProof};
+ghost use Rattle.circom_files.specs.Reply.{Reply};
+ghost use Rattle.circom_gold.specs.Reply.{Answers, WritesConstraintsOf};
 ghost use Rattle.circom_gold.specs.Run.{Ends, Stays, Leaves, LeavesInPart, Puts, Replies, Writing};
-ghost use Rattle.circom_gold.specs.Shown.{shown};
-ghost use Rattle.circom_gold.specs.Words.{Options, compile, texts, command_of, meant};
+ghost use Rattle.circom_files.specs.Shown.{shown};
+ghost use Rattle.circom_words.specs.Words.{Options, ProveOptions, compile, prove, audit, texts, command_of, meant};
 
-use crate::check::check_reply;
 use crate::compile::compile_reply;
-use crate::reply::Reply;
-use crate::words::Command;
+use circom_files::{Reply, audit_reply, check_reply, prove_reply, public_reply};
+use circom_words::Command;
 use out_io::{IoFault, MemSink, MemStore, Sink, Store};
 use std::alloc::{AllocError, Global};
+use std::thread::Threads;
 
 // The exit status where a call to the store or the sink failed.
 const FAULT: u8 = 3;
 
 /// Does what the words ask for, and gives the exit status:
 ///
-/// - 0: success; the values satisfy the constraints, or the file is written
+/// - 0: success; the values satisfy the constraints, the proof is accepted, or the file is written
 /// - 1: a file or a source is refused
-/// - 2: the values don't satisfy the constraints
+/// - 2: the values don't satisfy the constraints, or the proof is rejected
 /// - 3: a call to the store or the sink failed
 /// - 64: the words have no reading
 ///
 /// The error is want of memory.
-pub fn run<S: Store, K: Sink>(
+pub fn run<R: Threads + AllocGlobal + Sync, S: Store, K: Sink>(
+    rt: &R,
     alloc: Global,
     words: &[String],
     store: &mut S,
@@ -60,6 +63,22 @@ pub fn run<S: Store, K: Sink>(
         (λ files after. HoldsConstraintsOf files source options (after out_name))
         (S.contents store.old) (S.contents store.new)) }
 
+    // `prove` with the status 0 leaves under OUT bytes that are a proof: with the same file of
+    // constraints and the public values among those of the witness, the one verdict on them is that
+    // they are accepted.
+    ensures proved { (r1cs wtns out_name : List ℕ) (options : ProveOptions)
+        → command_of (texts words.now) ≡ Some (prove r1cs wtns out_name options)
+        → IfOk result (λ exit. exit ≡ 0 → Changes
+        (λ files after. HoldsProof files r1cs wtns (after out_name))
+        (S.contents store.old) (S.contents store.new)) }
+
+    // `audit` has the status 0, and says `accepted`, exactly where the files hold what is accepted.
+    // Where a call failed the status is 3.
+    ensures audited { (r1cs publics proof : List ℕ)
+        → command_of (texts words.now) ≡ Some (audit r1cs publics proof)
+        → IfOk result (λ exit. (exit ≡ 3) ⊎ Told (S.contents store.old)
+        (λ files. (exit ≡ 0) ↔ IsAccepted files r1cs publics proof)) }
+
     // Where the words have no reading the status is 64, unless the sink failed, and the store isn't
     // asked. It is 64 only there.
     ensures usage { command_of (texts words.now) ≡ None
@@ -76,7 +95,7 @@ pub fn run<S: Store, K: Sink>(
         (K.never_fails out.old) (K.never_fails out.new) }
 {
     let command = Command::of(alloc, words)?;
-    match answered(alloc, command, store) {
+    match answered(rt, alloc, command, store) {
         Ok(reply) => put_text(&reply, out),
         Err(IoFault::Failed) => {
             let reply = Reply::store_failed(alloc)?;
@@ -87,7 +106,8 @@ pub fn run<S: Store, K: Sink>(
 }
 
 /// `run` over memory where no call fails: the reply is given, and the exit status is never 3.
-pub fn run_in_memory(
+pub fn run_in_memory<R: Threads + AllocGlobal + Sync>(
+    rt: &R,
     alloc: Global,
     words: &[String],
     store: &mut MemStore,
@@ -104,11 +124,12 @@ pub fn run_in_memory(
         out.old.faults out.new.faults)) }
     ensures no_fault { IfOk result (λ exit. exit ≢ 3) }
 {
-    run(alloc, words, store, out)
+    run(rt, alloc, words, store, out)
 }
 
 // The reply to the command, whose file is written.
-fn answered<'w, S: Store>(
+fn answered<'w, R: Threads + AllocGlobal + Sync, S: Store>(
+    rt: &R,
     alloc: Global,
     command: Option<Command<'w>>,
     store: &mut S,
@@ -123,6 +144,14 @@ fn answered<'w, S: Store>(
         → option_map meant command.entry ≡ Some (compile source out_name options)
         → IfOk result (λ r. r.status ≡ 0 → Told (S.contents store.old)
         (λ files. WritesConstraintsOf files source options out_name (shown r))) }
+    ensures proved { (r1cs wtns out_name : List ℕ) (options : ProveOptions)
+        → option_map meant command.entry ≡ Some (prove r1cs wtns out_name options)
+        → IfOk result (λ r. r.status ≡ 0 → Told (S.contents store.old)
+        (λ files. WritesProof files r1cs wtns out_name (shown r))) }
+    ensures audited { (r1cs publics proof : List ℕ)
+        → option_map meant command.entry ≡ Some (audit r1cs publics proof)
+        → IfOk result (λ r. Told (S.contents store.old)
+        (λ files. (r.status ≡ 0) ↔ IsAccepted files r1cs publics proof)) }
     ensures unasked { option_map meant command.entry ≡ None
         → (S.contents store.new ≡ S.contents store.old)
         × (S.faults store.new ≡ S.faults store.old) }
@@ -131,13 +160,14 @@ fn answered<'w, S: Store>(
     ensures counting { Counting (S.faults store.old) (S.faults store.new)
         (S.never_fails store.old) (S.never_fails store.new) }
 {
-    let reply = reply_to(alloc, command, store)?;
+    let reply = reply_to(rt, alloc, command, store)?;
     write_file(alloc, &reply, store)?;
     Ok(reply)
 }
 
 // The reply to the command. Its file isn't written.
-fn reply_to<'w, S: Store>(
+fn reply_to<'w, R: Threads + AllocGlobal + Sync, S: Store>(
+    rt: &R,
     alloc: Global,
     command: Option<Command<'w>>,
     store: &mut S,
@@ -148,6 +178,14 @@ fn reply_to<'w, S: Store>(
         → option_map meant command.entry ≡ Some (compile source out_name options)
         → IfOk result (λ r. r.status ≡ 0 → Told (S.contents store.old)
         (λ files. WritesConstraintsOf files source options out_name (shown r))) }
+    ensures proved { (r1cs wtns out_name : List ℕ) (options : ProveOptions)
+        → option_map meant command.entry ≡ Some (prove r1cs wtns out_name options)
+        → IfOk result (λ r. r.status ≡ 0 → Told (S.contents store.old)
+        (λ files. WritesProof files r1cs wtns out_name (shown r))) }
+    ensures audited { (r1cs publics proof : List ℕ)
+        → option_map meant command.entry ≡ Some (audit r1cs publics proof)
+        → IfOk result (λ r. Told (S.contents store.old)
+        (λ files. (r.status ≡ 0) ↔ IsAccepted files r1cs publics proof)) }
     ensures unasked { option_map meant command.entry ≡ None
         → (S.faults store.new ≡ S.faults store.old) × ¬ IsErrOf result Failed }
     ensures fault { IsErrOf result Failed → Rose (S.faults store.old) (S.faults store.new) }
@@ -165,6 +203,22 @@ fn reply_to<'w, S: Store>(
                 options,
             },
         ) => compile_reply(alloc, source, out, options, store),
+        Some(
+            Command::Prove {
+                r1cs,
+                wtns,
+                out,
+                options,
+            },
+        ) => prove_reply(rt, alloc, r1cs, wtns, out, options, store),
+        Some(Command::Public { r1cs, wtns, out }) => public_reply(alloc, r1cs, wtns, out, store),
+        Some(
+            Command::Audit {
+                r1cs,
+                publics,
+                proof,
+            },
+        ) => audit_reply(alloc, r1cs, publics, proof, store),
     }
 }
 

@@ -3,6 +3,9 @@ use super::run;
 use out_io::{MemSink, MemStore};
 use std::alloc::Global;
 use std::test::Fail;
+use std::thread::Threads;
+
+mod proving;
 
 // Three sections: the sizes, the constraint (-a) * b = -c, the labels.
 const R1CS: [u8; 168] = [
@@ -87,7 +90,7 @@ fn check_answers_by_count_then_wire_0_then_constraints(rt: HostRuntime) -> Resul
         let mut store = store(alloc, r1cs, values)?;
         let mut out = MemSink::new(alloc);
         assert_eq!(rt;
-            run(alloc, words.as_slice(), &mut store, &mut out)?,
+            run(&rt, alloc, words.as_slice(), &mut store, &mut out)?,
             status,
             "{line}"
         );
@@ -103,7 +106,7 @@ fn names_a_file_that_is_not_there(rt: HostRuntime) -> Result<(), Fail> {
     let mut store = store(alloc, &R1CS, &[1, 33, 3, 11])?;
     let mut out = MemSink::new(alloc);
     let words = split(alloc, "check no.r1cs m.wtns")?;
-    assert_eq!(rt; run(alloc, words.as_slice(), &mut store, &mut out)?, 1);
+    assert_eq!(rt; run(&rt, alloc, words.as_slice(), &mut store, &mut out)?, 1);
     assert_eq!(rt;
         out.bytes.as_slice(),
         b"refused: no.r1cs: no such file\n".as_slice()
@@ -121,7 +124,8 @@ struct Ran {
     puts: u32,
 }
 
-fn run_words(
+fn run_words<R: Threads + AllocGlobal + Sync>(
+    rt: &R,
     alloc: Global,
     words: &str,
     store: &mut MemStore,
@@ -132,7 +136,7 @@ fn run_words(
     if sink_fails {
         out.fail.push(0)?;
     }
-    let status = run(alloc, words.as_slice(), store, &mut out)?;
+    let status = run(rt, alloc, words.as_slice(), store, &mut out)?;
     Ok(Ran {
         status,
         text: out.bytes,
@@ -172,7 +176,7 @@ fn each_call_that_fails_is_answered_with_3(rt: HostRuntime) -> Result<(), Fail> 
     ] {
         for fail in 0..calls {
             let mut store = failing_store(alloc, fail)?;
-            let ran = run_words(alloc, words, &mut store, false)?;
+            let ran = run_words(&rt, alloc, words, &mut store, false)?;
             assert_eq!(rt;
                 (ran.status, ran.asked, ran.puts),
                 (3, fail + 1, 1),
@@ -182,7 +186,7 @@ fn each_call_that_fails_is_answered_with_3(rt: HostRuntime) -> Result<(), Fail> 
             assert!(rt; !store.files.contains_key("n.r1cs"), "{words}");
         }
         let mut store = failing_store(alloc, calls)?;
-        let said = run_words(alloc, words, &mut store, false)?;
+        let said = run_words(&rt, alloc, words, &mut store, false)?;
         assert_eq!(rt;
             (said.status, said.asked, said.puts),
             (0, calls, 1),
@@ -190,7 +194,7 @@ fn each_call_that_fails_is_answered_with_3(rt: HostRuntime) -> Result<(), Fail> 
         );
         assert_eq!(rt; said.text.as_slice(), text.as_bytes());
         let mut store = failing_store(alloc, calls)?;
-        let lost = run_words(alloc, words, &mut store, true)?;
+        let lost = run_words(&rt, alloc, words, &mut store, true)?;
         assert_eq!(rt;
             (lost.status, lost.asked, lost.puts),
             (3, calls, 1),
@@ -226,11 +230,23 @@ fn words_without_a_reading_get_the_usage_line(rt: HostRuntime) -> Result<(), Fai
         "compile t.circom m.r1cs --O2 --O2",
         "compile t.circom m.r1cs --O3",
         "check m.r1cs m.wtns --O1",
+        "prove m.r1cs m.wtns m.proof",
+        "prove m.r1cs m.wtns m.proof --seed 00",
+        "prove m.r1cs m.wtns --seed 0000000000000000000000000000000000000000000000000000000000000000",
+        "prove a b c --seed 000000000000000000000000000000000000000000000000000000000000000g",
+        "prove a b c --seed 0000000000000000000000000000000000000000000000000000000000000000 --proof 3",
+        "prove a b c --seed 0000000000000000000000000000000000000000000000000000000000000000 --proof x",
+        "public m.r1cs m.wtns",
+        "audit m.r1cs m.wtns",
+        "audit a b c --proof 1",
     ] {
         let words = split(alloc, words)?;
         let mut store = store(alloc, &R1CS, &[1, 33, 3, 11])?;
         let mut out = MemSink::new(alloc);
-        assert_eq!(rt; run(alloc, words.as_slice(), &mut store, &mut out)?, 64);
+        assert_eq!(rt;
+            run(&rt, alloc, words.as_slice(), &mut store, &mut out)?,
+            64
+        );
         assert_eq!(rt; out.bytes.as_slice(), usage.as_bytes());
         assert_eq!(rt; store.calls, 0);
         assert_eq!(rt; out.calls, 1);
@@ -274,7 +290,7 @@ fn compile_writes_a_file_that_check_accepts(rt: HostRuntime) -> Result<(), Fail>
     let mut store = source_store(alloc, PRODUCT)?;
     let mut out = MemSink::new(alloc);
     let words = split(alloc, "compile t.circom m.r1cs")?;
-    assert_eq!(rt; run(alloc, words.as_slice(), &mut store, &mut out)?, 0);
+    assert_eq!(rt; run(&rt, alloc, words.as_slice(), &mut store, &mut out)?, 0);
     assert_eq!(rt;
         out.bytes.as_slice(),
         b"compiled: wires 4, constraints 1\n".as_slice()
@@ -286,17 +302,21 @@ fn compile_writes_a_file_that_check_accepts(rt: HostRuntime) -> Result<(), Fail>
     )?;
     let mut out = MemSink::new(alloc);
     let words = split(alloc, "check m.r1cs m.wtns")?;
-    assert_eq!(rt; run(alloc, words.as_slice(), &mut store, &mut out)?, 0);
+    assert_eq!(rt; run(&rt, alloc, words.as_slice(), &mut store, &mut out)?, 0);
     assert_eq!(rt; out.bytes.as_slice(), b"satisfied\n".as_slice());
     Ok(())
 }
 
 // The line of `compile t.circom m.r1cs` on the source.
-fn line_of(alloc: Global, source: &str) -> Result<Vec<u8>, Fail> {
+fn line_of<R: Threads + AllocGlobal + Sync>(
+    rt: &R,
+    alloc: Global,
+    source: &str,
+) -> Result<Vec<u8>, Fail> {
     let words = split(alloc, "compile t.circom m.r1cs")?;
     let mut store = source_store(alloc, source)?;
     let mut out = MemSink::new(alloc);
-    let status = run(alloc, words.as_slice(), &mut store, &mut out)?;
+    let status = run(rt, alloc, words.as_slice(), &mut store, &mut out)?;
     let refused = out.bytes.as_slice().starts_with(b"refused: ");
     if (status == 1) != refused || out.calls != 1 {
         return Err(Fail::new("the status and the line disagree"));
@@ -330,7 +350,7 @@ fn a_level_solves_what_the_one_below_leaves(rt: HostRuntime) -> Result<(), Fail>
     ] {
         let alloc = rt.alloc();
         let words = format!(in alloc; "compile t.circom m.r1cs{words}")?;
-        let said = line_over(alloc, words.as_str(), &[("t.circom", source)])?;
+        let said = line_over(&rt, alloc, words.as_str(), &[("t.circom", source)])?;
         assert_eq!(rt; said.as_slice(), line.as_bytes(), "{words}");
     }
     Ok(())
@@ -368,7 +388,7 @@ fn compile_says_why_a_source_is_refused(rt: HostRuntime) -> Result<(), Fail> {
             "refused: E8 WrongKind at t.circom:2:1 in -\n",
         ),
     ] {
-        let said = line_of(rt.alloc(), source)?;
+        let said = line_of(&rt, rt.alloc(), source)?;
         assert_eq!(rt; said.as_slice(), line.as_bytes(), "{source}");
     }
     Ok(())
@@ -402,7 +422,7 @@ fn forms_outside_the_profile_are_named(rt: HostRuntime) -> Result<(), Fail> {
             "Unbuilt at t.circom:2:1",
         ),
     ] {
-        let said = line_of(rt.alloc(), source)?;
+        let said = line_of(&rt, rt.alloc(), source)?;
         let expected = format!(in rt.alloc(); "refused: E21 NotInProfile {line} in -\n")?;
         assert_eq!(rt; said.as_slice(), expected.as_bytes(), "{source}");
     }
@@ -410,7 +430,12 @@ fn forms_outside_the_profile_are_named(rt: HostRuntime) -> Result<(), Fail> {
 }
 
 // The line of the words over these files.
-fn line_over(alloc: Global, words: &str, files: &[(&str, &str)]) -> Result<Vec<u8>, Fail> {
+fn line_over<R: Threads + AllocGlobal + Sync>(
+    rt: &R,
+    alloc: Global,
+    words: &str,
+    files: &[(&str, &str)],
+) -> Result<Vec<u8>, Fail> {
     let mut store = MemStore::new(alloc);
     for (name, text) in files {
         store.files.insert(
@@ -420,7 +445,7 @@ fn line_over(alloc: Global, words: &str, files: &[(&str, &str)]) -> Result<Vec<u
     }
     let mut out = MemSink::new(alloc);
     let words = split(alloc, words)?;
-    run(alloc, words.as_slice(), &mut store, &mut out)?;
+    run(rt, alloc, words.as_slice(), &mut store, &mut out)?;
     Ok(out.bytes)
 }
 
@@ -433,11 +458,11 @@ fn includes_are_followed_and_found_in_the_folder(rt: HostRuntime) -> Result<(), 
     let back = format!(in alloc; "include \"../a.circom\";\n{template}")?;
     let compiled = b"compiled: wires 4, constraints 1\n";
     let circular = [("a.circom", INCLUDING), ("lib/b.circom", back.as_str())];
-    let said = line_over(alloc, "compile a.circom m.r1cs", circular.as_slice())?;
+    let said = line_over(&rt, alloc, "compile a.circom m.r1cs", circular.as_slice())?;
     assert_eq!(rt; said.as_slice(), compiled.as_slice());
 
     let alone = [("a.circom", INCLUDING)];
-    let said = line_over(alloc, "compile a.circom m.r1cs", alone.as_slice())?;
+    let said = line_over(&rt, alloc, "compile a.circom m.r1cs", alone.as_slice())?;
     assert_eq!(rt;
         said.as_slice(),
         b"refused: E3 Include at a.circom:1:1 in -\n".as_slice()
@@ -451,10 +476,10 @@ fn includes_are_followed_and_found_in_the_folder(rt: HostRuntime) -> Result<(), 
         "compile a.circom m.r1cs -l=inc",
         "compile -l inc -- a.circom m.r1cs",
     ] {
-        let said = line_over(alloc, words, library.as_slice())?;
+        let said = line_over(&rt, alloc, words, library.as_slice())?;
         assert_eq!(rt; said.as_slice(), compiled.as_slice(), "{words}");
     }
-    let said = line_over(alloc, "check -- -m.r1cs -", &[])?;
+    let said = line_over(&rt, alloc, "check -- -m.r1cs -", &[])?;
     assert_eq!(rt;
         said.as_slice(),
         b"refused: -m.r1cs: no such file\n".as_slice()

@@ -3,9 +3,9 @@ use Rattle.out_io.specs.Calls.{Course, course}
 use Rattle.out_io.specs.Contents.{Contents}
 use Rattle.circom_gold.specs.Reply.{Answers}
 use Rattle.circom_gold.specs.Run.{Writing}
-use Rattle.circom_gold.specs.Shown.{shown}
-use Rattle.circom_gold.specs.Words.{Command, command_of, texts}
-use Rattle.circom_gold.proofs.Replies.{stays_said, stays_wanting, success_written}
+use Rattle.circom_files.specs.Shown.{shown}
+use Rattle.circom_words.specs.Words.{Command, command_of, texts}
+use Rattle.circom_gold.proofs.Replies.{audit_told, proof_written, stays_said, stays_wanting, success_written}
 use Rattle.circom_gold.proofs.program.run.Goals as goal
 
 pub returns-in-Ok-clause-kept : goal.returns-in-Ok-clause-kept
@@ -31,6 +31,26 @@ returns-in-Ok-clause-compiled g c = λ source out options is.
     (g.S.Store.contents c.answered.new.store) sink source options out (shown c.in-Ok.reply)
     (c.in-Ok.ensures.compiled source out options (c.in_ok-command.ensures ∙ is))
     c.in-Ok.ensures.files c.put_text.ensures.puts
+
+pub returns-in-Ok-clause-proved : goal.returns-in-Ok-clause-proved
+returns-in-Ok-clause-proved g c = λ r1cs wtns out options is.
+    let sink : Course (List ℕ) =
+    course (g.K.Sink.contents c.args.out.now) (g.K.Sink.contents c.put_text.new.out)
+    (g.K.Sink.faults c.args.out.now) (g.K.Sink.faults c.put_text.new.out) in
+    proof_written c.put_text.result (g.S.Store.contents c.args.store.now)
+    (g.S.Store.contents c.answered.new.store) sink r1cs wtns out (shown c.in-Ok.reply)
+    (c.in-Ok.ensures.proved r1cs wtns out options (c.in_ok-command.ensures ∙ is))
+    c.in-Ok.ensures.files c.put_text.ensures.puts
+
+pub returns-in-Ok-clause-audited : goal.returns-in-Ok-clause-audited
+returns-in-Ok-clause-audited g c = λ r1cs publics proof is.
+    let sink : Course (List ℕ) =
+    course (g.K.Sink.contents c.args.out.now) (g.K.Sink.contents c.put_text.new.out)
+    (g.K.Sink.faults c.args.out.now) (g.K.Sink.faults c.put_text.new.out) in
+    audit_told c.put_text.result (g.S.Store.contents c.args.store.now) sink r1cs publics proof
+    (shown c.in-Ok.reply)
+    (c.in-Ok.ensures.audited r1cs publics proof (c.in_ok-command.ensures ∙ is))
+    c.put_text.ensures.puts
 
 pub returns-in_err-reply-in-Err-Failed-clause-kept :
     goal.returns-in_err-reply-in-Err-Failed-clause-kept

@@ -2,12 +2,12 @@ use Rattle.std.proofs.Common.{List, ℕ, Some}
 use Rattle.out_io.specs.Calls.{Course, course}
 use Rattle.out_io.specs.Contents.{Contents}
 use Rattle.out_io.specs.Memory.{files_of}
-use Rattle.circom_gold.specs.Words.{command_of, texts}
+use Rattle.circom_words.specs.Words.{command_of, texts}
 use Rattle.circom_gold.proofs.Replies.{replied}
 use Rattle.circom_gold.proofs.program.run_in_memory.Goals as goal
 
 pub returns-clause-reply : goal.returns-clause-reply
-returns-clause-reply c =
+returns-clause-reply g c =
     let store : Course Contents =
     course (Some (files_of c.args.store.now.files)) (Some (files_of c.run.new.store.files))
     c.args.store.now.faults c.run.new.store.faults in

@@ -1,8 +1,0 @@
-use Rattle.circom_gold.proofs.CheckLaws.{satisfied, least}
-use Rattle.circom_gold.proofs.laws.check_laws.Goals as goal
-
-pub returns-clause-satisfied : goal.returns-clause-satisfied
-returns-clause-satisfied c = satisfied
-
-pub returns-clause-least : goal.returns-clause-least
-returns-clause-least c = least
