@@ -1,5 +1,7 @@
 -- The term for whose signal a constraint is solved.
-use Rattle.std.proofs.Common.{◌≡◌, ℕ, zero, suc, ◌+◌, ◌<◌, ◌≤◌, Bool, true, false, ◌&&◌, cond, nat_lt, nat_le, List, [], ◌∷◌, length, get_or, Option, Some, None, arith, refl, ap, sym, ◌∙◌, inl, inr, ◌⊎◌}
+use Rattle.std.proofs.Common.{◌≡◌, ℕ, zero, suc, ◌+◌, ◌<◌, ◌≤◌, Bool, true, false, ◌&&◌, cond}
+use Rattle.std.proofs.Common.{nat_lt, nat_le, List, [], ◌∷◌, length, get_or, Option, Some, None}
+use Rattle.std.proofs.Common.{arith, refl, ap, sym, ◌∙◌, inl, inr, ◌⊎◌}
 use Rattle.std.proofs.lemmas.List.Elements.{All-head, All-tail}
 use Rattle.std.specs.List.{list_any}
 use Rattle.std.specs.BTreeMap.{is_at}
@@ -15,10 +17,12 @@ use Rattle.cir_simplify.specs.Shape.{greatest, unless_later, pivot, has_no_terms
 use Rattle.cir_simplify.specs.Turn.{first_pivot, or_later}
 use Rattle.cir_simplify.specs.Index.{row, IsGood, IsReady}
 
-rises_low : (low : ℕ) (ts : List Term) (m : ℕ) (t : Term) → RisesFrom low ts → m < length ts → t ≡ get_or ts m t → low ≤ t.signal
+rises_low : (low : ℕ) (ts : List Term) (m : ℕ) (t : Term) → RisesFrom low ts → m < length ts
+    → t ≡ get_or ts m t → low ≤ t.signal
 rises_low low [] m t h l e = absurd (omega arith)
 rises_low low (u ∷ ts) zero t h l e = omega (arith, h.0, ap (λ (x : Term). x.signal) e)
-rises_low low (u ∷ ts) (suc m) t h l e = omega (arith, h.0, rises_low (u.signal + 1) ts m t h.2 (omega arith) e)
+rises_low low (u ∷ ts) (suc m) t h l e =
+    omega (arith, h.0, rises_low (u.signal + 1) ts m t h.2 (omega arith) e)
 
 test_below : (a b : ℕ) → a < b → nat_lt a b ≡ true
 test_below a b h = grind (arith, h)
@@ -27,22 +31,29 @@ test_above : (a b : ℕ) → b ≤ a → nat_lt a b ≡ false
 test_above a b h = grind (arith, h)
 
 -- where the terms rise, the last one tells
-pub greatest_some : (kept low : ℕ) (ts : List Term) (m : ℕ) (t : Term) → RisesFrom low ts → m + 1 ≡ length ts → t ≡ get_or ts m t → kept < t.signal → greatest kept ts ≡ Some t
+pub greatest_some : (kept low : ℕ) (ts : List Term) (m : ℕ) (t : Term) → RisesFrom low ts
+    → m + 1 ≡ length ts → t ≡ get_or ts m t → kept < t.signal → greatest kept ts ≡ Some t
 greatest_some kept low [] m t h l e k = absurd (omega arith)
 greatest_some kept low (u ∷ []) zero t h l e k =
-    ap (λ (b : Bool). cond b (Some u) None) (test_below kept u.signal (omega (arith, ap (λ (x : Term). x.signal) e))) ∙ ap (λ (x : Term). Some x) (sym e)
+    ap (λ (b : Bool). cond b (Some u) None)
+    (test_below kept u.signal (omega (arith, ap (λ (x : Term). x.signal) e)))
+    ∙ ap (λ (x : Term). Some x) (sym e)
 greatest_some kept low (u ∷ []) (suc m) t h l e k = absurd (omega arith)
 greatest_some kept low (u ∷ (v ∷ ts)) zero t h l e k = absurd (omega arith)
-greatest_some kept low (u ∷ (v ∷ ts)) (suc m) t h l e k = ap (unless_later kept u) (greatest_some kept (u.signal + 1) (v ∷ ts) m t h.2 (omega arith) e k)
+greatest_some kept low (u ∷ (v ∷ ts)) (suc m) t h l e k =
+    ap (unless_later kept u) (greatest_some kept (u.signal + 1) (v ∷ ts) m t h.2 (omega arith) e k)
 
-pub greatest_none : (kept low : ℕ) (ts : List Term) (m : ℕ) (t : Term) → RisesFrom low ts → m + 1 ≡ length ts → t ≡ get_or ts m t → t.signal ≤ kept → greatest kept ts ≡ None
+pub greatest_none : (kept low : ℕ) (ts : List Term) (m : ℕ) (t : Term) → RisesFrom low ts
+    → m + 1 ≡ length ts → t ≡ get_or ts m t → t.signal ≤ kept → greatest kept ts ≡ None
 greatest_none kept low [] m t h l e k = refl
 greatest_none kept low (u ∷ []) zero t h l e k =
-    ap (λ (b : Bool). cond b (Some u) None) (test_above kept u.signal (omega (arith, ap (λ (x : Term). x.signal) e)))
+    ap (λ (b : Bool). cond b (Some u) None)
+    (test_above kept u.signal (omega (arith, ap (λ (x : Term). x.signal) e)))
 greatest_none kept low (u ∷ []) (suc m) t h l e k = absurd (omega arith)
 greatest_none kept low (u ∷ (v ∷ ts)) zero t h l e k = absurd (omega arith)
 greatest_none kept low (u ∷ (v ∷ ts)) (suc m) t h l e k =
-    let above : u.signal + 1 ≤ t.signal = rises_low (u.signal + 1) (v ∷ ts) m t h.2 (omega arith) e in
+    let above : u.signal + 1 ≤ t.signal =
+    rises_low (u.signal + 1) (v ∷ ts) m t h.2 (omega arith) e in
     ap (unless_later kept u) (greatest_none kept (u.signal + 1) (v ∷ ts) m t h.2 (omega arith) e k)
     ∙ ap (λ (b : Bool). cond b (Some u) None) (test_above kept u.signal (omega arith))
 
@@ -64,22 +75,29 @@ record Taken (kept n : ℕ) (t : Term) : Type 0 where
 lt_from_test : (a b : ℕ) → nat_lt a b ≡ true → a < b
 lt_from_test a b h = grind (arith, h)
 
-pub unless_cases : (kept : ℕ) (t u : Term) (o : Option Term) → unless_later kept t o ≡ Some u → (o ≡ Some u) ⊎ ((t ≡ u) × (kept < t.signal))
+pub unless_cases : (kept : ℕ) (t u : Term) (o : Option Term) → unless_later kept t o ≡ Some u
+    → (o ≡ Some u) ⊎ ((t ≡ u) × (kept < t.signal))
 unless_cases kept t u (Some v) h = inl h
 unless_cases kept t u None h = by_test (nat_lt kept t.signal) refl h
   where
-    by_test : (b : Bool) → nat_lt kept t.signal ≡ b → cond b (Some t) None ≡ Some u → (None ≡ Some u) ⊎ ((t ≡ u) × (kept < t.signal))
+    by_test : (b : Bool) → nat_lt kept t.signal ≡ b → cond b (Some t) None ≡ Some u
+        → (None ≡ Some u) ⊎ ((t ≡ u) × (kept < t.signal))
     by_test true e g = inr (cc, lt_from_test kept t.signal e)
     by_test false e g = inl g
 
-greatest_taken : (kept n low : ℕ) (ts : List Term) (u : Term) → RisesFrom low ts → IsWithin n ts → greatest kept ts ≡ Some u → Taken kept n u
+greatest_taken : (kept n low : ℕ) (ts : List Term) (u : Term) → RisesFrom low ts → IsWithin n ts
+    → greatest kept ts ≡ Some u → Taken kept n u
 greatest_taken kept n low [] u h w e = cc
 greatest_taken kept n low (t ∷ ts) u h w e =
     elim (unless_cases kept t u (greatest kept ts) e) [
-      | inl g ↦ greatest_taken kept n (t.signal + 1) ts u h.2 (All-tail (λ (t : Term). (t.signal < n) × (t.coef < P)) t ts w) g
+      | inl g ↦
+          greatest_taken kept n (t.signal + 1) ts u h.2
+          (All-tail (λ (t : Term). (t.signal < n) × (t.coef < P)) t ts w) g
       | inr (g, k) ↦
-          let here : (t.signal < n) × (t.coef < P) = All-head (λ (t : Term). (t.signal < n) × (t.coef < P)) t ts w in
-          let taken : Taken kept n t = record { above = k; below = here.0; some = h.1; small = here.1 } in
+          let here : (t.signal < n) × (t.coef < P) =
+          All-head (λ (t : Term). (t.signal < n) × (t.coef < P)) t ts w in
+          let taken : Taken kept n t =
+          record { above = k; below = here.0; some = h.1; small = here.1 } in
           rw g at taken
     ]
 
@@ -87,19 +105,32 @@ no_terms : (ts : List Term) → has_no_terms ts ≡ true → ts ≡ []
 no_terms [] h = refl
 no_terms (t ∷ ts) h = cc
 
-pub picked : (r : Rules) (n : ℕ) (k : Constraint) (t : Term) → IsGood n k → pivot r k ≡ Some t → Picked r n k t
-picked r n k t g h = by_tests (has_no_terms k.a) (nat_le (length k.c) 1024) (fits r.level k.c) refl h
+pub picked : (r : Rules) (n : ℕ) (k : Constraint) (t : Term) → IsGood n k → pivot r k ≡ Some t
+    → Picked r n k t
+picked r n k t g h =
+    by_tests (has_no_terms k.a) (nat_le (length k.c) 1024) (fits r.level k.c) refl h
   where
-    by_tests : (a b c : Bool) → has_no_terms k.a ≡ a → cond (a && b && c) (greatest r.kept k.c) None ≡ Some t → Picked r n k t
+    by_tests : (a b c : Bool) → has_no_terms k.a ≡ a → cond (a && b && c) (greatest r.kept k.c) None
+        ≡ Some t → Picked r n k t
     by_tests true true true e p =
         let u : Taken r.kept n t = greatest_taken r.kept n 0 k.c t g.rises.2 g.within.2 p in
-        record { above = u.above; below = u.below; some = u.some; small = u.small; linear = no_terms k.a e; taken = p }
+        record {
+          above = u.above;
+          below = u.below;
+          some = u.some;
+          small = u.small;
+          linear =
+              no_terms k.a e;
+          taken = p;
+        }
     by_tests true true false e p = cc
     by_tests true false c e p = cc
     by_tests false b c e p = cc
 
 -- nothing below the least place of the worklist can be solved
-pub below_none : (r : Rules) (rows : List Constraint) (queue : BTreeSet ℕ) (k : ℕ) → IsReady r rows queue → IsLowerBound nat_cmp queue k → (j : ℕ) → j < k → pivot r (row rows j) ≡ None
+pub below_none : (r : Rules) (rows : List Constraint) (queue : BTreeSet ℕ) (k : ℕ)
+    → IsReady r rows queue → IsLowerBound nat_cmp queue k → (j : ℕ) → j < k
+    → pivot r (row rows j) ≡ None
 below_none r rows queue k h b j l = by_pivot (pivot r (row rows j)) refl
   where
     gt_false : (k j : ℕ) → j < k → is_gt (nat_cmp k j) ≡ false → ⊥
@@ -112,19 +143,24 @@ below_none r rows queue k h b j l = by_pivot (pivot r (row rows j)) refl
         let not_above : is_gt (nat_cmp k j) ≡ false = b j here in
         absurd (gt_false k j l not_above)
 
-pub first_at : (r : Rules) (rows : List Constraint) (i : ℕ) (t : Term) → i < length rows → ((j : ℕ) → j < i → pivot r (row rows j) ≡ None) → pivot r (row rows i) ≡ Some t → first_pivot r rows ≡ Some (record { term = t; form = (row rows i).c })
+pub first_at : (r : Rules) (rows : List Constraint) (i : ℕ) (t : Term) → i < length rows
+    → ((j : ℕ) → j < i → pivot r (row rows j) ≡ None) → pivot r (row rows i) ≡ Some t
+    → first_pivot r rows ≡ Some (record { term = t; form = (row rows i).c })
 first_at r [] i t l b e = absurd (omega arith)
 first_at r (k ∷ ks) zero t l b e = ap (λ (o : Option Term). or_later o k.c (first_pivot r ks)) e
 first_at r (k ∷ ks) (suc i) t l b e =
     ap (λ (o : Option Term). or_later o k.c (first_pivot r ks)) (b 0 (omega arith))
     ∙ first_at r ks i t (omega arith) (λ j q. b (suc j) (omega arith)) e
 
-pub first_none : (r : Rules) (rows : List Constraint) → ((j : ℕ) → pivot r (row rows j) ≡ None) → first_pivot r rows ≡ None
+pub first_none : (r : Rules) (rows : List Constraint) → ((j : ℕ) → pivot r (row rows j) ≡ None)
+    → first_pivot r rows ≡ None
 first_none r [] h = refl
-first_none r (k ∷ ks) h = ap (λ (o : Option Term). or_later o k.c (first_pivot r ks)) (h 0) ∙ first_none r ks (λ j. h (suc j))
+first_none r (k ∷ ks) h = ap (λ (o : Option Term). or_later o k.c (first_pivot r ks)) (h 0)
+    ∙ first_none r ks (λ j. h (suc j))
 
 -- the worklist is empty
-pub ready_none : (r : Rules) (rows : List Constraint) (queue : BTreeSet ℕ) → IsReady r rows queue → length queue.keys ≡ 0 → first_pivot r rows ≡ None
+pub ready_none : (r : Rules) (rows : List Constraint) (queue : BTreeSet ℕ) → IsReady r rows queue
+    → length queue.keys ≡ 0 → first_pivot r rows ≡ None
 ready_none r rows queue h e = first_none r rows (λ j. by_pivot j (pivot r (row rows j)) refl)
   where
     none : (ks : List ℕ) → length ks ≡ 0 → ks ≡ []
@@ -135,5 +171,6 @@ ready_none r rows queue h e = first_none r rows (λ j. by_pivot j (pivot r (row 
     by_pivot j None g = refl
     by_pivot j (Some t) g =
         let here : contains nat_cmp queue j ≡ true = h j (rw g refl) in
-        let gone : contains nat_cmp queue j ≡ false = ap (list_any (is_at (nat_cmp j))) (none queue.keys e) in
+        let gone : contains nat_cmp queue j ≡ false =
+        ap (list_any (is_at (nat_cmp j))) (none queue.keys e) in
         cc

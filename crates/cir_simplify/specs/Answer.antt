@@ -11,7 +11,8 @@ use Rattle.cir_simplify.specs.Wires.{is_kept, kept_below, wire_of, renamed_in}
 -- the wires are the kept signals, and the constraints stand over their places
 pub record IsOverWires (r : Rules) (end : Simplified) (simple : Simple) : Type 0 where
   pub wires : simple.wires ≡ kept_below (is_kept r.level r.kept end.list) r.bound
-  pub constraints : simple.constraints ≡ map (renamed_in (wire_of (is_kept r.level r.kept end.list))) end.list
+  pub constraints : simple.constraints
+      ≡ map (renamed_in (wire_of (is_kept r.level r.kept end.list))) end.list
   pub solved : simple.solved ≡ end.solved
 
 -- a list has too many terms: their count
@@ -20,5 +21,6 @@ AnswersFault (Terms count) wanted = wanted ≡ Err count
 AnswersFault OutOfMemory wanted = Unit {0}
 
 abbrev pub Simplifies : Rules → List Constraint → Result Simple SimpFault → Type 0
-Simplifies r list (Ok simple) = (end : Simplified) × (simplified r list ≡ Ok end) × IsOverWires r end simple
+Simplifies r list (Ok simple) =
+    (end : Simplified) × (simplified r list ≡ Ok end) × IsOverWires r end simple
 Simplifies r list (Err fault) = AnswersFault fault (simplified r list)

@@ -1,5 +1,7 @@
 -- What the index says of the constraints. A place whose constraint is gone has the empty one.
-use Rattle.std.specs.Prelude.{◌≡◌, ℕ, zero, suc, ◌<◌, true, List, [], ◌∷◌, ◌++◌, length, map, sum_by, slice_index, slice_index_or, Option, Some, None, IsSome, Result, Ok, Err, ◌⊎◌, if◌then◌else◌, nat_le}
+use Rattle.std.specs.Prelude.{◌≡◌, ℕ, zero, suc, ◌<◌, true, List, [], ◌∷◌, ◌++◌, length, map}
+use Rattle.std.specs.Prelude.{sum_by, slice_index, slice_index_or, Option, Some, None, IsSome}
+use Rattle.std.specs.Prelude.{Result, Ok, Err, ◌⊎◌, if◌then◌else◌, nat_le}
 use Rattle.std.specs.List.{Contains}
 use Rattle.std.specs.BTreeSet.{BTreeSet, contains}
 use Rattle.std.specs.Ordering.{nat_cmp}
@@ -40,7 +42,8 @@ IsNoted rows holders = (i x : ℕ) → names_in x (row rows i) ≡ true → Cont
 abbrev pub IsReady : Rules → List Constraint → BTreeSet ℕ → Type 0
 IsReady r rows ready = (i : ℕ) → IsSome (pivot r (row rows i)) → contains nat_cmp ready i ≡ true
 
-pub record IsIndexed (r : Rules) (rows : List Constraint) (holders : List (List ℕ)) (queue : BTreeSet ℕ) (count : ℕ) : Type 0 where
+pub record IsIndexed (r : Rules) (rows : List Constraint) (holders : List (List ℕ))
+    (queue : BTreeSet ℕ) (count : ℕ) : Type 0 where
   pub noted : IsNoted rows holders
   pub ready : IsReady r rows queue
   pub counted : count ≡ sum_by terms_in rows
@@ -64,7 +67,8 @@ pub record Queues (r : Rules) (k : Constraint) (i : ℕ) (before now : BTreeSet 
   pub adds : IsSome (pivot r k) → contains nat_cmp now i ≡ true
 
 -- the substitution was made at the places of the list, and nowhere else
-pub record IsPartly (n x : ℕ) (by : List Term) (before now : List Constraint) (numbers : List ℕ) : Type 0 where
+pub record IsPartly (n x : ℕ) (by : List Term) (before now : List Constraint)
+    (numbers : List ℕ) : Type 0 where
   pub same : length now ≡ length before
   pub done : (i : ℕ) → Contains numbers i → row now i ≡ substitute n x by (row before i)
   pub others : (i : ℕ) → (row now i ≡ row before i) ⊎ (row now i ≡ substitute n x by (row before i))
@@ -76,40 +80,20 @@ pub record IsFirst (r : Rules) (rows : List Constraint) (place : ℕ) (t : Term)
   pub here : pivot r (row rows place) ≡ Some t
   pub first : first_pivot r rows ≡ Some (record { term = t; form = (row rows place).c })
 
--- what a turn did: nothing where no constraint can be solved; else it solved the first one, and put the solution in
+-- what a turn did: nothing where no constraint can be solved; else it solved the first one, and put
+-- the solution in
 abbrev pub IsTurn : Rules → List Constraint → List Constraint → Option Solved → Type 0
 IsTurn r before now None = (first_pivot r before ≡ None) × (now ≡ before)
 IsTurn r before now (Some e) =
-    (p : Pick) × (first_pivot r before ≡ Some p) × (e ≡ record { signal = p.term.signal; value = solution r.bound p })
+    (p : Pick) × (first_pivot r before ≡ Some p)
+    × (e ≡ record { signal = p.term.signal; value = solution r.bound p })
     × (now ≡ map (substitute r.bound p.term.signal (solution r.bound p)) before)
 
--- one turn, where an empty constraint keeps its place
-abbrev pub after_holed : Rules → Simplified → Pick → Simplified
-after_holed r s p = record {
-  list = map (substitute r.bound p.term.signal (solution r.bound p)) s.list;
-  solved = s.solved ++ (record { signal = p.term.signal; value = solution r.bound p } ∷ []);
-}
-
-abbrev pub limited_holed : (Simplified → Result Simplified ℕ) → Simplified → Result Simplified ℕ
-limited_holed next s = if nat_le (sum_by terms_in s.list) 8388608 then next s else Err (sum_by terms_in s.list)
-
-abbrev pub turn_holed : (Simplified → Result Simplified ℕ) → Rules → Simplified → Option Pick → Result Simplified ℕ
-turn_holed next r s None = Ok s
-turn_holed next r s (Some p) = limited_holed next (after_holed r s p)
-
-abbrev pub turns_holed : Rules → ℕ → Simplified → Result Simplified ℕ
-turns_holed r zero s = Ok s
-turns_holed r (suc n) s = turn_holed (turns_holed r n) r s (first_pivot r s.list)
-
--- without the places of empty constraints
+-- what the definition has where the code keeps the places of empty constraints
 abbrev pub shown : Rules → Simplified → Simplified
 shown r s = record { list = dropped r.level s.list; solved = s.solved }
 
-abbrev pub shown_in : Rules → Result Simplified ℕ → Result Simplified ℕ
-shown_in r (Ok s) = Ok (shown r s)
-shown_in r (Err count) = Err count
-
--- what the turns answer, where `now` is the list and the equations that they leave
+-- what turns answer, where `now` is the list and the equations that they leave
 abbrev pub Answers : Result (Unit {0}) SimpFault → Simplified → Result Simplified ℕ → Type 0
 Answers (Ok done) now wanted = wanted ≡ Ok now
 Answers (Err fault) now wanted = AnswersFault fault wanted

@@ -1,5 +1,6 @@
 -- Which constraint is solved, and for which of its signals.
-use Rattle.std.specs.Prelude.{ℕ, ◌+◌, ◌%◌, Bool, true, false, ◌&&◌, ◌||◌, not, ◌==◌, nat_lt, nat_le, List, [], ◌∷◌, length, Option, Some, None, if◌then◌else◌}
+use Rattle.std.specs.Prelude.{ℕ, ◌+◌, ◌%◌, Bool, true, false, ◌&&◌, ◌||◌, not, ◌==◌, nat_lt, nat_le}
+use Rattle.std.specs.Prelude.{List, [], ◌∷◌, length, Option, Some, None, if◌then◌else◌}
 use Rattle.std.specs.List.{list_any}
 use Rattle.gold_field.specs.declared.form.Term.{Term}
 use Rattle.gold_field.specs.declared.form.Constraint.{Constraint}
@@ -52,4 +53,5 @@ greatest kept (t ∷ ts) = unless_later kept t (greatest kept ts)
 -- the term for whose signal the constraint is solved, where it is linear, not too long and fits
 abbrev pub pivot : Rules → Constraint → Option Term
 pivot r k =
-    if has_no_terms k.a && nat_le (length k.c) 1024 && fits r.level k.c then greatest r.kept k.c else None
+    if has_no_terms k.a && nat_le (length k.c) 1024 && fits r.level k.c then greatest r.kept k.c
+    else None

@@ -1,5 +1,7 @@
--- Simplification: the first constraint that fits is solved, and what it says of a signal is put in everywhere.
-use Rattle.std.specs.Prelude.{ℕ, zero, suc, ◌-◌, ◌%◌, not, nat_le, List, [], ◌∷◌, ◌++◌, length, map, sum_by, Option, Some, None, Result, Ok, Err, if◌then◌else◌}
+-- Simplification: the first constraint that fits is solved, and what it says of a signal is put in
+-- everywhere.
+use Rattle.std.specs.Prelude.{ℕ, zero, suc, ◌-◌, ◌%◌, not, nat_le, List, [], ◌∷◌, ◌++◌, length, map}
+use Rattle.std.specs.Prelude.{sum_by, Option, Some, None, Result, Ok, Err, if◌then◌else◌}
 use Rattle.std.specs.List.{filter}
 use Rattle.gold_field.specs.declared.form.Term.{Term}
 use Rattle.gold_field.specs.declared.form.Constraint.{Constraint}
@@ -41,7 +43,9 @@ first_pivot r (k ∷ ks) = or_later (pivot r k) k.c (first_pivot r ks)
 
 -- what C = 0 says of the signal: it is the signal less C divided by its coefficient
 abbrev pub solution : ℕ → Pick → List Term
-solution n p = form_of n (added (signal p.term.signal) (scaled ((P - inverse_of p.term.coef) % P) (value_of p.form)))
+solution n p =
+    form_of n
+    (added (signal p.term.signal) (scaled ((P - inverse_of p.term.coef) % P) (value_of p.form)))
 
 -- the solution put into every constraint, the solved one included, which thereby becomes empty
 abbrev pub after : Rules → Simplified → Pick → Simplified
@@ -52,9 +56,11 @@ after r s p = record {
 
 -- a list has at most 8,388,608 terms; else their count is the answer
 abbrev pub limited : (Simplified → Result Simplified ℕ) → Simplified → Result Simplified ℕ
-limited next s = if nat_le (sum_by terms_in s.list) 8388608 then next s else Err (sum_by terms_in s.list)
+limited next s =
+    if nat_le (sum_by terms_in s.list) 8388608 then next s else Err (sum_by terms_in s.list)
 
-abbrev pub turn : (Simplified → Result Simplified ℕ) → Rules → Simplified → Option Pick → Result Simplified ℕ
+abbrev pub turn : (Simplified → Result Simplified ℕ) → Rules → Simplified → Option Pick
+    → Result Simplified ℕ
 turn next r s None = Ok s
 turn next r s (Some p) = limited next (after r s p)
 
@@ -65,4 +71,5 @@ turns r (suc n) s = turn (turns r n) r s (first_pivot r s.list)
 
 -- each turn takes a constraint away, so there are no more turns than constraints
 abbrev pub simplified : Rules → List Constraint → Result Simplified ℕ
-simplified r list = limited (turns r (length list)) (record { list = dropped r.level list; solved = [] })
+simplified r list =
+    limited (turns r (length list)) (record { list = dropped r.level list; solved = [] })

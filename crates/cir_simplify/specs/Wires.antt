@@ -1,5 +1,6 @@
 -- The signals that are kept, and constraints over their places.
-use Rattle.std.specs.Prelude.{ℕ, zero, suc, Bool, true, false, ◌||◌, nat_le, List, [], ◌∷◌, ◌++◌, length, map, if◌then◌else◌}
+use Rattle.std.specs.Prelude.{ℕ, zero, suc, Bool, true, false, ◌||◌, nat_le, List, [], ◌∷◌, ◌++◌}
+use Rattle.std.specs.Prelude.{length, map, if◌then◌else◌}
 use Rattle.std.specs.List.{list_any}
 use Rattle.gold_field.specs.declared.form.Term.{Term}
 use Rattle.gold_field.specs.declared.form.Constraint.{Constraint}
@@ -34,4 +35,5 @@ abbrev pub renamed : (ℕ → ℕ) → Term → Term
 renamed name t = record { signal = name t.signal; coef = t.coef }
 
 abbrev pub renamed_in : (ℕ → ℕ) → Constraint → Constraint
-renamed_in name k = record { a = map (renamed name) k.a; b = map (renamed name) k.b; c = map (renamed name) k.c }
+renamed_in name k =
+    record { a = map (renamed name) k.a; b = map (renamed name) k.b; c = map (renamed name) k.c }

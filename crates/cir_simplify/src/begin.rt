@@ -16,7 +16,8 @@ pub(crate) fn begin(alloc: Global, list: &[Constraint], rules: Rules) -> Result<
     requires normal { All IsNormalForm list.now }
     requires within { All (IsConstraintWithin rules.bound) list.now }
     ensures rows { IfOk result (λ s. s.rows.items ≡ list.now) }
-    ensures indexed { IfOk result (λ s. IsIndexed rules s.rows.items s.holders.items s.ready s.terms) }
+    ensures indexed { IfOk result
+        (λ s. IsIndexed rules s.rows.items s.holders.items s.ready s.terms) }
 {
     let mut s = blank(alloc, list.len(), rules)?;
     for i in 0..list.len() {
@@ -30,7 +31,8 @@ pub(crate) fn begin(alloc: Global, list: &[Constraint], rules: Rules) -> Result<
 // Places without constraints.
 fn blank(alloc: Global, count: usize, rules: Rules) -> Result<Rows, AllocError>
     ensures len { IfOk result (λ s. length s.rows.items ≡ count) }
-    ensures indexed { IfOk result (λ s. IsIndexed rules s.rows.items s.holders.items s.ready s.terms) }
+    ensures indexed { IfOk result
+        (λ s. IsIndexed rules s.rows.items s.holders.items s.ready s.terms) }
 {
     let rows = no_rows(alloc, count)?;
     let holders = no_lists(alloc, rules.bound)?;

@@ -9,15 +9,16 @@ ghost use Rattle.cir_simplify.specs.Keeps.{KeepsSolutions, WiresKeepSolutions};
 ghost use Rattle.cir_simplify.specs.Wires.{is_kept, wire_of, renamed_in};
 
 /// Values of the kept signals satisfy the list after simplification exactly when they extend to an
-/// assignment that satisfies the list given. A signal that no constraint names any more takes any value.
+/// assignment that satisfies the list given. A signal that no constraint names any more takes any
+/// value.
 pub fn kept_values()
     ensures { (r : Rules) (list : List Constraint) (end : Simplified)
         → All IsNormalForm list → All IsRising list → All (IsConstraintWithin r.bound) list
         → simplified r list ≡ Ok end → KeepsSolutions r.level r.kept list end.list }
 {}
 
-/// The same of what `simplify` gives: values of the wires satisfy its constraints exactly when they extend to
-/// an assignment that satisfies the list given.
+/// The same of what `simplify` gives: values of the wires satisfy its constraints exactly when they
+/// extend to an assignment that satisfies the list given.
 pub fn wire_values()
     ensures { (r : Rules) (list : List Constraint) (end : Simplified)
         → All IsNormalForm list → All IsRising list → All (IsConstraintWithin r.bound) list
@@ -25,8 +26,8 @@ pub fn wire_values()
         (map (renamed_in (wire_of (is_kept r.level r.kept end.list))) end.list) }
 {}
 
-/// No constraint of the list after simplification can be solved: so the turns, no more than there are
-/// constraints, are all that there are.
+/// No constraint of the list after simplification can be solved: so the turns, no more than there
+/// are constraints, are all that there are.
 pub fn nothing_fits()
     ensures { (r : Rules) (list : List Constraint) (end : Simplified)
         → All IsNormalForm list → All IsRising list → All (IsConstraintWithin r.bound) list

@@ -1,5 +1,7 @@
 ghost use Rattle.std.specs.Prelude.{◌≡◌, ◌<◌};
-ghost use Rattle.cir_simplify.specs.Shape.{pivot as pivot_of, fits as fits_of, is_short as is_short_form, greatest as greatest_of, has_no_terms};
+ghost use Rattle.cir_simplify.specs.Shape.{pivot as pivot_of, fits as fits_of};
+ghost use Rattle.cir_simplify.specs.Shape.{is_short as is_short_form, greatest as greatest_of};
+ghost use Rattle.cir_simplify.specs.Shape.{has_no_terms};
 
 use crate::types::{Level, Rules};
 use gold_field::{Constraint, Gold, Lc, Term};

@@ -15,7 +15,8 @@ pub(crate) fn solution(alloc: Global, term: Term, c: &Lc) -> Result<Lc, AllocErr
     requires { 0 < term.coef }
     ensures form { IfOk result (λ f. (n : ℕ) → term.signal < n → IsWithin n c.now
         → f ≡ solution_of n record { term = term; form = c.now }) }
-    ensures within { IfOk result (λ f. (n : ℕ) → term.signal < n → IsWithin n c.now → IsWithin n f) }
+    ensures within { IfOk result (λ f. (n : ℕ) → term.signal < n → IsWithin n c.now
+        → IsWithin n f) }
 {
     let signal = multiple(alloc, term.signal, Gold::ONE)?;
     let quotient = scale(alloc, c, minus_inverse(term.coef))?;

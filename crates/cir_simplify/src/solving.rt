@@ -1,4 +1,5 @@
-ghost use Rattle.std.specs.Prelude.{◌≡◌, ◌<◌, ◌≤◌, ◌+◌, ◌^◌, ◌||◌, not, ℕ, Ok, All, length, map, slice_index, IfOk, MatchResult};
+ghost use Rattle.std.specs.Prelude.{◌≡◌, ◌<◌, ◌≤◌, ◌+◌, ◌^◌, ◌||◌, not, ℕ, Ok, All, length, map};
+ghost use Rattle.std.specs.Prelude.{slice_index, IfOk, MatchResult};
 ghost use Rattle.cir_lc.specs.Normal.{IsConstraintWithin};
 ghost use Rattle.cir_lc.specs.Sparse.{IsNormalForm};
 ghost use Rattle.cir_simplify.specs.Turn.{dropped, simplified};
@@ -17,8 +18,8 @@ use gold_field::Constraint;
 use items::Items;
 use std::alloc::{AllocError, Global};
 
-/// Solves the constraints of the list that fit the level, each time the first one, until none fits. Of the
-/// signals 1 to `signals`, the first `kept_always` are never eliminated.
+/// Solves the constraints of the list that fit the level, each time the first one, until none fits.
+/// Of the signals 1 to `signals`, the first `kept_always` are never eliminated.
 ///
 /// # Errors
 ///
@@ -33,7 +34,8 @@ pub fn simplify(
     requires normal { All IsNormalForm list.now }
     requires within { All (IsConstraintWithin (signals + 1)) list.now }
     requires kept { kept_always ≤ signals }
-    ensures { Simplifies record { level = level; kept = kept_always; bound = signals + 1 } list.now result }
+    ensures { Simplifies record { level = level; kept = kept_always; bound = signals + 1 } list.now
+        result }
 {
     let rules = Rules {
         level,
@@ -56,7 +58,8 @@ fn solve_all(alloc: Global, list: &[Constraint], rules: Rules) -> Result<End, Si
     requires normal { All IsNormalForm list.now }
     requires within { All (IsConstraintWithin rules.bound) list.now }
     ensures answer { MatchResult result
-        (λ e. simplified rules list.now ≡ Ok (shown rules record { list = e.rows.items; solved = e.solved }))
+        (λ e. simplified rules list.now
+        ≡ Ok (shown rules record { list = e.rows.items; solved = e.solved }))
         (λ fault. AnswersFault fault (simplified rules list.now)) }
     ensures good { IfOk result (λ e. (i : ℕ) → IsGood rules.bound (row e.rows.items i)) }
 {
@@ -87,7 +90,8 @@ fn over_wires(
     requires bound { rules.bound ≤ 2 ^ 32 }
     requires good { (i : ℕ) → IsGood rules.bound (row rows.items i) }
     ensures { IfOk result
-        (λ s. IsOverWires rules record { list = dropped rules.level rows.items; solved = solved } s) }
+        (λ s. IsOverWires rules record { list = dropped rules.level rows.items; solved = solved }
+        s) }
 {
     let kept = marks(alloc, rows.as_slice(), rules)?;
     let numbers = numbering(alloc, kept.as_slice())?;
@@ -107,7 +111,8 @@ fn renumbered(
     places: &[u32],
 ) -> Result<Items<Constraint>, AllocError>
     requires { All (IsNameable places.now) rows.now }
-    ensures { IfOk result (λ v. v ≡ map (renamed_in (slice_index places.now)) (dropped level rows.now)) }
+    ensures { IfOk result
+        (λ v. v ≡ map (renamed_in (slice_index places.now)) (dropped level rows.now)) }
 {
     let mut list = Items::new(alloc);
     for q in rows {

@@ -1,8 +1,10 @@
-ghost use Rattle.std.specs.Prelude.{◌≡◌, ◌<◌, ◌≤◌, ◌+◌, ◌++◌, ◌∷◌, [], ℕ, length, map, slice_set, IfOk, OnOk, IsTrue, true};
+ghost use Rattle.std.specs.Prelude.{◌≡◌, ◌<◌, ◌≤◌, ◌+◌, ◌++◌, ◌∷◌, [], ℕ, length, map, slice_set};
+ghost use Rattle.std.specs.Prelude.{IfOk, OnOk, IsTrue, true};
 ghost use Rattle.cir_lc.specs.Terms.{IsWithin};
 ghost use Rattle.cir_lc.specs.Substitution.{substitute};
 ghost use Rattle.cir_simplify.specs.Shape.{names, terms_in};
-ghost use Rattle.cir_simplify.specs.Index.{row, held, IsGood, IsIndexed, NotesForm, Notes, Queues, IsPartly};
+ghost use Rattle.cir_simplify.specs.Index.{row, held, IsGood, IsIndexed, NotesForm, Notes, Queues};
+ghost use Rattle.cir_simplify.specs.Index.{IsPartly};
 ghost use Rattle.gold_field.specs.Form.{SignalsBelow};
 ghost use Rattle.std.specs.List.{Contains};
 ghost use Rattle.std.specs.List.Sorted.{IsStrictlyIncreasing};
@@ -132,7 +134,8 @@ pub(crate) fn at(rows: &Vec<Constraint>, i: usize) -> &Constraint
 pub(crate) fn set(s: &mut Rows, rules: Rules, i: usize, q: Constraint) -> Result<(), AllocError>
     requires place { i < length s.old.rows.items }
     requires good { IsGood rules.bound q }
-    requires indexed { IsIndexed rules s.old.rows.items s.old.holders.items s.old.ready s.old.terms }
+    requires indexed { IsIndexed rules s.old.rows.items s.old.holders.items s.old.ready
+        s.old.terms }
     ensures rows { OnOk result (s.new.rows.items ≡ slice_set s.old.rows.items i q) }
     ensures indexed { OnOk result
         (IsIndexed rules s.new.rows.items s.new.holders.items s.new.ready s.new.terms) }
@@ -157,7 +160,8 @@ fn replace_one(
     requires signal { 0 < x }
     requires below { x < rules.bound }
     requires by { IsWithin rules.bound by.now }
-    requires indexed { IsIndexed rules s.old.rows.items s.old.holders.items s.old.ready s.old.terms }
+    requires indexed { IsIndexed rules s.old.rows.items s.old.holders.items s.old.ready
+        s.old.terms }
     ensures rows { OnOk result (s.new.rows.items
         ≡ slice_set s.old.rows.items i (substitute rules.bound x by.now (row s.old.rows.items i))) }
     ensures indexed { OnOk result
@@ -171,7 +175,8 @@ fn replace_one(
 // The places of the constraints that name the signal, and perhaps others, each once.
 fn places(alloc: Global, s: &Rows, x: u32) -> Result<Vec<usize>, AllocError>
     requires { x < length s.now.holders.items }
-    ensures all { IfOk result (λ v. (i : ℕ) → Contains (held s.now.holders.items x) i → Contains v.items i) }
+    ensures all { IfOk result (λ v. (i : ℕ) → Contains (held s.now.holders.items x) i
+        → Contains v.items i) }
     ensures once { IfOk result (λ v. IsStrictlyIncreasing v.items) }
 {
     let mut places = Vec::from_slice(alloc, held_at(&s.holders, x as usize).as_slice())?;
@@ -191,7 +196,8 @@ pub(crate) fn replace_all(
     requires signal { 0 < x }
     requires below { x < rules.bound }
     requires by { IsWithin rules.bound by.now }
-    requires indexed { IsIndexed rules s.old.rows.items s.old.holders.items s.old.ready s.old.terms }
+    requires indexed { IsIndexed rules s.old.rows.items s.old.holders.items s.old.ready
+        s.old.terms }
     ensures rows { OnOk result
         (s.new.rows.items ≡ map (substitute rules.bound x by.now) s.old.rows.items) }
     ensures indexed { OnOk result

@@ -1,7 +1,9 @@
-ghost use Rattle.std.specs.Prelude.{◌≡◌, ◌<◌, ◌≤◌, ◌+◌, ℕ, length, Some, None, IfOk, OnOk, MatchOption};
+ghost use Rattle.std.specs.Prelude.{◌≡◌, ◌<◌, ◌≤◌, ◌+◌, ℕ, length, Some, None, IfOk, OnOk};
+ghost use Rattle.std.specs.Prelude.{MatchOption};
 ghost use Rattle.cir_lc.specs.Terms.{IsWithin};
-ghost use Rattle.cir_simplify.specs.Turn.{first_pivot, solution as solution_of};
-ghost use Rattle.cir_simplify.specs.Index.{row, IsReady, IsIndexed, IsFirst, IsTurn, Answers, turns_holed};
+ghost use Rattle.cir_simplify.specs.Turn.{first_pivot, solution as solution_of, turns as turns_of};
+ghost use Rattle.cir_simplify.specs.Index.{row, IsReady, IsIndexed, IsFirst, IsTurn, Answers};
+ghost use Rattle.cir_simplify.specs.Index.{shown};
 
 use crate::pick::pivot;
 use crate::row::solution;
@@ -22,7 +24,8 @@ pub(crate) struct Found {
     pub(crate) term: Term,
 }
 
-// The first constraint that is solved. What else stood before it in the worklist is out of date, and goes.
+// The first constraint that is solved. What else stood before it in the worklist is out of date,
+// and goes.
 fn first(ready: &mut BTreeSet<usize>, rows: &Vec<Constraint>, rules: Rules) -> Option<Found>
     requires { IsReady rules rows.now.items ready.old }
     ensures ready { IsReady rules rows.now.items ready.new }
@@ -67,7 +70,10 @@ fn solved_at(alloc: Global, rows: &Vec<Constraint>, found: Found) -> Result<Lc, 
     requires coef { 0 < found.term.coef }
     ensures form { IfOk result (λ f. (n : ℕ) → found.term.signal < n
         → IsWithin n (row rows.now.items found.place).c
-        → f ≡ solution_of n record { term = found.term; form = (row rows.now.items found.place).c }) }
+        → f ≡ solution_of n record {
+          term = found.term;
+          form = (row rows.now.items found.place).c;
+        }) }
     ensures within { IfOk result (λ f. (n : ℕ) → found.term.signal < n
         → IsWithin n (row rows.now.items found.place).c → IsWithin n f) }
 {
@@ -79,7 +85,8 @@ fn solved_at(alloc: Global, rows: &Vec<Constraint>, found: Found) -> Result<Lc, 
 
 fn solve(alloc: Global, s: &mut Rows, rules: Rules, found: Found) -> Result<Solved, AllocError>
     requires first { IsFirst rules s.old.rows.items found.place found.term }
-    requires indexed { IsIndexed rules s.old.rows.items s.old.holders.items s.old.ready s.old.terms }
+    requires indexed { IsIndexed rules s.old.rows.items s.old.holders.items s.old.ready
+        s.old.terms }
     ensures turn { IfOk result (λ e. IsTurn rules s.old.rows.items s.new.rows.items (Some e)) }
     ensures indexed { OnOk result
         (IsIndexed rules s.new.rows.items s.new.holders.items s.new.ready s.new.terms) }
@@ -99,8 +106,10 @@ pub(crate) fn run_turns(
     solved: &mut Items<Solved>,
 ) -> Result<(), SimpFault>
     requires { IsIndexed rules s.old.rows.items s.old.holders.items s.old.ready s.old.terms }
-    ensures answer { Answers result record { list = s.new.rows.items; solved = solved.new }
-        (turns_holed rules turns record { list = s.old.rows.items; solved = solved.old }) }
+    ensures answer { Answers result
+        (shown rules record { list = s.new.rows.items; solved = solved.new })
+        (turns_of rules turns
+        (shown rules record { list = s.old.rows.items; solved = solved.old })) }
     ensures indexed { OnOk result
         (IsIndexed rules s.new.rows.items s.new.holders.items s.new.ready s.new.terms) }
 {

@@ -13,7 +13,8 @@ pub enum Level {
     O2,
 }
 
-/// What simplification goes by: signals 1 to `kept` are never eliminated, and all are below `bound`.
+/// What simplification goes by: signals 1 to `kept` are never eliminated, and all are below
+/// `bound`.
 #[derive(Clone, Copy, Debug)]
 pub struct Rules {
     pub level: Level,
@@ -28,7 +29,8 @@ pub struct Solved {
     pub value: Lc,
 }
 
-/// Constraints over wires, the signal of each wire, and the equations in the order in which they were solved.
+/// Constraints over wires, the signal of each wire, and the equations in the order in which they
+/// were solved.
 #[derive(Debug, Drop)]
 pub struct Simple {
     pub constraints: Items<Constraint>,

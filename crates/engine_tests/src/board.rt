@@ -241,7 +241,7 @@ fn two_seats_hand_over_by_a_join(rt: HostRuntime) -> Result<(), Fail> {
     assert!(rt; board.least(&mut a).is_none());
     assert!(rt; board.least(&mut b).is_none());
     board.join(&mut a, b);
-    let words = board.close(rt.alloc(), a)?;
+    let words = board.close(a);
     assert!(rt; are_as_told(&words, three, first, second));
     Ok(())
 }
@@ -340,7 +340,7 @@ fn a_refusal_stands_beside_a_done_strand(rt: HostRuntime) -> Result<(), Fail> {
     assert_eq!(rt; board.least(&mut a), Some(0));
     assert_eq!(rt; board.least(&mut b), Some(0));
     board.join(&mut a, b);
-    let words = board.close(rt.alloc(), a)?;
+    let words = board.close(a);
     assert_eq!(rt; words.cell(1), Some(seven));
     assert_eq!(rt; words.least(), Some(0));
     Ok(())

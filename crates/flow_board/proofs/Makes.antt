@@ -1,9 +1,8 @@
--- Making a board, and copying its last words
+-- Making a board, and reading its last words
 use Rattle.std.proofs.Common.{◌≡◌, ℕ, zero, suc, ◌+◌, ◌^◌, ◌<◌, List, [], ◌∷◌, ◌++◌, length, get_or}
 use Rattle.std.proofs.Common.{take, sym, ◌∙◌, ap, subst, arith}
 use mathlib.Core.Option.{some, some-injective, some-ne-none}
 use lib.ListN.{get_elem?}
-use Rattle.std.proofs.lemmas.List.{take_more}
 use Rattle.atomic_table.specs.Table as table
 use Rattle.atomic_table.specs.Seated.{TableId}
 use Rattle.flow_core.specs.Net.{Net, IsNet}
@@ -12,18 +11,12 @@ use Rattle.flow_core.specs.Events.{opening}
 use Rattle.flow_board.specs.Shows.{Shows}
 use Rattle.flow_board.specs.Rule.{first, HasNumbers, Ruled}
 use Rattle.flow_board.specs.Seats.{Stands}
-use Rattle.flow_board.proofs.Views.{place_within}
 use Rattle.flow_board.proofs.Ends.{begins}
 
-elem_read : (xs : List ℕ) (i x : ℕ) → get_elem? xs i ≡ some x → get_or xs i 0 ≡ x
+pub elem_read : (xs : List ℕ) (i x : ℕ) → get_elem? xs i ≡ some x → get_or xs i 0 ≡ x
 elem_read [] i x e = absurd (some-ne-none x (sym e))
 elem_read (y ∷ xs) zero x e = some-injective y x e
 elem_read (y ∷ xs) (suc i) x e = elem_read xs i x e
-
-pub copied_more : (xs : List ℕ) (i x : ℕ) → get_elem? xs i ≡ some x
-    → take (i + 1) xs ≡ take i xs ++ x ∷ []
-copied_more xs i x e = take_more xs i 0 (place_within xs i x e)
-    ∙ ap (λ (y : ℕ). take i xs ++ y ∷ []) (elem_read xs i x e)
 
 pub opens_board : (f : Flow) (n : Net) (ws : List ℕ) → f.net ≡ n → IsNet n → IsFlow f
     → n.strands < 4294967296 → HasNumbers f.start → Shows f (opening f) ws

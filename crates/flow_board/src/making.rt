@@ -1,6 +1,5 @@
 // A board's first words and its last.
-ghost use Rattle.std.specs.Prelude.{◌≡◌, ℕ, ◌+◌, ◌<◌, ◌^◌, length, IfOk};
-ghost use Rattle.std.specs.Slots.{slots_items, slots_len, IsFull};
+ghost use Rattle.std.specs.Prelude.{◌≡◌, ◌^◌, IfOk};
 ghost use Rattle.flow_core.specs.Flow.{IsFlow};
 ghost use Rattle.flow_board.specs.Seats.{ListsStarts, first_seat};
 ghost use Rattle.flow_board.specs.Closed.{IsClosed};
@@ -10,10 +9,9 @@ use crate::board::Board;
 use crate::opening::opening_words;
 use crate::seat::WorkSeat;
 use crate::words::Words;
-use atomic_table::{Closed, Table};
+use atomic_table::Table;
 use flow_core::Graph;
 use gold_field::Gold;
-use items::Items;
 use std::alloc::{AllocError, Global};
 use std::snapshot::Snapshot;
 
@@ -47,12 +45,13 @@ impl<'g, A: Answers + Drop> Board<'g, A> {
         Ok((board, WorkSeat { seat, held: None }))
     }
 
-    /// Ends a board, once every other seat is joined into this one, and keeps its words.
-    pub fn close(self, alloc: Global, seat: WorkSeat) -> Result<Words, AllocError>
+    /// Ends a board, once every other seat is joined into this one, and keeps its words. Takes no
+    /// memory.
+    pub fn close(self, seat: WorkSeat) -> Words
         requires own { seat.place ≡ self }
         requires free { seat.holding ≡ None }
         requires whole { seat.share ≡ 65 }
-        ensures { IfOk result (IsClosed self.entry.flow seat.done seat.refused) }
+        ensures { IsClosed self.entry.flow seat.done seat.refused result }
     {
         let WorkSeat {
             seat: last,
@@ -65,29 +64,10 @@ impl<'g, A: Answers + Drop> Board<'g, A> {
             strands,
         } = self;
         let closed = table.close_with(last);
-        let copied = copy_words(alloc, &closed, 1 + cells as usize + strands as usize);
-        closed.free();
-        Ok(Words {
+        Words {
             cells,
             strands,
-            words: Items::of(copied?),
-        })
+            closed,
+        }
     }
-}
-
-/// The words of a closed table.
-fn copy_words(
-    alloc: Global,
-    closed: &Closed<u32, Global>,
-    count: usize,
-) -> Result<Vec<u64>, AllocError>
-    requires full { IsFull closed.now.words }
-    requires count { count ≡ slots_len closed.now.words }
-    ensures { IfOk result (λ ws. ws.items ≡ slots_items closed.now.words) }
-{
-    let mut words = Vec::with_capacity(alloc, count)?;
-    for i in 0..count {
-        words.push(closed.word(i))?;
-    }
-    Ok(words)
 }

@@ -1,36 +1,59 @@
-ghost use Rattle.std.specs.Prelude.{◌≡◌, ◌<◌};
+ghost use Rattle.std.specs.Prelude.{◌≡◌, ◌+◌, ◌<◌, slice_index};
 ghost use Rattle.flow_board.specs.Closed.{cell_in, done_in, least_in};
 
 use crate::rule::TAKEN;
+use atomic_table::Closed;
 use gold_field::Gold;
-use items::Items;
+use std::alloc::Global;
 use std::marker::Model;
 
 /// The words of a closed board.
-#[derive(Debug, Drop)]
 pub struct Words {
     pub(crate) cells: u32,
     pub(crate) strands: u32,
-    pub(crate) words: Items<u64>,
+    pub(crate) closed: Closed<u32, Global>,
 }
 
 impl Model for Words {
+    ghost use Rattle.std.specs.Prelude.{◌≡◌, ◌+◌};
+    ghost use Rattle.std.specs.Slots.{slots_items, slots_len, IsFull};
     ghost use Rattle.flow_board.specs.Closed.{Closing, closing, IsClosing};
 
     ghost Value = { Closing };
 
-    ghost view = { λ w. closing w.cells w.strands w.words };
+    ghost view = { λ w. closing w.cells w.strands (slots_items w.closed.words) };
 
-    ghost invariant = { λ w. IsClosing (closing w.cells w.strands w.words) };
+    ghost invariant = { λ w. IsClosing (closing w.cells w.strands (slots_items w.closed.words))
+        × IsFull w.closed.words × (slots_len w.closed.words ≡ 1 + w.cells + w.strands)
+        × (slots_len w.closed.slots ≡ 0) };
+}
+
+impl Drop for Words {
+    fn drop(self) {
+        let Words {
+            cells: _,
+            strands: _,
+            closed,
+        } = self;
+        closed.free();
+    }
 }
 
 impl Words {
+    fn word(&self, at: usize) -> u64
+        requires { at < 1 + self.now.cells + self.now.strands }
+        ensures { result ≡ slice_index self.now.words at }
+    {
+        self.closed.word(at)
+    }
+
     /// The value of a cell, where it has one.
     pub fn cell(&self, cell: u32) -> Option<Gold>
         requires { cell < self.now.cells }
         ensures { result ≡ cell_in self.now cell }
     {
-        let word = self.words.as_slice()[1 + cell as usize];
+        let _ = &self.cells;
+        let word = self.word(1 + cell as usize);
         if word == 0 { None } else { Gold::new(word - 1) }
     }
 
@@ -40,14 +63,14 @@ impl Words {
         requires { strand < self.now.strands }
         ensures { result ≡ done_in self.now strand }
     {
-        self.words.as_slice()[1 + self.cells as usize + strand as usize] == TAKEN
+        self.word(1 + self.cells as usize + strand as usize) == TAKEN
     }
 
     /// The least refused strand.
     pub fn least(&self) -> Option<u32>
         ensures { result ≡ least_in self.now }
     {
-        let word = self.words.as_slice()[0];
+        let word = self.word(0);
         if word == u64::from(self.strands) {
             None
         } else {

@@ -33,18 +33,17 @@ fn pairs(alloc: Global, answers: &FlowAnswers<'_>) -> Result<Vec<(u32, Gold)>, A
     Ok(pairs)
 }
 
-// A pool in which the strands without predecessors are ready. The last to go in is the first to come
-// out, so the strands go in from the last one down: neighbours lie side by side in memory.
+// A pool in which the strands without predecessors are ready. The last to go in is the first to
+// come out, so the strands go in from the last one down: neighbours lie side by side in memory.
 fn first_pool(alloc: Global, graph: &Graph) -> Result<Pool, AllocError> {
     let strands = graph.strands;
-    let mut ready = Vec::new(alloc);
+    let mut state = PoolState::make(alloc, strands, &[])?;
     for above in 0..strands {
         let strand = strands - 1 - above;
         if graph.preds_of(strand).is_empty() {
-            ready.push(strand)?;
+            let _has_room = state.put(strand);
         }
     }
-    let state = PoolState::make(alloc, strands, ready.as_slice())?;
     Ok(Pool::make(state))
 }
 
@@ -78,7 +77,7 @@ fn run_board<R: Threads + Wait + Sync, G: Gate>(
     if take_back(&board, &mut seat, seats).is_none() {
         return Err(AllocError);
     }
-    board.close(alloc, seat)
+    Ok(board.close(seat))
 }
 
 /// Runs a flow's strands on 1 to 64 workers. The answer is that of one thread, whatever the

@@ -59,7 +59,8 @@ fn gather(
     Ok(())
 }
 
-// Of the strands that have become ready the last is this worker's next one, and the pool gets the others.
+// Of the strands that have become ready the last is this worker's next one, and the pool gets the
+// others.
 fn share_out<R: Wait>(rt: &R, pool: &Pool, desk: &mut Desk) {
     if let Some(last) = desk.ready.pop() {
         pool.put_all(rt, desk.ready.as_slice());

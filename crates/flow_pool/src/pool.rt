@@ -76,8 +76,9 @@ impl Pool {
         unreachable!()
     }
 
-    /// What `next` gives; and where many strands are left some of them too, so that not every strand
-    /// costs a lock: these go into `more`, the next one last. Each worker leaves far more to the others.
+    /// What `next` gives; and where many strands are left some of them too, so that not every
+    /// strand costs a lock: these go into `more`, the next one last. Each worker leaves far more to
+    /// the others.
     pub fn next_some<R: Wait>(&self, rt: &R, more: &mut Vec<u32>) -> Option<u32> {
         let mut state = self.state.lock(rt);
         let Some(strand) = state.take() else {

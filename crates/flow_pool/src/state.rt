@@ -1,5 +1,6 @@
 ghost use Rattle.std.specs.Prelude.{◌≡◌, ◌≤◌, ◌<◌, ◌↔◌, length, IfOk, IsTrue};
-ghost use Rattle.flow_pool.specs.Pool.{opening, entered, has_room, put_in, Leaves, with_rest, at_end};
+ghost use Rattle.flow_pool.specs.Pool.{opening, entered, has_room, put_in, Leaves, with_rest};
+ghost use Rattle.flow_pool.specs.Pool.{at_end};
 ghost use Rattle.flow_pool.specs.Pool.{after_rest, after_wake};
 
 use std::alloc::{AllocError, Global};

@@ -128,8 +128,8 @@ fn two_stops(alloc: Global) -> Result<Flow, Fail>
     flow_of(alloc, links.as_slice())
 }
 
-// Both strands refuse, and the lesser is the answer. Neither an order of the strands on one thread nor
-// the caller's own run gets them past the gate.
+// Both strands refuse, and the lesser is the answer. Neither an order of the strands on one thread
+// nor the caller's own run gets them past the gate.
 #[test]
 fn two_strands_run_at_once(rt: HostRuntime) -> Result<(), Fail> {
     let flow = two_stops(rt.alloc())?;

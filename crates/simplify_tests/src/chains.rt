@@ -1,76 +1,13 @@
-ghost use Rattle.std.specs.Prelude.{◌≡◌, ◌<◌, ◌≤◌, ◌+◌, ℕ, IfOk, OnOk};
-ghost use Rattle.cir_lc.specs.Terms.{IsWithin};
+ghost use Rattle.std.specs.Prelude.{◌<◌, ◌+◌, ℕ, IfOk};
 ghost use Rattle.cir_lc.specs.Normal.{IsQuadWithin};
-ghost use Rattle.simplify_tests.specs.Lists.{IsListed};
+ghost use Rattle.simplify_samples.specs.Lists.{IsListed};
 
-use cir_lc::{Quad, add, multiple, normal};
+use cir_lc::{Quad, multiple};
 use cir_simplify::{Level, SimpFault, Simple, simplify};
-use gold_field::{Constraint, Gold, Lc, Term};
+use gold_field::{Constraint, Gold, Term};
+use simplify_samples::{chain, difference, no_terms, plus, push, push_linear, sum, sums};
 use std::alloc::{AllocError, Global};
 use std::test::Fail;
-
-// Adds `a * b + c = 0`.
-fn push(list: &mut Vec<Constraint>, alloc: Global, q: &Quad) -> Result<(), AllocError>
-    ensures { OnOk result ((n : ℕ) → IsQuadWithin n q.now
-        → IsListed n list.old.items → IsListed n list.new.items) }
-{
-    let constraint = normal(alloc, q)?;
-    list.push(constraint)?;
-    Ok(())
-}
-
-// Adds `c = 0`.
-fn push_linear(list: &mut Vec<Constraint>, alloc: Global, c: Lc) -> Result<(), AllocError>
-    ensures { OnOk result ((n : ℕ) → IsWithin n c
-        → IsListed n list.old.items → IsListed n list.new.items) }
-{
-    let zero = Quad {
-        a: no_terms(alloc),
-        b: no_terms(alloc),
-        c,
-    };
-    push(list, alloc, &zero)?;
-    Ok(())
-}
-
-fn no_terms(alloc: Global) -> Lc
-    ensures { (n : ℕ) → IsWithin n result }
-{
-    Lc::of(Vec::new(alloc))
-}
-
-// The form and `k` times the signal.
-fn plus(alloc: Global, form: &Lc, signal: u32, k: Gold) -> Result<Lc, AllocError>
-    ensures { IfOk result (λ f. (n : ℕ) → signal < n → IsWithin n form.now → IsWithin n f) }
-{
-    let term = multiple(alloc, signal, k)?;
-    let sum = add(alloc, form, &term)?;
-    Ok(sum)
-}
-
-// `x - y`.
-fn difference(alloc: Global, x: u32, y: u32) -> Result<Lc, AllocError>
-    ensures { IfOk result (λ f. (n : ℕ) → x < n → y < n → IsWithin n f) }
-{
-    let left = multiple(alloc, x, Gold::ONE)?;
-    let both = plus(alloc, &left, y, Gold::ONE.neg())?;
-    Ok(both)
-}
-
-// The sum of the signals from `first` to `last`, each with `base` times the coefficient before it,
-// from 1 on.
-fn sum(alloc: Global, first: u32, last: u32, base: Gold) -> Result<Lc, AllocError>
-    requires { last < 1000000 }
-    ensures { IfOk result (λ f. IsWithin (last + 1) f) }
-{
-    let mut sum = no_terms(alloc);
-    let mut weight = Gold::ONE;
-    for signal in first..last + 1 {
-        sum = plus(alloc, &sum, signal, weight)?;
-        weight = weight.mul(base);
-    }
-    Ok(sum)
-}
 
 fn counts(simple: &Simple) -> (usize, usize, usize) {
     (
@@ -80,25 +17,10 @@ fn counts(simple: &Simple) -> (usize, usize, usize) {
     )
 }
 
-// The output 1 is the last signal, each signal from 3 on is the one before it, and 2 is the input.
-fn chain(alloc: Global, length: u32) -> Result<Vec<Constraint>, AllocError>
-    requires { length < 1000000 }
-    ensures { IfOk result (λ l. IsListed (length + 3) l.items) }
-{
-    let mut chain = Vec::new(alloc);
-    for signal in 2..length + 2 {
-        let link = difference(alloc, signal + 1, signal)?;
-        push_linear(&mut chain, alloc, link)?;
-    }
-    let end = difference(alloc, 1, length + 2)?;
-    push_linear(&mut chain, alloc, end)?;
-    Ok(chain)
-}
-
 // What is left is `input - output = 0`.
 #[test]
 fn a_chain_becomes_one_constraint(rt: HostRuntime) -> Result<(), Fail> {
-    let chain = chain(rt.alloc(), 1000)?;
+    let chain = chain(rt.alloc(), 1002)?;
     let list = chain.as_slice();
     let whole = simplify(rt.alloc(), list, 1002, 2, Level::O0)?;
     assert_eq!(rt; counts(&whole), (1003, 1001, 0));
@@ -114,6 +36,19 @@ fn a_chain_becomes_one_constraint(rt: HostRuntime) -> Result<(), Fail> {
         coef: Gold::ONE,
     };
     assert_eq!(rt; last.c.as_slice(), [output, input].as_slice());
+    Ok(())
+}
+
+// What is left says that the output is a sum of multiples of the inputs; at `--O1` nothing goes but
+// the output's own equation, whose other signal it is.
+#[test]
+fn a_chain_of_sums_becomes_one_constraint(rt: HostRuntime) -> Result<(), Fail> {
+    let chain = sums(rt.alloc(), 1003)?;
+    let list = chain.as_slice();
+    let short = simplify(rt.alloc(), list, 1003, 3, Level::O1)?;
+    assert_eq!(rt; counts(&short), (1003, 1000, 1));
+    let shortest = simplify(rt.alloc(), list, 1003, 3, Level::O2)?;
+    assert_eq!(rt; counts(&shortest), (4, 1, 1000));
     Ok(())
 }
 

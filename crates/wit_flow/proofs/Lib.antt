@@ -1,7 +1,9 @@
 pub mod Values
 pub mod Runs
+pub mod Spans
 pub mod Marking
 pub mod Strands
+pub mod Drawing
 pub mod Plans
 pub mod PartRuns
 pub mod Whole

@@ -15,7 +15,9 @@ start_cells p start = with_values no_values p.starts start
 -- the steps of the strand k, in order, where the cells that it reads hold these values
 abbrev pub strand_end : Plan → ℕ → ℕ → List ℕ → End
 strand_end p fuel k xs =
-    let s = strand_at p.strands k in run_steps p.procs fuel s.first (part p.steps s) (with_values no_values (reads_of p.graph k) xs)
+    let s = strand_at p.strands k
+    in run_steps p.procs fuel s.first (part p.steps s)
+    (with_values no_values (reads_of p.graph k) xs)
 
 abbrev pub answer_end : End → Answer
 answer_end (Ran ys) = Gives ys
@@ -24,7 +26,8 @@ answer_end (StopsAt n stop ys) = Refuses
 -- the answer of the strand k on cells: Unreached where a cell that it reads has no value
 abbrev pub answer_on : Plan → ℕ → ℕ → Cells → Answer
 answer_on p fuel k cells =
-    let reads = reads_of p.graph k in if have_values cells reads then answer_end (strand_end p fuel k (numbers_at cells reads)) else Unreached
+    let reads = reads_of p.graph k in if have_values cells reads
+    then answer_end (strand_end p fuel k (numbers_at cells reads)) else Unreached
 
 abbrev pub with_answer : Cells → List ℕ → Answer → Cells
 with_answer cells cs Unreached = cells
@@ -35,7 +38,8 @@ with_answer cells cs (Gives xs) = with_values cells cs xs
 abbrev pub cells_before : Plan → ℕ → Cells → ℕ → Cells
 cells_before p fuel start zero = start
 cells_before p fuel start (suc k) =
-    let cells = cells_before p fuel start k in with_answer cells (writes_of p.graph k) (answer_on p fuel k cells)
+    let cells = cells_before p fuel start k
+    in with_answer cells (writes_of p.graph k) (answer_on p fuel k cells)
 
 -- the answer of the strand k
 abbrev pub answer_at : Plan → List ℕ → ℕ → ℕ → Answer

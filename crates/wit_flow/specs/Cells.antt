@@ -1,5 +1,6 @@
 -- What cells hold, and what they hold once some of them got a value
-use Rattle.std.specs.Prelude.{◌≡◌, ℕ, ◌==◌, if◌then◌else◌, Bool, List, [], ◌∷◌, map, length, Option, Some, None, is_some, unwrap_or, slice_index_or}
+use Rattle.std.specs.Prelude.{◌≡◌, ℕ, ◌==◌, if◌then◌else◌, Bool, List, [], ◌∷◌, map, length, Option}
+use Rattle.std.specs.Prelude.{Some, None, is_some, unwrap_or, slice_index_or}
 use Rattle.std.specs.List.{list_all}
 
 -- the value of each cell, if it has one

@@ -1,5 +1,6 @@
 -- Which steps can be cut into strands, and how they are cut
-use Rattle.std.specs.Prelude.{◌≡◌, ℕ, ◌+◌, ◌^◌, ◌<◌, ◌≤◌, ◌↔◌, ◌⊎◌, List, [], ◌∷◌, length, slice_index_or, slice_range, All}
+use Rattle.std.specs.Prelude.{◌≡◌, ℕ, ◌+◌, ◌^◌, ◌<◌, ◌≤◌, ◌↔◌, ◌⊎◌, List, [], ◌∷◌, length}
+use Rattle.std.specs.Prelude.{slice_index_or, slice_range, All}
 use Rattle.gold_field.specs.declared.gold.TheConstants.{P}
 use Rattle.wit_code.specs.declared.code.Proc.{Proc}
 use Rattle.wit_code.specs.declared.code.Step.{Step}
@@ -17,7 +18,8 @@ WritesEach procs s =
     → outcome_of procs s.code xs fuel ≡ Wrote ys → length ys ≡ length s.writes
 
 -- the six conditions
-pub record CanCut (steps : List Step) (procs : List Proc) (cells : ℕ) (starts : List ℕ) : Type 0 where
+pub record CanCut (steps : List Step) (procs : List Proc) (cells : ℕ)
+    (starts : List ℕ) : Type 0 where
   -- 1. there are fewer than 2^32 steps
   pub few : length steps < 4294967296
   -- 2. every named cell is in range
@@ -33,7 +35,8 @@ pub record CanCut (steps : List Step) (procs : List Proc) (cells : ℕ) (starts 
   pub one_writer : (p q c : ℕ) → IsIn c (writes_at steps p) → IsIn c (writes_at steps q) → p ≡ q
   pub written_first : (p k c : ℕ) → IsIn c (writes_at steps p) → IsIn c (reads_at steps k) → p < k
   -- 5. a step's code is well formed, and reads no place past its reads
-  pub well_formed : (k : ℕ) → k < length steps → IsWellFormed procs (length (reads_at steps k)) (step_at steps k).code
+  pub well_formed : (k : ℕ) → k < length steps
+      → IsWellFormed procs (length (reads_at steps k)) (step_at steps k).code
   -- 6.
   pub writes_each : (k : ℕ) → k < length steps → WritesEach procs (step_at steps k)
 
@@ -49,16 +52,19 @@ abbrev pub Follow : List Strand → ℕ → ℕ → Type 0
 Follow [] n end = n ≡ end
 Follow (s ∷ ss) n end = (s.first ≡ n) × (0 < s.count) × Follow ss (n + s.count) end
 
--- A strand writes what its steps write, in order, and reads what its steps read and it doesn't write
+-- A strand writes what its steps write, in order, and reads what its steps read and it doesn't
+-- write
 pub record Draws (steps : List Step) (s : Strand) (reads writes : List ℕ) : Type 0 where
   pub writes_all : writes ≡ writes_in (part steps s)
-  pub reads_others : (c : ℕ) → IsIn c reads ↔ (IsIn c (reads_in (part steps s)) × (IsIn c writes → ⊥))
+  pub reads_others : (c : ℕ)
+      → IsIn c reads ↔ (IsIn c (reads_in (part steps s)) × (IsIn c writes → ⊥))
 
--- The step i joins the steps from `first` up to it: they are fewer than 256, and it reads a cell that
--- they write
+-- The step i joins the steps from `first` up to it: they are fewer than 256, and it reads a cell
+-- that they write
 abbrev pub Joins : List Step → ℕ → ℕ → Type 0
 Joins steps first i =
-    (i < first + 256) × ((c : ℕ) × IsIn c (reads_at steps i) × IsIn c (writes_in (slice_range steps first i)))
+    (i < first + 256)
+    × ((c : ℕ) × IsIn c (reads_at steps i) × IsIn c (writes_in (slice_range steps first i)))
 
 -- each step of the strand but its first joins those before it, and the step behind its last doesn't
 pub record IsByRule (steps : List Step) (s : Strand) : Type 0 where

@@ -5,4 +5,5 @@ pub mod Plan
 pub mod Answers
 pub mod OneThread
 pub mod Sources
+pub mod Steps
 pub mod Draft

@@ -14,9 +14,11 @@ pub record Plan : Type 0 where
   pub graph : Net
 
 abbrev pub plan : List Strand → List Step → List Proc → List ℕ → Net → Plan
-plan strands steps procs starts graph = record { strands = strands; steps = steps; procs = procs; starts = starts; graph = graph }
+plan strands steps procs starts graph =
+    record { strands = strands; steps = steps; procs = procs; starts = starts; graph = graph }
 
--- the steps can be cut, the strands are consecutive and hold them all, and the graph is the strands'
+-- the steps can be cut, the strands are consecutive and hold them all, and the graph is the
+-- strands'
 pub record IsPlan (p : Plan) : Type 0 where
   pub can_cut : CanCut p.steps p.procs p.graph.cells p.starts
   pub net : IsNet p.graph

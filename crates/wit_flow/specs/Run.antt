@@ -50,5 +50,6 @@ abbrev pub run_steps : List Proc → ℕ → ℕ → List Step → Cells → End
 run_steps procs fuel n [] cells = Ran []
 run_steps procs fuel n (s ∷ ss) cells =
     end_of (outcome_of procs s.code (numbers_at cells s.reads) fuel)
-    (λ ys. after_values (fitted s.writes ys) (run_steps procs fuel (n + 1) ss (with_values cells s.writes (fitted s.writes ys))))
+    (λ ys. after_values (fitted s.writes ys)
+    (run_steps procs fuel (n + 1) ss (with_values cells s.writes (fitted s.writes ys))))
     (λ stop. StopsAt n stop [])

@@ -1,5 +1,6 @@
 -- Where a step of a strand finds the numbers that it reads
-use Rattle.std.specs.Prelude.{◌≡◌, ℕ, ◌+◌, ◌<◌, ◌≤◌, List, [], length, slice_index, slice_index_or, slice_range}
+use Rattle.std.specs.Prelude.{◌≡◌, ℕ, ◌+◌, ◌<◌, ◌≤◌, List, [], length, slice_index, slice_index_or}
+use Rattle.std.specs.Prelude.{slice_range}
 use Rattle.wit_code.specs.declared.code.Step.{Step}
 use Rattle.wit_flow.specs.declared.flow.Source.{Source}
 use Rattle.wit_flow.specs.declared.flow.Source.TheVariants.{Read, Written}
@@ -28,12 +29,15 @@ IsThere reads written (Read p) = p < reads
 IsThere reads written (Written p) = p < written
 
 abbrev pub AreThere : ℕ → ℕ → List Source → Type 0
-AreThere reads written sources = (i : ℕ) → i < length sources → IsThere reads written (source_at sources i)
+AreThere reads written sources =
+    (i : ℕ) → i < length sources → IsThere reads written (source_at sources i)
 
-pub record AreSources (reads writes : List ℕ) (n : ℕ) (sources : List Source) (cells : List ℕ) : Type 0 where
+pub record AreSources (reads writes : List ℕ) (n : ℕ) (sources : List Source)
+    (cells : List ℕ) : Type 0 where
   pub each : length sources ≡ length cells
   pub few : n ≤ length writes
-  pub found : (i : ℕ) → i < length cells → IsSource reads writes n (source_at sources i) (slice_index cells i)
+  pub found : (i : ℕ) → i < length cells
+      → IsSource reads writes n (source_at sources i) (slice_index cells i)
 
 abbrev pub sources_of : List (List Source) → ℕ → List Source
 sources_of sources k = slice_index_or sources k []
@@ -42,7 +46,8 @@ sources_of sources k = slice_index_or sources k []
 abbrev pub Finds : List Step → List (List Source) → Strand → List ℕ → List ℕ → Type 0
 Finds steps sources s reads writes =
     (j : ℕ) → s.first ≤ j → j < s.first + s.count
-    → AreSources reads writes (length (writes_in (slice_range steps s.first j))) (sources_of sources j) (reads_at steps j)
+    → AreSources reads writes (length (writes_in (slice_range steps s.first j)))
+    (sources_of sources j) (reads_at steps j)
 
 abbrev pub HaveSources : Plan → List (List Source) → Type 0
 HaveSources p sources =

@@ -4,13 +4,14 @@ ghost use Rattle.wit_flow.specs.Plan.{IsPlan, AreByRule};
 
 use crate::drafting::{Draft, draft_of};
 use crate::flow::Flow;
-use flow_core::Graph;
+use flow_core::{Graph, GraphFault};
 use items::Items;
 use std::alloc::{AllocError, Global};
 use wit_code::{Proc, Step};
 
-/// Cuts steps into strands: a step joins the strand of the step before it where that strand has fewer
-/// than 256 steps and writes a cell that the step reads. In time linear in all that the steps name.
+/// Cuts steps into strands: a step joins the strand of the step before it where that strand has
+/// fewer than 256 steps and writes a cell that the step reads. In time linear in all that the steps
+/// name.
 pub fn cut(
     alloc: Global,
     steps: Vec<Step>,
@@ -40,7 +41,8 @@ pub fn cut(
     } = draft;
     let graph = match Graph::new(alloc, cells, reads.into_vec(), writes.into_vec()) {
         Ok(graph) => graph,
-        Err(_) => return Err(AllocError),
+        Err(GraphFault::OutOfMemory) => return Err(AllocError),
+        Err(GraphFault::Unfit) => unreachable!(),
     };
     graph.facts();
     Ok(Flow {

@@ -1,7 +1,7 @@
 // The strands that are cut so far, and what the open one reads and writes.
 ghost use Rattle.std.specs.Prelude.{◌≡◌, ℕ, ◌+◌, ◌<◌, ◌↔◌, ◌∷◌, [], IsTrue, IfOk, List, length};
 ghost use Rattle.flow_core.specs.Counts.{IsIn};
-ghost use Rattle.wit_flow.specs.Draft.{HasCome, IsWritten};
+ghost use Rattle.wit_flow.specs.Draft.{HasCome, IsWritten, WritesFirst};
 ghost use Rattle.wit_flow.specs.Run.{reads_at, writes_at};
 
 use crate::flow::{Source, Strand};
@@ -17,7 +17,8 @@ pub struct Mark {
     pub source: Source,
 }
 
-/// The strands of the steps before `first`, and the open one from `first` on, of `count` steps so far.
+/// The strands of the steps before `first`, and the open one from `first` on, of `count` steps so
+/// far.
 #[derive(Debug, Drop)]
 pub struct Draft {
     pub strands: Items<Strand>,
@@ -42,7 +43,8 @@ impl Draft {
     ghost use Rattle.wit_code.specs.declared.code.Step.{Step as AStep};
     ghost use Rattle.wit_flow.specs.Cut.{Joins};
     ghost use Rattle.wit_flow.specs.Sources.{IsSource, AreSources};
-    ghost use Rattle.wit_flow.specs.Draft.{AreMarked, HasCome, IsClosed, IsDraft, MayAdd, ReadsMore, WritesMore, next_of, number_of_open};
+    ghost use Rattle.wit_flow.specs.Draft.{AreMarked, HasCome, IsClosed, IsDraft, MayAdd};
+    ghost use Rattle.wit_flow.specs.Draft.{ReadsMore, WritesMore, next_of, number_of_open};
 
     /// No strand yet.
     pub fn new(alloc: Global, cells: u32) -> Result<Draft, AllocError>
@@ -96,7 +98,8 @@ impl Draft {
         requires draft { IsDraft steps.now self.now }
         requires few { length steps.now < 4294967296 }
         requires at { next_of self.now < length steps.now }
-        requires near { (c : ℕ) → IsIn c (reads_at steps.now (next_of self.now)) → c < length self.now.marks }
+        requires near { (c : ℕ) → IsIn c (reads_at steps.now (next_of self.now))
+            → c < length self.now.marks }
         ensures { IsTrue result ↔ Joins steps.now self.now.first (next_of self.now) }
     {
         let step = &steps[self.first as usize + self.count as usize];
@@ -110,7 +113,8 @@ impl Draft {
         requires near { cell < length self.old.marks }
         ensures reads { IfOk result (λ s. ReadsMore self.old self.new (cell ∷ [])) }
         ensures source { IfOk result (λ s.
-            IsSource self.new.open_reads self.new.open_writes (length self.new.open_writes) s cell) }
+            IsSource self.new.open_reads self.new.open_writes (length self.new.open_writes) s
+            cell) }
     {
         let number = self.number();
         let mark = self.marks.as_slice()[cell as usize];
@@ -134,7 +138,8 @@ impl Draft {
         requires near { (c : ℕ) → IsIn c cells.now → c < length self.old.marks }
         ensures reads { IfOk result (λ s. ReadsMore self.old self.new cells.now) }
         ensures sources { IfOk result (λ s.
-            AreSources self.new.open_reads self.new.open_writes (length self.new.open_writes) s cells.now) }
+            AreSources self.new.open_reads self.new.open_writes (length self.new.open_writes) s
+            cells.now) }
     {
         let mut sources = Items::new(alloc);
         for cell in cells {
@@ -170,9 +175,13 @@ impl Draft {
         requires few { length steps.now < 4294967296 }
         requires at { next_of self.old < length steps.now }
         requires joins { MayAdd steps.now self.old }
-        requires reads_near { (c : ℕ) → IsIn c (reads_at steps.now (next_of self.old)) → c < length self.old.marks }
-        requires writes_near { (c : ℕ) → IsIn c (writes_at steps.now (next_of self.old)) → c < length self.old.marks }
-        ensures { IfOk result (λ _. HasCome steps.now (length self.old.marks) (next_of self.old + 1) self.new) }
+        requires reads_near { (c : ℕ) → IsIn c (reads_at steps.now (next_of self.old))
+            → c < length self.old.marks }
+        requires writes_near { (c : ℕ) → IsIn c (writes_at steps.now (next_of self.old))
+            → c < length self.old.marks }
+        requires first { WritesFirst steps.now }
+        ensures { IfOk result
+            (λ _. HasCome steps.now (length self.old.marks) (next_of self.old + 1) self.new) }
     {
         let step = &steps[self.first as usize + self.count as usize];
         let sources = self.find(alloc, step.reads.as_slice())?;
@@ -205,8 +214,10 @@ impl Draft {
         requires draft { IsDraft steps.now self.old }
         requires few { length steps.now < 4294967296 }
         requires at { next_of self.old < length steps.now }
-        requires near { (c : ℕ) → IsIn c (reads_at steps.now (next_of self.old)) → c < length self.old.marks }
-        ensures come { IfOk result (λ _. HasCome steps.now (length self.old.marks) (next_of self.old) self.new) }
+        requires near { (c : ℕ) → IsIn c (reads_at steps.now (next_of self.old))
+            → c < length self.old.marks }
+        ensures come { IfOk result
+            (λ _. HasCome steps.now (length self.old.marks) (next_of self.old) self.new) }
         ensures room { IfOk result (λ _. MayAdd steps.now self.new) }
     {
         if self.count == 0 || self.joins(steps) {
@@ -221,6 +232,7 @@ pub fn draft_of(alloc: Global, steps: &[Step], cells: u32) -> Result<Draft, Allo
     requires few { length steps.now < 4294967296 }
     requires reads_near { (k c : ℕ) → IsIn c (reads_at steps.now k) → c < cells }
     requires writes_near { (k c : ℕ) → IsIn c (writes_at steps.now k) → c < cells }
+    requires first { WritesFirst steps.now }
     ensures { IfOk result (λ d. HasCome steps.now cells (length steps.now) d × (d.count ≡ 0)) }
 {
     let mut draft = Draft::new(alloc, cells)?;

@@ -20,8 +20,8 @@ pub enum Source {
     Written(usize),
 }
 
-/// Steps that are cut into strands. The type keeps the conditions of `cut`, what the strands and their
-/// graph are, and the rule by which they are cut.
+/// Steps that are cut into strands. The type keeps the conditions of `cut`, what the strands and
+/// their graph are, and the rule by which they are cut.
 #[derive(Debug, Drop)]
 pub struct Flow {
     pub strands: Items<Strand>,
@@ -48,7 +48,9 @@ impl Model for Flow {
 }
 
 impl Flow {
-    ghost use Rattle.std.specs.Prelude.{◌≡◌};
+    ghost use Rattle.std.specs.Prelude.{◌≡◌, ◌<◌, length};
+    ghost use Rattle.wit_flow.specs.Run.{step_at};
+    ghost use Rattle.wit_flow.specs.Cut.{strand_at};
     ghost use Rattle.wit_flow.specs.Plan.{IsPlan, AreByRule};
 
     /// Does nothing: its clauses tell a caller what the type keeps.
@@ -65,6 +67,27 @@ impl Flow {
     {
         self.graph.cells
     }
+
+    pub(crate) fn step_count(&self) -> usize
+        ensures { result ≡ length self.now.steps }
+    {
+        self.steps.len()
+    }
+
+    pub(crate) fn step(&self, at: usize) -> &Step
+        requires { at < length self.now.steps }
+        ensures { result.now ≡ step_at self.now.steps at }
+    {
+        let steps = self.steps.as_slice();
+        &steps[at]
+    }
+
+    pub(crate) fn strand(&self, strand: usize) -> Strand
+        requires { strand < length self.now.strands }
+        ensures { result ≡ strand_at self.now.strands strand }
+    {
+        self.strands.as_slice()[strand]
+    }
 }
 
 /// How the run of a whole flow ends.
@@ -72,8 +95,8 @@ impl Flow {
 pub enum Outcome {
     /// The value of every cell.
     Done(Items<Gold>),
-    /// The first step that stops, why, and the cells as they then are: the start cells and what earlier
-    /// steps wrote.
+    /// The first step that stops, why, and the cells as they then are: the start cells and what
+    /// earlier steps wrote.
     Refused {
         step: u32,
         stop: Stop,

@@ -14,7 +14,8 @@ pub fn one_thread_is_strand_by_strand()
 {}
 
 /// The answers of a plan's strands have the shape of a flow: a strand is Unreached exactly where a
-/// cell that it reads has no value, and each list has one value for each cell that its strand writes.
+/// cell that it reads has no value, and each list has one value for each cell that its strand
+/// writes.
 pub fn a_plan_is_a_flow()
     ensures { (p : Plan) (start : List ℕ) (fuel : ℕ) → IsPlan p → length start ≡ length p.starts
         → IsFlow (flow_of p start fuel) }

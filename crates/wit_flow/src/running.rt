@@ -1,10 +1,13 @@
-ghost use Rattle.std.specs.Prelude.{◌≡◌, ℕ, ◌<◌, All, IfOk, length, map, replicate, unwrap_or};
+ghost use Rattle.std.specs.Prelude.{◌≡◌, ℕ, ◌<◌, ◌++◌, All, IfOk, OnOk, length, map, replicate};
+ghost use Rattle.std.specs.Prelude.{unwrap_or};
 ghost use Rattle.flow_core.specs.Counts.{IsIn};
 ghost use Rattle.flow_core.specs.Net.{reads_of};
 ghost use Rattle.wit_code.specs.Code.{IsWellFormed};
 ghost use Rattle.wit_code.specs.Table.{outcome_of};
 ghost use Rattle.wit_flow.specs.Cells.{held, no_values, numbers_at, with_values, Shows};
+ghost use Rattle.wit_flow.specs.Run.{reads_at, writes_at};
 ghost use Rattle.wit_flow.specs.Answers.{start_cells, strand_end};
+ghost use Rattle.wit_flow.specs.Steps.{IsAmid, step_outcome, strand_cells};
 ghost use Rattle.wit_flow.specs.OneThread.{IsCodeEnd, IsOutcome, IsStrandOut, one_thread};
 ghost use Rattle.wit_flow.specs.Sources.{AreThere, IsThere, number_of};
 
@@ -30,6 +33,28 @@ fn run_code(
         Err(Stop::OutOfMemory) => Err(AllocError),
         Err(stop) => Ok(Err(stop)),
     }
+}
+
+// The values that the code of a step writes, or its stop.
+fn run_step(
+    alloc: Global,
+    flow: &Flow,
+    at: usize,
+    reads: &[Gold],
+    fuel: u64,
+) -> Result<Result<Vec<Gold>, Stop>, AllocError>
+    requires near { at < length flow.now.steps }
+    requires fits { length reads.now ≡ length (reads_at flow.now.steps at) }
+    requires below { All (λ x. x < P) reads.now }
+    ensures end { IfOk result (λ r. IsCodeEnd r (step_outcome flow.now at reads.now fuel)) }
+    ensures each { IfOk result (λ r. IfOk r
+        (λ ys. length ys.items ≡ length (writes_at flow.now.steps at))) }
+{
+    flow.facts();
+    let step = flow.step(at);
+    let procs = flow.procs.as_slice();
+    let end = run_code(alloc, procs, &step.code, reads, fuel)?;
+    Ok(end)
 }
 
 /// The numbers in cells of a list; 0 stands for a cell without a value.
@@ -104,15 +129,15 @@ pub fn values_of(alloc: Global, cells: &[Option<Gold>]) -> Result<Vec<Gold>, All
 /// Runs all steps in order on one thread, each with this fuel.
 pub fn run_one(alloc: Global, flow: &Flow, start: &[Gold], fuel: u64) -> Result<Outcome, AllocError>
     requires { length start.now ≡ length flow.now.starts }
-    ensures { IfOk result (λ o. IsOutcome flow.now.graph.cells o (one_thread flow.now start.now fuel)) }
+    ensures { IfOk result
+        (λ o. IsOutcome flow.now.graph.cells o (one_thread flow.now start.now fuel)) }
 {
     flow.facts();
     let mut cells = first_cells(alloc, flow, start)?;
-    let steps = flow.steps.as_slice();
-    let procs = flow.procs.as_slice();
-    for (at, step) in steps.iter().enumerate() {
+    for at in 0..flow.step_count() {
+        let step = flow.step(at);
         let reads = look(alloc, cells.as_slice(), step.reads.as_slice())?;
-        match run_code(alloc, procs, &step.code, reads.as_slice(), fuel)? {
+        match run_step(alloc, flow, at, reads.as_slice(), fuel)? {
             Ok(values) => put(&mut cells, step.writes.as_slice(), values.as_slice()),
             Err(stop) => {
                 return Ok(Outcome::Refused {
@@ -145,7 +170,8 @@ fn gather(
     written: &[Gold],
 ) -> Result<Vec<Gold>, AllocError>
     requires { AreThere (length reads.now) (length written.now) sources.now }
-    ensures numbers { IfOk result (λ v. v.items ≡ map (number_of reads.now written.now) sources.now) }
+    ensures numbers { IfOk result
+        (λ v. v.items ≡ map (number_of reads.now written.now) sources.now) }
     ensures below { IfOk result (λ v. All (λ x. x < P) v.items) }
 {
     let mut numbers = Vec::with_capacity(alloc, sources.len())?;
@@ -157,8 +183,42 @@ fn gather(
     Ok(numbers)
 }
 
-/// Runs a strand's steps in order, each with this fuel. `reads` has the values of the cells that the
-/// strand reads, in the order of the graph's list.
+// The numbers that a strand's step reads, where its earlier steps wrote these values.
+fn numbers_for(
+    alloc: Global,
+    flow: &Flow,
+    strand: u32,
+    at: usize,
+    reads: &[Gold],
+    written: &[Gold],
+) -> Result<Vec<Gold>, AllocError>
+    requires near { strand < length flow.now.strands }
+    requires each { length reads.now ≡ length (reads_of flow.now.graph strand) }
+    requires within { IsAmid flow.now strand at written.now }
+    ensures numbers { IfOk result (λ v. v.items
+        ≡ numbers_at (strand_cells flow.now strand reads.now at written.now)
+        (reads_at flow.now.steps at)) }
+    ensures below { IfOk result (λ v. All (λ x. x < P) v.items) }
+{
+    let sources = flow.sources.as_slice();
+    let own = sources[at].as_slice();
+    let numbers = gather(alloc, own, reads, written)?;
+    Ok(numbers)
+}
+
+// Puts values behind those that there are.
+fn append(written: &mut Vec<Gold>, values: Vec<Gold>) -> Result<(), AllocError>
+    ensures { OnOk result (written.new.items ≡ written.old.items ++ values.items) }
+{
+    if written.is_empty() {
+        *written = values;
+        return Ok(());
+    }
+    written.extend_from_slice(values.as_slice())
+}
+
+/// Runs a strand's steps in order, each with this fuel. `reads` has the values of the cells that
+/// the strand reads, in the order of the graph's list.
 pub fn run_strand(
     alloc: Global,
     flow: &Flow,
@@ -171,17 +231,12 @@ pub fn run_strand(
     ensures { IfOk result (λ o. IsStrandOut o (strand_end flow.now fuel strand reads.now)) }
 {
     flow.facts();
-    let part = flow.strands.as_slice()[strand as usize];
-    let steps = flow.steps.as_slice();
-    let procs = flow.procs.as_slice();
-    let sources = flow.sources.as_slice();
+    let part = flow.strand(strand as usize);
     let mut written = Vec::new(alloc);
     for at in part.first..part.first + part.count {
-        let step = &steps[at as usize];
-        let found = &sources[at as usize];
-        let numbers = gather(alloc, found.as_slice(), reads, written.as_slice())?;
-        match run_code(alloc, procs, &step.code, numbers.as_slice(), fuel)? {
-            Ok(values) => written.extend_from_slice(values.as_slice())?,
+        let numbers = numbers_for(alloc, flow, strand, at as usize, reads, written.as_slice())?;
+        match run_step(alloc, flow, at as usize, numbers.as_slice(), fuel)? {
+            Ok(values) => append(&mut written, values)?,
             Err(stop) => {
                 return Ok(StrandOut::Refused {
                     step: at,

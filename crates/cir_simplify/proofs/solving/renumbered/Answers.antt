@@ -11,10 +11,18 @@ pub loop-q-preserved : goal.loop-q-preserved
 loop-q-preserved c =
     elim c.if-stays.branch [
       | then-stays+in_ok-k+in_ok-push w ↦
-          rw w.list-is (listed_push (renamed_in (slice_index c.args.places.now)) c.args.level c.args.rows.now _ c.q-item.result _ c.loop-q.list _ _ c.loop-q-test.true c.q-item.is w.if-stays.true c.stays.ensures w.in_ok-k.ensures w.in_ok-push.ensures.ok c.loop-q.invariant)
+          rw w.list-is
+          (listed_push (renamed_in (slice_index c.args.places.now)) c.args.level c.args.rows.now
+          _ c.q-item.result _ c.loop-q.list _ _ c.loop-q-test.true c.q-item.is w.if-stays.true
+          c.stays.ensures w.in_ok-k.ensures w.in_ok-push.ensures.ok c.loop-q.invariant)
       | else-stays w ↦
-          rw w.list-is (listed_skip (renamed_in (slice_index c.args.places.now)) c.args.level c.args.rows.now _ c.q-item.result c.loop-q.list _ c.loop-q-test.true c.q-item.is w.if-stays.false c.stays.ensures c.loop-q.invariant)
+          rw w.list-is
+          (listed_skip (renamed_in (slice_index c.args.places.now)) c.args.level c.args.rows.now
+          _ c.q-item.result c.loop-q.list _ c.loop-q-test.true c.q-item.is w.if-stays.false
+          c.stays.ensures c.loop-q.invariant)
     ]
 
 pub returns : goal.returns
-returns c = c.loop-q.invariant ∙ ap (λ (v : List Constraint). map (renamed_in (slice_index c.args.places.now)) (dropped c.args.level v)) (take_all _ c.args.rows.now c.loop-q-test.false)
+returns c = c.loop-q.invariant
+    ∙ ap (λ (v : List Constraint). map (renamed_in (slice_index c.args.places.now))
+    (dropped c.args.level v)) (take_all _ c.args.rows.now c.loop-q-test.false)

@@ -4,7 +4,9 @@ use Rattle.cir_simplify.proofs.state.replace_one.Goals as goal
 
 pub set-requires-clause-good : goal.set-requires-clause-good
 set-requires-clause-good c =
-    let within = subst (IsConstraintWithin c.args.rules.bound) (sym c.at.ensures) (c.requires.indexed.good c.args.i).within in
+    let within =
+    subst (IsConstraintWithin c.args.rules.bound) (sym c.at.ensures)
+    (c.requires.indexed.good c.args.i).within in
     record {
       normal = c.in_ok-q.ensures.normal;
       rises = c.in_ok-q.ensures.rises;

@@ -5,5 +5,6 @@ use Rattle.cir_simplify.proofs.wires.first_marks.Given as goal
 abbrev pub invariant-loop-x : goal.invariant-loop-x
 invariant-loop-x l = record {
   len : length l.marks.items ≡ l.x;
-  kept : (x : ℕ) → x < l.x → slice_index_or l.marks.items x false ≡ (keeps_all l.rules.level || nat_le x l.rules.kept);
+  kept : (x : ℕ) → x < l.x → slice_index_or l.marks.items x false
+      ≡ (keeps_all l.rules.level || nat_le x l.rules.kept);
 }

@@ -7,5 +7,6 @@ invariant-loop-x l = record {
   wires : l.wires.items ≡ kept_below (λ x. slice_index_or l.marks x false) l.x;
   few : length l.wires.items ≤ l.x;
   len : length l.places.items ≡ l.x;
-  places : (x : ℕ) → x < l.x → slice_index l.places.items x ≡ wire_of (λ x. slice_index_or l.marks x false) x;
+  places : (x : ℕ) → x < l.x
+      → slice_index l.places.items x ≡ wire_of (λ x. slice_index_or l.marks x false) x;
 }

@@ -8,11 +8,13 @@ use Rattle.wit_flow.proofs.drafting.draft_of.Goals.{then-draft-gt0+in_ok-close, 
 pub returns : goal.returns
 returns c =
     let steps = c.args.steps.now in let a = c.loop-at.draft in let inv = c.loop-at.invariant in
-    let at : next_of a ≡ length steps = let n = inv.next in let t = c.loop-at-test.false in let e = c.loop-at.auto.at-end in omega arith in
+    let at : next_of a ≡ length steps = let n = inv.next in let t = c.loop-at-test.false in
+    let e = c.loop-at.auto.at-end in omega arith in
     let P : Draft → Type 0 = λ d. HasCome steps c.args.cells (length steps) d × (d.count ≡ 0) in
     elim c.if-draft-gt0.branch [
       | then-draft-gt0+in_ok-close w ↦ (
-          let can : CanClose steps a = record { some = w.if-draft-gt0.true; ended = λ lt j. absurd (omega arith) } in
+          let can : CanClose steps a =
+          record { some = w.if-draft-gt0.true; ended = λ lt j. absurd (omega arith) } in
           let h = closes steps a w.close.new.self inv.draft can w.in_ok-close.ensures in
           let W : ℕ → Type 0 = λ n. HasCome steps n (next_of a) w.close.new.self in
           let N : ℕ → Type 0 = λ n. HasCome steps c.args.cells n w.close.new.self in

@@ -6,5 +6,6 @@ use Rattle.wit_flow.proofs.drafting.Draft.find.Given as goal
 abbrev pub invariant-loop-cell : goal.invariant-loop-cell
 invariant-loop-cell l = record {
   reads : ReadsMore l.fn.self l.self (take l.cell-index l.cells);
-  sources : AreSources l.self.open_reads l.self.open_writes (length l.self.open_writes) l.sources (take l.cell-index l.cells);
+  sources : AreSources l.self.open_reads l.self.open_writes (length l.self.open_writes) l.sources
+      (take l.cell-index l.cells);
 }

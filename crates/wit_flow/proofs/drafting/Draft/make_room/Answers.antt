@@ -13,6 +13,7 @@ returns c =
       ended = λ lt j. absurd (false≢true (sym c.if-joins.false ∙ c.joins.ensures.1 j));
     } in
     record {
-      come = IfOk-weaker _ _ _ (λ _ is. closes steps a c.close.new.self c.requires.draft can is) c.close.ensures;
+      come = IfOk-weaker _ _ _ (λ _ is. closes steps a c.close.new.self c.requires.draft can is)
+          c.close.ensures;
       room = IfOk-weaker _ _ _ (λ _ is. inl is.count) c.close.ensures;
     }

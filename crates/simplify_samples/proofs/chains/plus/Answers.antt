@@ -1,4 +1,4 @@
-use Rattle.simplify_tests.proofs.chains.plus.Goals as goal
+use Rattle.simplify_samples.proofs.chains.plus.Goals as goal
 
 pub returns : goal.returns
 returns c n below form = c.in_ok-sum.ensures.within n form (c.in_ok-term.ensures.within n below)

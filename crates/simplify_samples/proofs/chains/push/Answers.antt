@@ -1,7 +1,7 @@
 use Rattle.std.proofs.lemmas.List.Elements.{All-push}
 use Rattle.cir_lc.specs.Normal.{IsConstraintWithin}
 use Rattle.cir_lc.specs.Sparse.{IsNormalForm}
-use Rattle.simplify_tests.proofs.chains.push.Goals as goal
+use Rattle.simplify_samples.proofs.chains.push.Goals as goal
 
 pub returns : goal.returns
 returns c n quad list =

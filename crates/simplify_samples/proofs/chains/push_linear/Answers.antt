@@ -1,4 +1,4 @@
-use Rattle.simplify_tests.proofs.chains.push_linear.Goals as goal
+use Rattle.simplify_samples.proofs.chains.push_linear.Goals as goal
 
 pub returns : goal.returns
 returns c n form list =

@@ -1,0 +1,6 @@
+use Rattle.std.proofs.Common.{◌+◌}
+use Rattle.simplify_samples.specs.Lists.{IsListed}
+use Rattle.simplify_samples.proofs.chains.chain.Given as goal
+
+abbrev pub invariant-loop-signal : goal.invariant-loop-signal
+invariant-loop-signal l = IsListed (l.signals + 1) l.chain.items
