@@ -19,9 +19,11 @@ use lig_auditor::audit;
 use lig_proof::Verdict;
 use out_io::{IoFault, Store};
 use std::alloc::{AllocError, Global};
+use std::thread::Threads;
 
 /// The reply of `audit`: the verdict on the bytes that one file offers as a proof.
-pub fn audit_reply<'w, S: Store>(
+pub fn audit_reply<'w, R: Threads + AllocGlobal + Sync, S: Store>(
+    rt: &R,
     alloc: Global,
     r1cs: &str,
     publics: &str,
@@ -37,14 +39,15 @@ pub fn audit_reply<'w, S: Store>(
         (S.faults store.old) (S.faults store.new)
         (S.never_fails store.old) (S.never_fails store.new) }
 {
-    match verdict_in(alloc, r1cs, publics, proof, store) {
+    match verdict_in(rt, alloc, r1cs, publics, proof, store) {
         Ok(verdict) => Ok(Reply::audited(alloc, verdict)?),
         Err(stop) => stop.reply(alloc),
     }
 }
 
 // The verdict on what is offered.
-fn verdict_in<S: Store>(
+fn verdict_in<R: Threads + AllocGlobal + Sync, S: Store>(
+    rt: &R,
     alloc: Global,
     r1cs: &str,
     publics: &str,
@@ -61,16 +64,16 @@ fn verdict_in<S: Store>(
         (S.never_fails store.old) (S.never_fails store.new) }
 {
     let offer = offer_in(alloc, r1cs, publics, proof, store)?;
-    let verdict = verdict_on(alloc, &offer)?;
+    let verdict = verdict_on(rt, &offer)?;
     Ok(verdict)
 }
 
-fn verdict_on(alloc: Global, offer: &Offer) -> Result<Verdict, AllocError>
+fn verdict_on<R: Threads + AllocGlobal + Sync>(rt: &R, offer: &Offer) -> Result<Verdict, AllocError>
     requires { InLimits offer.now.file }
     ensures { IfOk result (IsAudited offer.now) }
 {
     audit(
-        alloc,
+        rt,
         offer.bytes.as_slice(),
         &offer.file,
         offer.publics.as_slice(),

@@ -1,13 +1,10 @@
-ghost use Rattle.std.specs.Prelude.{◌≡◌, ◌⊎◌, ◌<◌, ℕ, List, Some, None, All, IfErr, IfOk, IsErrOf};
+ghost use Rattle.std.specs.Prelude.{◌≡◌, ◌<◌, ℕ, List, All, IfOk, IsErrOf};
 ghost use Rattle.out_io.specs.Calls.{OnlyReads, Told};
 ghost use Rattle.out_io.specs.Faults.{Rose};
 ghost use Rattle.out_io.specs.declared.fault.IoFault.TheVariants.{Failed};
 ghost use Rattle.iden_files.specs.File.{InLimits, IsFile};
 ghost use Rattle.gold_field.specs.declared.gold.TheConstants.{P};
-ghost use Rattle.lig_layout.specs.Layout.{vectors_of};
-ghost use Rattle.lig_proof.specs.Proving.{AreMade};
-ghost use Rattle.lig_prover.specs.Refusing.{refusal_of};
-ghost use Rattle.lig_prover.specs.declared.fault.ProveFault.TheVariants.{OutOfMemory};
+ghost use Rattle.lig_prover.specs.Proves.{IsProofOrRefusal};
 ghost use Rattle.circom_words.specs.Words.{meant_proving};
 ghost use Rattle.circom_files.specs.Accepted.{IsAcceptedFor, IsProofOf, WritesProof};
 ghost use Rattle.circom_files.specs.Proving.{IsProved, Proves, witness_of};
@@ -137,12 +134,8 @@ fn proof_of<R: Threads + AllocGlobal + Sync>(
     options: ProveOptions,
 ) -> Result<Vec<u8>, ProveFault>
     requires { InLimits witness.now.file }
-    ensures made { IfOk result (λ v. AreMade options.version witness.now.bytes witness.now.file
-        (vectors_of witness.now.file witness.now.values) options.seed v.items) }
-    ensures satisfied { IfOk result
-        (λ v. refusal_of witness.now.file witness.now.values ≡ None) }
-    ensures refused { IfErr result (λ fault. (fault ≡ OutOfMemory)
-        ⊎ (refusal_of witness.now.file witness.now.values ≡ Some fault)) }
+    ensures proved { IsProofOrRefusal options.version witness.now.bytes witness.now.file
+        witness.now.values options.seed result }
     ensures file { IsFile witness.now.file }
 {
     let _constraints = witness.file.constraints();

@@ -218,7 +218,7 @@ fn reply_to<'w, R: Threads + AllocGlobal + Sync, S: Store>(
                 publics,
                 proof,
             },
-        ) => audit_reply(alloc, r1cs, publics, proof, store),
+        ) => audit_reply(rt, alloc, r1cs, publics, proof, store),
     }
 }
 

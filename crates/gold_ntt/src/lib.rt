@@ -6,6 +6,6 @@ mod polynomial;
 mod roots;
 mod transform;
 
-pub use polynomial::{eval, mul};
+pub use polynomial::{eval, mul, padded};
 pub use roots::{ROOT, root};
-pub use transform::{coset_ntt, intt, ntt};
+pub use transform::{coset_ntt, intt, ntt, scale_by_powers};

@@ -63,7 +63,8 @@ fn padded_length(places: usize) -> usize
     places.next_power_of_two()
 }
 
-fn padded(alloc: Global, coefs: &[Gold], size: usize) -> Result<Vec<Gold>, AllocError>
+/// The same polynomial, with zeros behind its coefficients up to `size` of them.
+pub fn padded(alloc: Global, coefs: &[Gold], size: usize) -> Result<Vec<Gold>, AllocError>
     requires { length coefs.now ≤ size }
     ensures places { IfOk result (λ v. length v.items ≡ size) }
     ensures same { IfOk result (λ v. IsPadded coefs.now v.items) }

@@ -108,8 +108,8 @@ fn scale(a: &mut [Gold], factor: Gold)
     }
 }
 
-/// Number `k` times `factor ^ k`.
-fn scale_by_powers(a: &mut [Gold], factor: Gold)
+/// Number `k` times `factor ^ k`: the coefficients of the polynomial at `factor` times `X`.
+pub fn scale_by_powers(a: &mut [Gold], factor: Gold)
     ensures { (k : ℕ) → k < length a.old
         → slice_index a.new k ≡ slice_index a.old k * factor ^ k % P }
 {

@@ -1,6 +1,7 @@
 -- Sums of the field, term by term.
-use Rattle.std.proofs.Common.{◌≡◌, ℕ, zero, suc, ◌+◌, ◌*◌, ◌%◌, ◌<◌, List, length, get_or, refl, sym, ap, ◌∙◌, arith}
-use Rattle.std.proofs.Math.Nat.{mod-add-mod, add-mod-mod, mod-eq_of_lt, mod-mod, zero-mod}
+use Rattle.std.proofs.Common.{◌≡◌, ℕ, zero, suc, ◌+◌, ◌*◌, ◌%◌, ◌<◌, List, length, get_or, refl}
+use Rattle.std.proofs.Common.{sym, ap, ◌∙◌, arith}
+use Rattle.std.proofs.Math.Nat.{mod-add-mod, add-mod-mod, mod-mod, zero-mod}
 use Rattle.std.proofs.lemmas.Nat.{mul-mod_second}
 use Rattle.std.proofs.lemmas.Grind.{get_or_default_zero}
 use Rattle.gold_field.specs.declared.gold.TheConstants.{P}
@@ -10,8 +11,10 @@ use Rattle.gold_ntt.proofs.Sums.{sum_to-zero, sum_to-suc}
 use Rattle.gold_ntt.proofs.Values.{plus_same}
 
 -- a value that was read
-pub read : (xs ys : List ℕ) (i r : ℕ) → xs ≡ ys → i < length ys → r ≡ get_or xs i r → r ≡ get_or ys i 0
-read xs ys i r same within is = is ∙ ap (λ zs. get_or zs i r) same ∙ get_or_default_zero ys i r within
+pub read : (xs ys : List ℕ) (i r : ℕ) → xs ≡ ys → i < length ys → r ≡ get_or xs i r
+    → r ≡ get_or ys i 0
+read xs ys i r same within is =
+    is ∙ ap (λ zs. get_or zs i r) same ∙ get_or_default_zero ys i r within
 
 -- a place in the part of repetition t
 pub in_part : (t n k : ℕ) → t < 2 → k < n → t * n + k < 2 * n
@@ -23,40 +26,36 @@ pub none_yet : (f : ℕ → ℕ) → 0 ≡ sum_to 0 f % P
 none_yet f = sym (ap (λ (y : ℕ). y % P) (sum_to-zero f) ∙ zero-mod P)
 
 last_term : (f : ℕ → ℕ) (k : ℕ) → sum_to (k + 1) f ≡ sum_to k f + f k
-last_term f k = let more : k + 1 ≡ suc k = omega arith in ap (λ (y : ℕ). sum_to y f) more ∙ sum_to-suc k f
+last_term f k =
+    let more : k + 1 ≡ suc k = omega arith in ap (λ (y : ℕ). sum_to y f) more ∙ sum_to-suc k f
 
 -- the next term, a product
-pub next_product : (f : ℕ → ℕ) (k s a b t r : ℕ) → s ≡ sum_to k f % P → t ≡ (a * b) % P → f k ≡ a * b → r ≡ (s + t) % P
+pub next_product : (f : ℕ → ℕ) (k s a b t r : ℕ) → s ≡ sum_to k f % P → t ≡ (a * b) % P
+    → f k ≡ a * b → r ≡ (s + t) % P
     → r ≡ sum_to (k + 1) f % P
 next_product f k s a b t r so_far product is sum =
-    let term : t % P ≡ f k % P = ap (λ (y : ℕ). y % P) product ∙ mod-mod (a * b) P ∙ ap (λ (y : ℕ). y % P) (sym is) in
+    let term : t % P ≡ f k % P =
+    ap (λ (y : ℕ). y % P) product ∙ mod-mod (a * b) P ∙ ap (λ (y : ℕ). y % P) (sym is) in
     sum ∙ ap (λ (y : ℕ). (y + t) % P) so_far ∙ mod-add-mod (sum_to k f) P t
-    ∙ plus_same P (sum_to k f) (sum_to k f) t (f k) refl term ∙ ap (λ (y : ℕ). y % P) (sym (last_term f k))
+    ∙ plus_same P (sum_to k f) (sum_to k f) t (f k) refl term
+    ∙ ap (λ (y : ℕ). y % P) (sym (last_term f k))
 
 -- the same where a factor is reduced
-pub next_reduced : (f : ℕ → ℕ) (k s a b v t r : ℕ) → s ≡ sum_to k f % P → v ≡ b % P → t ≡ (a * v) % P → f k ≡ a * b → r ≡ (s + t) % P
+pub next_reduced : (f : ℕ → ℕ) (k s a b v t r : ℕ) → s ≡ sum_to k f % P → v ≡ b % P
+    → t ≡ (a * v) % P → f k ≡ a * b → r ≡ (s + t) % P
     → r ≡ sum_to (k + 1) f % P
 next_reduced f k s a b v t r so_far factor product is sum =
-    next_product f k s a b t r so_far (product ∙ ap (λ (y : ℕ). (a * y) % P) factor ∙ mul-mod_second a b P) is sum
+    next_product f k s a b t r so_far (product ∙ ap (λ (y : ℕ). (a * y) % P) factor
+    ∙ mul-mod_second a b P) is sum
 
 -- a sum on top of another number
 pub on_top : (m x s r : ℕ) → s ≡ x % P → r ≡ (m + s) % P → r ≡ (m + x) % P
 on_top m x s r is sum = sum ∙ ap (λ (y : ℕ). (m + y) % P) is ∙ add-mod-mod m x P
 
-pub nothing_on_top : (m : ℕ) (f : ℕ → ℕ) → m < P → m ≡ (m + sum_to 0 f) % P
-nothing_on_top m f low =
-    let whole : m + sum_to 0 f ≡ m = omega (arith, sum_to-zero f) in
-    sym (ap (λ (y : ℕ). y % P) whole ∙ mod-eq_of_lt {n = m} {m = P} low)
-
--- the next term of a sum on top
-pub next_on_top : (m k : ℕ) (f : ℕ → ℕ) (s r : ℕ) → s ≡ (m + sum_to k f) % P → r ≡ (s + f k) % P → r ≡ (m + sum_to (k + 1) f) % P
-next_on_top m k f s r so_far sum =
-    let last = last_term f k in
-    let whole : m + sum_to k f + f k ≡ m + sum_to (k + 1) f = omega arith in
-    sum ∙ ap (λ (y : ℕ). (y + f k) % P) so_far ∙ mod-add-mod (m + sum_to k f) P (f k) ∙ ap (λ (y : ℕ). y % P) whole
-
 -- n times a sum of three
-pub scaled : (n a b c o s w r : ℕ) → o ≡ (b + c) % P → s ≡ (a + o) % P → w ≡ n % P → r ≡ (w * s) % P → r ≡ (n * (a + (b + c))) % P
+pub scaled : (n a b c o s w r : ℕ) → o ≡ (b + c) % P → s ≡ (a + o) % P → w ≡ n % P → r ≡ (w * s) % P
+    → r ≡ (n * (a + (b + c))) % P
 scaled n a b c o s w r others sum factor product =
     let whole : s ≡ (a + (b + c)) % P = on_top a (b + c) o s others sum in
-    product ∙ ap (λ (y : ℕ). (y * s) % P) factor ∙ ap (λ (y : ℕ). (n % P * y) % P) whole ∙ product_of_rests P n (a + (b + c))
+    product ∙ ap (λ (y : ℕ). (y * s) % P) factor ∙ ap (λ (y : ℕ). (n % P * y) % P) whole
+    ∙ product_of_rests P n (a + (b + c))

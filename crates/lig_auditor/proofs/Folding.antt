@@ -1,5 +1,6 @@
 -- Remainders by X ^ l - 1.
-use Rattle.std.proofs.Common.{◌≡◌, ℕ, ◌+◌, ◌-◌, ◌*◌, ◌%◌, ◌^◌, ◌<◌, ◌≤◌, List, length, map, get_or, cond, sym, ap, subst, ◌∙◌, arith, zero-add, ⊎_elim}
+use Rattle.std.proofs.Common.{◌≡◌, ℕ, ◌+◌, ◌-◌, ◌*◌, ◌%◌, ◌^◌, ◌<◌, ◌≤◌, List, length, map, get_or}
+use Rattle.std.proofs.Common.{cond, sym, ap, subst, ◌∙◌, arith, zero-add, ⊎_elim}
 use Rattle.std.specs.List.{range_with_len}
 use Rattle.std.proofs.lemmas.Bool.{cases_lt, lt-ltb, le-ltb}
 use Rattle.std.proofs.lemmas.List.{get_or_past}
@@ -18,7 +19,8 @@ made_at : (n : ℕ) (g : ℕ → ℕ) (k : ℕ) → k < n → get_or (made n g) 
 made_at n g k l = get_or-map-range_with_len g 0 n k k 0 l (zero-add k)
 
 made_past : (n : ℕ) (g : ℕ → ℕ) (k : ℕ) → n ≤ k → get_or (made n g) k 0 ≡ 0
-made_past n g k l = let count = length-map-range_with_len g 0 n in get_or_past (made n g) k 0 (omega arith)
+made_past n g k l =
+    let count = length-map-range_with_len g 0 n in get_or_past (made n g) k 0 (omega arith)
 
 -- what stands above the remainder
 abbrev over : ℕ → List ℕ → ℕ → ℕ
@@ -45,7 +47,8 @@ module _ (l : ℕ) (f : List ℕ) (count : length f ≡ 4 * l) where
       let none = ap (λ b. cond b 0 (get_or (made (3 * l) (over l f)) (k - l) 0)) (lt-ltb k l low) in
       omega (arith, none, quotient_at k, made_at l (rest l f) k low))
       (λ high.
-      let some = ap (λ b. cond b 0 (get_or (made (3 * l) (over l f)) (k - l) 0)) (le-ltb k l high) in
+      let some =
+      ap (λ b. cond b 0 (get_or (made (3 * l) (over l f)) (k - l) 0)) (le-ltb k l high) in
       let place : l + (k - l) ≡ k = omega arith in
       let second : 2 * l + (k - l) ≡ l + k = omega arith in
       let third : 3 * l + (k - l) ≡ 2 * l + k = omega arith in
@@ -64,17 +67,22 @@ module _ (l : ℕ) (f : List ℕ) (count : length f ≡ 4 * l) where
 
   module _ (e : ℕ) (small : e ≤ 32) (power : l ≡ 2 ^ e) where
     divided_by : IsDivision (2 ^ e) f (made (3 * l) (over l f)) (made l (rest l f))
-    divided_by = let D : ℕ → Type 0 = λ n. IsDivision n f (made (3 * l) (over l f)) (made l (rest l f)) in subst D power division
+    divided_by = let D : ℕ
+        → Type 0 = λ n. IsDivision n f (made (3 * l) (over l f)) (made l (rest l f))
+        in subst D power division
 
     -- a remainder of 0 is one whose coefficients are
-    pub zero_values : ((k : ℕ) → k < l → folded l f k ≡ 0) → (j : ℕ) → eval_at f (root_of e ^ j % P) ≡ 0
-    zero_values none = division_zero e f (made (3 * l) (over l f)) (made l (rest l f)) small divided_by
+    pub zero_values : ((k : ℕ) → k < l → folded l f k ≡ 0) → (j : ℕ)
+        → eval_at f (root_of e ^ j % P) ≡ 0
+    zero_values none =
+        division_zero e f (made (3 * l) (over l f)) (made l (rest l f)) small divided_by
         (λ k. ⊎_elim
         (λ low. ap (λ (y : ℕ). y % P) (made_at l (rest l f) k low) ∙ none k low)
         (λ high. ap (λ (y : ℕ). y % P) (made_past l (rest l f) k high))
         (cases_lt k l))
 
-    pub zero_folds : ((j : ℕ) → j < l → eval_at f (root_of e ^ j % P) ≡ 0) → (k : ℕ) → k < l → folded l f k ≡ 0
+    pub zero_folds : ((j : ℕ) → j < l → eval_at f (root_of e ^ j % P) ≡ 0) → (k : ℕ) → k < l
+        → folded l f k ≡ 0
     zero_folds none k low =
         sym (ap (λ (y : ℕ). y % P) (made_at l (rest l f) k low))
         ∙ division_exact e f (made (3 * l) (over l f)) (made l (rest l f)) small divided_by

@@ -1,5 +1,6 @@
 -- The polynomials of the rows of a combined system.
-use Rattle.std.proofs.Common.{◌≡◌, ℕ, zero, suc, ◌+◌, ◌-◌, ◌*◌, ◌%◌, ◌<◌, ◌≤◌, ◌⊎◌, inl, inr, List, [], ◌∷◌, length, take, drop, get_or, sym, ap, subst, ◌∙◌, arith}
+use Rattle.std.proofs.Common.{◌≡◌, ℕ, zero, suc, ◌+◌, ◌-◌, ◌*◌, ◌%◌, ◌<◌, ◌≤◌, ◌⊎◌, inl, inr, List}
+use Rattle.std.proofs.Common.{[], ◌∷◌, length, take, drop, get_or, sym, ap, subst, ◌∙◌, arith}
 use Rattle.std.specs.List.{AllByRecursion}
 use Rattle.std.proofs.lemmas.Bool.{cases_lt}
 use Rattle.std.proofs.lemmas.List.FromFn.{length-map-range_with_len}
@@ -7,6 +8,7 @@ use Rattle.std.proofs.lemmas.List.{length-take-le, length-drop}
 use Rattle.gold_field.specs.declared.gold.TheConstants.{P}
 use Rattle.gold_field.specs.declared.form.Term.{Term}
 use Rattle.gold_ntt.specs.Polynomial.{eval_at}
+use Rattle.gold_ntt.proofs.Sums.{sum_same}
 use Rattle.iden_files.specs.File.{File}
 use Rattle.lig_layout.specs.declared.params.Params.{Params}
 use Rattle.lig_layout.specs.Sizes.{IsParams, params_of}
@@ -20,22 +22,24 @@ use Rattle.lig_proof.specs.Proving.{AreSystems}
 use Rattle.lig_proof.specs.Points.{code_point}
 use Rattle.lig_proof.specs.Columns.{row_value, linear_mask_value}
 use Rattle.lig_auditor.specs.declared.opening.Opening.{Opening}
-use Rattle.lig_auditor.specs.Opened.{ArePoints, AreSystemValues}
-use Rattle.lig_auditor.proofs.Adding.{next_on_top}
+use Rattle.lig_auditor.specs.Opened.{RowsAgree}
 use Rattle.lig_proof.proofs.Interpolants.{made_values, rows_have_polynomials}
 
-taken : (n : ℕ) (xs : List ℕ) → AllByRecursion (λ x. x < P) xs → AllByRecursion (λ x. x < P) (take n xs)
+taken : (n : ℕ) (xs : List ℕ) → AllByRecursion (λ x. x < P) xs
+    → AllByRecursion (λ x. x < P) (take n xs)
 taken zero xs h = tt
 taken (suc n) [] h = tt
 taken (suc n) (x ∷ xs) h = (h.0, taken n xs h.1)
 
-left : (n : ℕ) (xs : List ℕ) → AllByRecursion (λ x. x < P) xs → AllByRecursion (λ x. x < P) (drop n xs)
+left : (n : ℕ) (xs : List ℕ) → AllByRecursion (λ x. x < P) xs
+    → AllByRecursion (λ x. x < P) (drop n xs)
 left zero xs h = h
 left (suc n) [] h = tt
 left (suc n) (x ∷ xs) h = left n xs h.1
 
 -- a row of numbers of the field
-pub row_values : (p : Params) (values : List ℕ) (k : ℕ) → AreValues (p.rows * p.l) values → k < p.rows → AreValues p.l (row_at p values k)
+pub row_values : (p : Params) (values : List ℕ) (k : ℕ) → AreValues (p.rows * p.l) values
+    → k < p.rows → AreValues p.l (row_at p values k)
 row_values p values k h low =
     let rows = p.rows in
     let l = p.l in
@@ -48,25 +52,30 @@ row_values p values k h low =
     }
   where
     room : (k m n : ℕ) → k < m → (k + 1) * n ≤ m * n
-    room k m n low = let more : m ≡ k + 1 + (m - (k + 1)) = omega arith in let grown = ap (λ (y : ℕ). y * n) more in omega arith
+    room k m n low = let more : m ≡ k + 1 + (m - (k + 1)) = omega arith
+        in let grown = ap (λ (y : ℕ). y * n) more in omega arith
 
 module _ (f : File) (c : Challenges) (h : IsParams (params_of f)) where
   abbrev whole : ℕ → List ℕ
-  whole t = let p = params_of f in combined (p.rows * p.l) (r_numbers (equation_count f) c t) (left_sides p f)
+  whole t = let p = params_of f
+      in combined (p.rows * p.l) (r_numbers (equation_count f) c t) (left_sides p f)
 
-  polynomial : (t k : ℕ) → k < (params_of f).rows → (polynomial : List ℕ) × Interpolates (params_of f) (row_at (params_of f) (whole t) k) polynomial
+  polynomial : (t k : ℕ) → k < (params_of f).rows → (polynomial : List ℕ)
+      × Interpolates (params_of f) (row_at (params_of f) (whole t) k) polynomial
   polynomial t k low =
       let p = params_of f in
       let forms = left_sides p f in
       let numbers = r_numbers (equation_count f) c t in
       rows_have_polynomials p (row_at p (whole t) k) h
-      (row_values p (whole t) k (made_values (p.rows * p.l) (λ place. combined_at place numbers forms)) low)
+      (row_values p (whole t) k
+      (made_values (p.rows * p.l) (λ place. combined_at place numbers forms)) low)
 
   chosen : (t k : ℕ) → (k < (params_of f).rows) ⊎ ((params_of f).rows ≤ k) → List ℕ
   chosen t k (inl low) = (polynomial t k low).0
   chosen t k (inr high) = []
 
-  fits : (t k : ℕ) (o : (k < (params_of f).rows) ⊎ ((params_of f).rows ≤ k)) → k < (params_of f).rows
+  fits : (t k : ℕ) (o : (k < (params_of f).rows) ⊎ ((params_of f).rows ≤ k))
+      → k < (params_of f).rows
       → Interpolates (params_of f) (row_at (params_of f) (whole t) k) (chosen t k o)
   unfolding chosen
   fits t k (inl low) h = (polynomial t k low).1
@@ -79,39 +88,38 @@ module _ (f : File) (c : Challenges) (h : IsParams (params_of f)) where
     λ t two k low. fits t k (cases_lt k (params_of f).rows) low,
   )
 
-pub length-combined : (size : ℕ) (r : List ℕ) (forms : List (List Term)) → length (combined size r forms) ≡ size
-length-combined size r forms = length-map-range_with_len (λ place. combined_at place r forms % P) 0 size
+pub length-combined : (size : ℕ) (r : List ℕ) (forms : List (List Term))
+    → length (combined size r forms) ≡ size
+length-combined size r forms =
+    length-map-range_with_len (λ place. combined_at place r forms % P) 0 size
 
 -- the polynomials of one repetition
-pub system_row : (p : Params) (f : File) (c : Challenges) (t equations : ℕ) (numbers whole : List ℕ) (system : ℕ → ℕ → List ℕ)
-    → p ≡ params_of f → equations ≡ equation_count f → numbers ≡ r_numbers equations c t → whole ≡ combined (p.rows * p.l) numbers (left_sides p f)
+pub system_row : (p : Params) (f : File) (c : Challenges) (t equations : ℕ) (numbers whole : List ℕ)
+    (system : ℕ → ℕ → List ℕ)
+    → p ≡ params_of f → equations ≡ equation_count f → numbers ≡ r_numbers equations c t
+    → whole ≡ combined (p.rows * p.l) numbers (left_sides p f)
     → AreSystems f c system → t < 2 → InterpolateRows p whole (system t)
 system_row p f c t equations numbers whole system is many drawn made are low =
-    let Rows : Params → Type 0 = λ q. InterpolateRows q (combined (q.rows * q.l) (r_numbers (equation_count f) c t) (left_sides q f)) (system t) in
+    let Rows : Params
+    → Type 0 =
+    λ q. InterpolateRows q
+    (combined (q.rows * q.l) (r_numbers (equation_count f) c t) (left_sides q f)) (system t) in
     let rows : Rows p = subst Rows (sym is) (are t low) in
     let Whole : List ℕ → Type 0 = λ xs. InterpolateRows p xs (system t) in
     let same : combined (p.rows * p.l) (r_numbers (equation_count f) c t) (left_sides p f) ≡ whole =
-    sym (made ∙ ap (λ r. combined (p.rows * p.l) r (left_sides p f)) (drawn ∙ ap (λ n. r_numbers n c t) many)) in
+    sym (made
+    ∙ ap (λ r. combined (p.rows * p.l) r (left_sides p f))
+    (drawn ∙ ap (λ n. r_numbers n c t) many)) in
     subst Whole same rows
 
--- a row more of the sums
-pub row_added : (o : Opening) (system : ℕ → List ℕ) (t k : ℕ) (points old new polynomial : List ℕ) → ArePoints o.params.now o.indices.now points
-    → length o.indices.now ≡ length o.columns.now → polynomial ≡ system k → AreSystemValues o system t k old → length new ≡ length o.columns.now
-    → ((q : ℕ) → q < length o.columns.now → get_or new q 0
-    ≡ (get_or old q 0 + eval_at polynomial (get_or points q 0) * row_value (get_or o.columns.now q []) k) % P)
-    → AreSystemValues o system t (k + 1) new
-row_added o system t k points old new polynomial are count is before size added = record {
-  count = size;
-  each = λ q low.
-      let column = get_or o.columns.now q [] in
-      let x = code_point o.params.now (get_or o.indices.now q 0) in
-      let at : get_or points q 0 ≡ x = are.each q (omega arith) in
-      let term : eval_at polynomial (get_or points q 0) * row_value column k ≡ eval_at (system k) x * row_value column k =
-      ap (λ y. eval_at polynomial y * row_value column k) at ∙ ap (λ s. eval_at s x * row_value column k) is in
-      next_on_top (linear_mask_value o.params.now column t) k (λ k. eval_at (system k) x * row_value column k) (get_or old q 0) (get_or new q 0)
-      (before.each q low) (added q low ∙ ap (λ y. (get_or old q 0 + y) % P) term);
-}
-
--- the row that the code takes
-pub taken_row : (p : Params) (values : List ℕ) (k : ℕ) → take (k * p.l + p.l - k * p.l) (drop (k * p.l) values) ≡ row_at p values k
-taken_row p values k = let l = p.l in let n = k * l in let is : n + l - n ≡ l = omega arith in ap (λ m. take m (drop n values)) is
+-- rows that are the same agree alike
+pub agree_alike : (o : Opening) (a b : ℕ → List ℕ) (t : ℕ)
+    → ((k : ℕ) → k < o.params.now.rows → a k ≡ b k) → RowsAgree o a t → RowsAgree o b t
+agree_alike o a b t same h = λ q low.
+    let column = get_or o.columns.now q [] in
+    let x = code_point o.params.now (get_or o.indices.now q 0) in
+    h q low
+    ∙ ap (λ s. (linear_mask_value o.params.now column t + s) % P)
+    (sum_same o.params.now.rows (λ k. eval_at (a k) x * row_value column k)
+    (λ k. eval_at (b k) x * row_value column k)
+    (λ k low. ap (λ f. eval_at f x * row_value column k) (same k low)))

@@ -1,11 +1,13 @@
 -- The opened columns of a proof as the tests see them.
-use Rattle.std.specs.Prelude.{◌≡◌, ℕ, ◌+◌, ◌*◌, ◌%◌, ◌<◌, List, [], length, All, slice_index, slice_index_or}
+use Rattle.std.specs.Prelude.{◌≡◌, ℕ, ◌+◌, ◌*◌, ◌%◌, ◌<◌, List, [], length, All, slice_index}
+use Rattle.std.specs.Prelude.{slice_index_or}
 use Rattle.gold_field.specs.declared.gold.TheConstants.{P}
 use Rattle.gold_ntt.specs.Polynomial.{sum_to, eval_at}
 use Rattle.lig_layout.specs.declared.params.Params.{Params}
 use Rattle.lig_layout.specs.Sizes.{IsParams}
 use Rattle.lig_proof.specs.Points.{code_point}
-use Rattle.lig_proof.specs.Columns.{row_value, code_mask_value, linear_mask_value, product_mask_value}
+use Rattle.lig_proof.specs.Columns.{row_value, code_mask_value, linear_mask_value}
+use Rattle.lig_proof.specs.Columns.{product_mask_value}
 use Rattle.lig_proof.specs.Tests.{alpha, rho, polynomials_of}
 use Rattle.lig_proof.specs.Audit.{Audit, excess}
 use Rattle.lig_auditor.specs.declared.opening.Opening.{Opening}
@@ -45,11 +47,10 @@ abbrev pub HasValuesAt : List ℕ → List ℕ → List ℕ → Type 0
 HasValuesAt polynomial points values = (q : ℕ) → q < length points
     → eval_at polynomial (slice_index points q) ≡ slice_index values q
 
--- a value for each column
-pub record AreOf (f : List ℕ → ℕ) (columns : List (List ℕ)) (values : List ℕ) : Type 0 where
-  pub count : length values ≡ length columns
-  pub each : (q : ℕ) → q < length columns
-      → slice_index values q ≡ f (slice_index_or columns q [])
+-- the polynomial has, at the point of each column, the value that f gives
+abbrev pub Agrees : Opening → List ℕ → (ℕ → ℕ) → Type 0
+Agrees o polynomial f = (q : ℕ) → q < length o.columns.now
+    → eval_at polynomial (code_point o.params.now (slice_index o.indices.now q)) ≡ f q
 
 -- what a column says of the polynomials of the tests
 abbrev pub code_value : Opening → ℕ → List ℕ → ℕ
@@ -71,12 +72,22 @@ system_value o system t rows q =
     (linear_mask_value o.params.now column t
     + sum_to rows (λ k. eval_at (system k) x * row_value column k)) % P
 
--- a value for each column
-pub record AreSystemValues (o : Opening) (system : ℕ → List ℕ) (t rows : ℕ)
-    (values : List ℕ) : Type 0 where
-  pub count : length values ≡ length o.columns.now
-  pub each : (q : ℕ) → q < length o.columns.now
-      → slice_index values q ≡ system_value o system t rows q
+-- the rows of a system, from their list
+abbrev pub rows_in : List (List ℕ) → ℕ → List ℕ
+rows_in rows k = slice_index_or rows k []
+
+-- what was sent for a repetition has the values of the columns
+abbrev pub CodesAgree : Opening → ℕ → Type 0
+CodesAgree o t = Agrees o ((polynomials_of o.params.now o.polys.now).code t)
+    (λ q. code_value o t (slice_index_or o.columns.now q []))
+
+abbrev pub ProductsAgree : Opening → ℕ → Type 0
+ProductsAgree o t = Agrees o ((polynomials_of o.params.now o.polys.now).product t)
+    (λ q. product_value o t (slice_index_or o.columns.now q []))
+
+abbrev pub RowsAgree : Opening → (ℕ → List ℕ) → ℕ → Type 0
+RowsAgree o system t = Agrees o ((polynomials_of o.params.now o.polys.now).linear t)
+    (λ q. system_value o system t o.params.now.rows q)
 
 -- coefficient k of the remainder by X ^ l - 1 of a polynomial of 4 * l coefficients
 abbrev pub folded : ℕ → List ℕ → ℕ → ℕ

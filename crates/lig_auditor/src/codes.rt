@@ -1,39 +1,58 @@
 //! The test that the rows are codes.
 
 ghost use Rattle.std.specs.Prelude.{◌≡◌, ◌<◌, ◌+◌, ◌↔◌, [], IfOk, IsTrue, length};
+ghost use Rattle.std.specs.Prelude.{slice_index_or};
 ghost use Rattle.lig_proof.specs.Audit.{Proximity};
-ghost use Rattle.lig_auditor.specs.Opened.{IsOpening, ArePoints, AreOf, audit_in, no_system, code_value};
+ghost use Rattle.lig_auditor.specs.Opened.{IsOpening, ArePoints, CodesAgree, audit_in, no_system};
+ghost use Rattle.lig_auditor.specs.Opened.{code_value};
 
-use crate::opening::{Opening, code_polynomial, has_values};
+use crate::agreement::{agrees, both};
+use crate::opening::{Opening, code_polynomial, column};
 use gold_field::Gold;
 use std::alloc::{AllocError, Global};
+use std::thread::Threads;
 
 /// Whether what was sent for the codes has the values of the columns.
-pub fn proximity(alloc: Global, opening: &Opening<'_>, points: &[Gold]) -> Result<bool, AllocError>
+pub fn proximity<R: Threads + Sync>(
+    rt: &R,
+    alloc: Global,
+    opening: &Opening<'_>,
+    points: &[Gold],
+) -> Result<bool, AllocError>
     requires opening { IsOpening opening.now }
     requires points { ArePoints opening.now.params.now opening.now.indices.now points.now }
     ensures { IfOk result (λ holds. IsTrue holds ↔ Proximity (audit_in opening.now [] no_system)) }
 {
-    for t in 0..2 {
-        let values = code_values(alloc, opening, t)?;
-        if !has_values(code_polynomial(opening, t), points, &values) {
-            return Ok(false);
-        }
-    }
-    Ok(true)
+    let first = codes_agree(rt, alloc, opening, points, 0)?;
+    let second = codes_agree(rt, alloc, opening, points, 1)?;
+    Ok(both(first, second))
 }
 
-// What the columns say of the polynomial of a repetition.
-fn code_values(alloc: Global, opening: &Opening<'_>, t: usize) -> Result<Vec<Gold>, AllocError>
+fn codes_agree<R: Threads + Sync>(
+    rt: &R,
+    alloc: Global,
+    opening: &Opening<'_>,
+    points: &[Gold],
+    t: usize,
+) -> Result<bool, AllocError>
     requires opening { IsOpening opening.now }
+    requires points { ArePoints opening.now.params.now opening.now.indices.now points.now }
     requires repetition { t < 2 }
-    ensures { IfOk result (λ v. AreOf (code_value opening.now t) opening.now.columns.now v.items) }
+    ensures { IfOk result (λ holds. IsTrue holds ↔ CodesAgree opening.now t) }
 {
-    let mut values = Vec::with_capacity(alloc, opening.columns.len())?;
-    for column in opening.columns {
-        values.push(code_value(opening, t, column.as_slice()))?;
-    }
-    Ok(values)
+    let polynomial = code_polynomial(opening, t);
+    agrees(
+        rt,
+        alloc,
+        opening,
+        points,
+        polynomial,
+        |q: usize| -> Result<Gold, AllocError>
+            requires { IsOpening opening.now × (t < 2) × (q < length opening.now.columns.now) }
+            ensures { IfOk result (λ value. value ≡ code_value opening.entry.now t
+                (slice_index_or opening.entry.now.columns.now q [])) }
+        { Ok(code_value(opening, t, column(opening, q))) },
+    )
 }
 
 // A column's mask and its rows, combined by the challenges.

@@ -1,16 +1,16 @@
 //! The opened columns of a proof, and the points at which they were encoded.
 
-ghost use Rattle.std.specs.Prelude.{◌≡◌, ◌≤◌, ◌<◌, ◌+◌, ◌*◌, ◌↔◌, IfOk, IsTrue, ℕ, length, slice_index};
-ghost use Rattle.gold_ntt.specs.Polynomial.{eval_at};
+ghost use Rattle.std.specs.Prelude.{◌≡◌, ◌≤◌, ◌<◌, ◌+◌, ◌*◌, [], IfOk, ℕ, length, slice_index};
+ghost use Rattle.std.specs.Prelude.{slice_index_or};
 ghost use Rattle.lig_layout.specs.Sizes.{IsParams};
 ghost use Rattle.gold_ntt.specs.Transform.{root_of};
 ghost use Rattle.lig_layout.specs.declared.params.Params.{Params};
 ghost use Rattle.lig_proof.specs.Points.{code_point};
 ghost use Rattle.lig_proof.specs.Tests.{polynomials_of};
-ghost use Rattle.lig_auditor.specs.Opened.{IsOpening, ArePoints, HasValuesAt};
+ghost use Rattle.lig_auditor.specs.Opened.{IsOpening, ArePoints};
 
 use gold_field::Gold;
-use gold_ntt::{eval, root};
+use gold_ntt::root;
 use items::Items;
 use lig_layout::Params;
 use lig_proof::Challenges;
@@ -48,17 +48,14 @@ fn point(root: Gold, index: u32) -> Gold
     Gold::from_wide(7).mul(root.pow(u64::from(index)))
 }
 
-/// Whether a polynomial has these values at these points.
-pub fn has_values(polynomial: &[Gold], points: &[Gold], values: &[Gold]) -> bool
-    requires { length values.now ≡ length points.now }
-    ensures { IsTrue result ↔ HasValuesAt polynomial.now points.now values.now }
+/// An opened column.
+pub fn column<'a>(opening: &Opening<'a>, q: usize) -> &'a [Gold]
+    requires opening { IsOpening opening.now }
+    requires column { q < length opening.now.columns.now }
+    ensures value { result.now ≡ slice_index_or opening.now.columns.now q [] }
+    ensures width { length result.now ≡ opening.now.params.now.rows + 6 }
 {
-    for (q, point) in points.iter().enumerate() {
-        if eval(polynomial, *point) != values[q] {
-            return false;
-        }
-    }
-    true
+    opening.columns[q].as_slice()
 }
 
 /// The polynomial that was sent for the codes, in a repetition.

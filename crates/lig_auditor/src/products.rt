@@ -1,15 +1,19 @@
 //! The tests of the products.
 
-ghost use Rattle.std.specs.Prelude.{◌≡◌, ◌<◌, ◌+◌, ◌-◌, ◌*◌, ◌%◌, ◌↔◌, [], ℕ, IfOk, IsTrue, length, slice_index};
+ghost use Rattle.std.specs.Prelude.{◌≡◌, ◌<◌, ◌+◌, ◌-◌, ◌*◌, ◌%◌, ◌↔◌, [], ℕ, IfOk, IsTrue};
+ghost use Rattle.std.specs.Prelude.{length, slice_index, slice_index_or};
 ghost use Rattle.gold_field.specs.declared.gold.TheConstants.{P};
 ghost use Rattle.lig_layout.specs.Sizes.{IsParams};
 ghost use Rattle.lig_proof.specs.Audit.{QuadZero, QuadColumn, excess};
-ghost use Rattle.lig_auditor.specs.Opened.{IsOpening, ArePoints, AreOf, audit_in, no_system, product_value, folded};
+ghost use Rattle.lig_auditor.specs.Opened.{IsOpening, ArePoints, ProductsAgree, audit_in};
+ghost use Rattle.lig_auditor.specs.Opened.{no_system, product_value, folded};
 
-use crate::opening::{Opening, has_values, product_polynomial};
+use crate::agreement::{agrees, both};
+use crate::opening::{Opening, column, product_polynomial};
 use gold_field::Gold;
 use lig_layout::Params;
 use std::alloc::{AllocError, Global};
+use std::thread::Threads;
 
 /// Whether what was sent for the products is 0 at the message points: where the remainder by
 /// `X^l - 1` is 0.
@@ -42,7 +46,8 @@ fn folds_to_zero(polynomial: &[Gold], l: usize) -> bool
 }
 
 /// Whether what was sent for the products has the values of the columns.
-pub fn quad_column(
+pub fn quad_column<R: Threads + Sync>(
+    rt: &R,
     alloc: Global,
     opening: &Opening<'_>,
     points: &[Gold],
@@ -52,27 +57,36 @@ pub fn quad_column(
     ensures { IfOk result (λ holds.
         IsTrue holds ↔ QuadColumn (audit_in opening.now [] no_system)) }
 {
-    for t in 0..2 {
-        let values = product_values(alloc, opening, t)?;
-        if !has_values(product_polynomial(opening, t), points, &values) {
-            return Ok(false);
-        }
-    }
-    Ok(true)
+    let first = products_agree(rt, alloc, opening, points, 0)?;
+    let second = products_agree(rt, alloc, opening, points, 1)?;
+    Ok(both(first, second))
 }
 
-// What the columns say of the polynomial of a repetition.
-fn product_values(alloc: Global, opening: &Opening<'_>, t: usize) -> Result<Vec<Gold>, AllocError>
+fn products_agree<R: Threads + Sync>(
+    rt: &R,
+    alloc: Global,
+    opening: &Opening<'_>,
+    points: &[Gold],
+    t: usize,
+) -> Result<bool, AllocError>
     requires opening { IsOpening opening.now }
+    requires points { ArePoints opening.now.params.now opening.now.indices.now points.now }
     requires repetition { t < 2 }
-    ensures { IfOk result (λ v.
-        AreOf (product_value opening.now t) opening.now.columns.now v.items) }
+    ensures { IfOk result (λ holds. IsTrue holds ↔ ProductsAgree opening.now t) }
 {
-    let mut values = Vec::with_capacity(alloc, opening.columns.len())?;
-    for column in opening.columns {
-        values.push(product_value(opening, t, column.as_slice()))?;
-    }
-    Ok(values)
+    let polynomial = product_polynomial(opening, t);
+    agrees(
+        rt,
+        alloc,
+        opening,
+        points,
+        polynomial,
+        |q: usize| -> Result<Gold, AllocError>
+            requires { IsOpening opening.now × (t < 2) × (q < length opening.now.columns.now) }
+            ensures { IfOk result (λ value. value ≡ product_value opening.entry.now t
+                (slice_index_or opening.entry.now.columns.now q [])) }
+        { Ok(product_value(opening, t, column(opening, q))) },
+    )
 }
 
 // A column's mask and what its products have too much, combined by the challenges.

@@ -7,12 +7,12 @@ ghost use Rattle.iden_files.specs.File.{InLimits};
 ghost use Rattle.lig_layout.specs.System.{equation_count, right_sides};
 ghost use Rattle.lig_proof.specs.Acceptance.{public_count};
 ghost use Rattle.lig_proof.specs.Audit.{LinearSum};
-ghost use Rattle.lig_proof.specs.Tests.{r_numbers};
 ghost use Rattle.lig_auditor.specs.Opened.{IsOpening, audit_in, no_system};
 
 use crate::opening::{Opening, linear_polynomial};
 use gold_field::Gold;
 use iden_files::R1cs;
+use lig_proof::r_numbers;
 
 /// Whether the values of what was sent for the linear system, at the message points, sum to the
 /// right sides.
@@ -25,26 +25,14 @@ pub fn linear_sum(file: &R1cs, publics: &[Gold], opening: &Opening<'_>) -> bool
         ↔ LinearSum (audit_in opening.now (right_sides file.now publics.now) no_system) }
 {
     let constraints = file.constraints().len();
-    let equations = opening.challenges.r.len() / 2;
     for t in 0..2 {
-        let r = numbers(opening, equations, t);
+        let r = r_numbers(opening.challenges, t);
         let sum = sum_of_values(linear_polynomial(opening, t), opening.params.l);
         if sum != known_sum(&r[3 * constraints..], publics) {
             return false;
         }
     }
     true
-}
-
-/// The numbers of a repetition for the equations.
-pub fn numbers<'a>(opening: &Opening<'a>, equations: usize, t: usize) -> &'a [Gold]
-    requires count { length opening.now.challenges.now.r ≡ 2 * equations }
-    requires repetition { t < 2 }
-    ensures value { result.now ≡ r_numbers equations opening.now.challenges.now t }
-    ensures count { length result.now ≡ equations }
-{
-    let r = opening.challenges.r.as_slice();
-    &r[t * equations..t * equations + equations]
 }
 
 // The sum of a polynomial's values at the message points: every l-th coefficient, l times.

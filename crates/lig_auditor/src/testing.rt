@@ -18,9 +18,11 @@ use gold_field::Gold;
 use iden_files::R1cs;
 use lig_proof::Verdict;
 use std::alloc::{AllocError, Global};
+use std::thread::Threads;
 
 /// The first test that fails, of those after the way to the root.
-pub fn tested(
+pub fn tested<R: Threads + Sync>(
+    rt: &R,
     alloc: Global,
     file: &R1cs,
     publics: &[Gold],
@@ -36,19 +38,19 @@ pub fn tested(
         × IsTested (audit_in opening.now (right_sides file.now publics.now) system) verdict) }
 {
     let points = points(alloc, opening.params, opening.indices)?;
-    if !proximity(alloc, opening, &points)? {
+    if !proximity(rt, alloc, opening, &points)? {
         return Ok(Verdict::Proximity);
     }
     if !linear_sum(file, publics, opening) {
         return Ok(Verdict::LinearSum);
     }
-    if !linear_column(alloc, file, opening, &points)? {
+    if !linear_column(rt, alloc, file, opening, &points)? {
         return Ok(Verdict::LinearColumn);
     }
     if !quad_zero(opening) {
         return Ok(Verdict::QuadZero);
     }
-    if !quad_column(alloc, opening, &points)? {
+    if !quad_column(rt, alloc, opening, &points)? {
         return Ok(Verdict::QuadColumn);
     }
     Ok(Verdict::Accepted)

@@ -1,29 +1,32 @@
 //! The verdict on bytes that are offered as a proof.
 
-ghost use Rattle.std.specs.Prelude.{◌≡◌, ◌<◌, ◌+◌, ◌*◌, ◌^◌, IfOk, length};
+ghost use Rattle.std.specs.Prelude.{◌≡◌, ◌<◌, ◌+◌, ◌*◌, ◌^◌, ℕ, List, IfOk, length};
 ghost use Rattle.iden_files.specs.File.{InLimits};
 ghost use Rattle.lig_layout.specs.Sizes.{IsParams, params_of};
-ghost use Rattle.lig_layout.specs.System.{equation_count};
-ghost use Rattle.lig_proof.specs.declared.shared_proof.AnyProof.TheVariants.{First, Second};
+ghost use Rattle.lig_merkle.specs.Shared.{AreOpened};
 ghost use Rattle.lig_proof.specs.Acceptance.{IsVerdict, IsProofVerdict, public_count};
+ghost use Rattle.lig_proof.specs.Acceptance.{indices_in, polys_in, root_in};
 ghost use Rattle.lig_proof.specs.SharedReading.{IsAny};
+ghost use Rattle.lig_proof.specs.Transcript.{first_key, opened_columns};
+ghost use Rattle.lig_auditor.specs.Ways.{HasWays};
 
 use crate::opening::Opening;
-use crate::paths::{first_astray, lead};
+use crate::paths::first_astray;
 use crate::testing::tested;
 use gold_field::Gold;
 use iden_files::R1cs;
 use lig_layout::Params;
+use lig_merkle::Hash;
 use lig_proof::{
-    AnyProof, Challenges, Proof, Proof2, ProofFault, Verdict, challenges, opened_once, queries,
-    read_any,
+    AnyProof, ProofFault, Verdict, challenges, equation_count, opened_once, queries, read_any,
 };
 use std::alloc::{AllocError, Global};
+use std::thread::Threads;
 
 /// The verdict on the bytes of a proof of either version: the first test that fails, for the bytes
 /// of an `.r1cs` file, what they mean, and public values.
-pub fn audit(
-    alloc: Global,
+pub fn audit<R: Threads + AllocGlobal + Sync>(
+    rt: &R,
     r1cs_bytes: &[u8],
     file: &R1cs,
     publics: &[Gold],
@@ -37,13 +40,8 @@ pub fn audit(
         return Ok(Verdict::PublicCount);
     }
     let params = Params::of(file);
-    match read_any(alloc, &params, r1cs_bytes, publics, proof) {
-        Ok(AnyProof::First(proof)) => {
-            audit_first(alloc, r1cs_bytes, file, publics, &params, &proof)
-        }
-        Ok(AnyProof::Second(proof)) => {
-            audit_second(alloc, r1cs_bytes, file, publics, &params, &proof)
-        }
+    match read_any(rt.alloc(), &params, r1cs_bytes, publics, proof) {
+        Ok(proof) => audit_proof(rt, r1cs_bytes, file, publics, &params, &proof),
         Err(ProofFault::Malformed { offset }) => Ok(Verdict::Malformed { offset }),
         Err(ProofFault::OutOfMemory) => Err(AllocError),
     }
@@ -59,78 +57,59 @@ fn public_count(file: &R1cs) -> usize
     (file.outputs + file.public_inputs) as usize
 }
 
-// How many equations the linear system of the file has.
-fn equation_count(file: &R1cs) -> u32
-    requires { InLimits file.now }
-    ensures { result ≡ equation_count file.now }
-{
-    let constraints = file.constraints().len() as u32;
-    3 * constraints + 1 + (file.outputs + file.public_inputs)
-}
-
-// The verdict on a proof of version 1.
-fn audit_first(
-    alloc: Global,
+// The verdict on a proof.
+fn audit_proof<R: Threads + AllocGlobal + Sync>(
+    rt: &R,
     r1cs_bytes: &[u8],
     file: &R1cs,
     publics: &[Gold],
     params: &Params,
-    proof: &Proof,
+    proof: &AnyProof,
 ) -> Result<Verdict, AllocError>
     requires limits { InLimits file.now }
     requires params { params.now ≡ params_of file.now }
     requires sizes { IsParams params.now }
     requires publics { length publics.now ≡ public_count file.now }
-    requires proof { IsAny params.now r1cs_bytes.now publics.now (First proof.now) }
+    requires proof { IsAny params.now r1cs_bytes.now publics.now proof.now }
     ensures { IfOk result (λ verdict.
-        IsProofVerdict r1cs_bytes.now file.now publics.now (First proof.now) verdict) }
+        IsProofVerdict r1cs_bytes.now file.now publics.now proof.now verdict) }
 {
+    let alloc = rt.alloc();
     let equations = equation_count(file);
-    let drawn = challenges(alloc, params, r1cs_bytes, publics, equations, &proof.root)?;
-    let indices = queries(alloc, params, &drawn.first, proof.polys.as_slice())?;
-    if let Some(opened) = first_astray(proof, &indices) {
+    let drawn = challenges(alloc, params, r1cs_bytes, publics, equations, proof.root())?;
+    let indices = indices(alloc, params, &drawn.first, proof)?;
+    let way = first_astray(alloc, params, &indices, proof)?;
+    if let Some(opened) = way {
         return Ok(Verdict::BadPath { opened });
     }
     let opening = Opening {
         params,
         challenges: &drawn,
-        polys: proof.polys.as_slice(),
+        polys: proof.polys(),
         indices: &indices,
-        columns: proof.columns.as_slice(),
+        columns: proof.columns(),
     };
-    tested(alloc, file, publics, &opening)
+    tested(rt, alloc, file, publics, &opening)
 }
 
-// The verdict on a proof of version 2.
-fn audit_second(
+// The indices of the columns that are due in a proof, by the first key.
+fn indices(
     alloc: Global,
-    r1cs_bytes: &[u8],
-    file: &R1cs,
-    publics: &[Gold],
     params: &Params,
-    proof: &Proof2,
-) -> Result<Verdict, AllocError>
-    requires limits { InLimits file.now }
-    requires params { params.now ≡ params_of file.now }
-    requires sizes { IsParams params.now }
-    requires publics { length publics.now ≡ public_count file.now }
-    requires proof { IsAny params.now r1cs_bytes.now publics.now (Second proof.now) }
-    ensures { IfOk result (λ verdict.
-        IsProofVerdict r1cs_bytes.now file.now publics.now (Second proof.now) verdict) }
+    first: &Hash,
+    proof: &AnyProof,
+) -> Result<Vec<u32>, AllocError>
+    requires { IsParams params.now }
+    ensures value { IfOk result (λ v. v.items ≡ indices_in params.now
+        (opened_columns params.now first.now (polys_in proof.now)) proof.now) }
+    ensures ways { IfOk result (λ v. (r1cs_bytes publics : List ℕ)
+        → first.now ≡ first_key r1cs_bytes publics (root_in proof.now)
+        → IsAny params.now r1cs_bytes publics proof.now
+        → HasWays params.now v.items proof.now) }
 {
-    let equations = equation_count(file);
-    let drawn = challenges(alloc, params, r1cs_bytes, publics, equations, &proof.root)?;
-    let queried = queries(alloc, params, &drawn.first, proof.polys.as_slice())?;
-    let indices = opened_once(alloc, params, &queried)?;
-    if !lead(alloc, params, &indices, proof)? {
-        return Ok(Verdict::BadPath { opened: 0 });
+    let drawn = queries(alloc, params, first, proof.polys())?;
+    match proof {
+        AnyProof::First(_) => Ok(drawn),
+        AnyProof::Second(_) => opened_once(alloc, params, &drawn),
     }
-    let opening = Opening {
-        params,
-        challenges: &drawn,
-        polys: proof.polys.as_slice(),
-        indices: &indices,
-        columns: proof.columns.as_slice(),
-    };
-    tested(alloc, file, publics, &opening)
 }

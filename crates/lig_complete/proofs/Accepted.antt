@@ -12,7 +12,7 @@ use Rattle.lig_layout.specs.System.{right_sides}
 use Rattle.lig_layout.specs.Laws.{publics_of}
 use Rattle.lig_merkle.specs.Shared.{is_known}
 use Rattle.lig_proof.specs.declared.challenge.Challenges.{Challenges}
-use Rattle.lig_proof.specs.declared.challenge.TheConstants.{OPENED}
+use Rattle.lig_proof.specs.ProofBytes.{opened_count}
 use Rattle.lig_proof.specs.declared.shared_proof.AnyProof.{AnyProof}
 use Rattle.lig_proof.specs.declared.verdict.Verdict.TheVariants.{Accepted}
 use Rattle.lig_proof.specs.declared.version.Version.{Version}
@@ -36,17 +36,19 @@ use Rattle.lig_complete.proofs.AtColumns.{audit, are_sent, proximity, linear_col
 use Rattle.lig_complete.proofs.AtMessage.{linear_sum, quad_zero}
 use Rattle.lig_complete.proofs.Messages.{length-publics, are_messages, combination}
 use Rattle.lig_complete.proofs.Opened.{range_below, once_opened, each_leads, all_lead}
-use Rattle.lig_complete.proofs.Spelled.{first_made, second_made, first_fits, second_fits, first_read, second_read}
+use Rattle.lig_complete.proofs.Spelled.{first_made, second_made, first_fits, second_fits}
+use Rattle.lig_complete.proofs.Spelled.{first_read, second_read}
 
 -- the columns that are drawn are columns, and as many as a proof opens
 drawn_low : (p : Params) (first polys : List ℕ) → IsParams p
     → All (λ i. i < 8 * p.l) (opened_columns p first polys)
 drawn_low p first polys h = let least = h.least
-    in each_below (λ q. key_word (second_key first polys) q) OPENED (8 * p.l) (omega arith)
+    in each_below (λ q. key_word (second_key first polys) q) opened_count (8 * p.l) (omega arith)
 
-drawn_count : (p : Params) (first polys : List ℕ) → length (opened_columns p first polys) ≡ OPENED
+drawn_count : (p : Params) (first polys : List ℕ) → length (opened_columns p first polys)
+    ≡ opened_count
 drawn_count p first polys =
-    length-map-range_with_len (λ q. key_word (second_key first polys) q % (8 * p.l)) 0 OPENED
+    length-map-range_with_len (λ q. key_word (second_key first polys) q % (8 * p.l)) 0 opened_count
 
 once_low : (p : Params) (drawn : List ℕ) → All (λ i. i < 8 * p.l) (opened_once p drawn)
 once_low p drawn = All-filter (is_known drawn) (λ i. i < 8 * p.l) (range_with_len 0 (8 * p.l))

@@ -1,5 +1,6 @@
 -- The tests at the opened columns pass.
-use Rattle.std.proofs.Common.{◌≡◌, ℕ, ◌+◌, ◌-◌, ◌*◌, ◌%◌, ◌<◌, List, [], length, get_or, map, sym, ap, ◌∙◌, arith}
+use Rattle.std.proofs.Common.{◌≡◌, ℕ, ◌+◌, ◌-◌, ◌*◌, ◌%◌, ◌<◌, List, [], length, get_or, map, sym}
+use Rattle.std.proofs.Common.{ap, ◌∙◌, arith}
 use Rattle.std.proofs.lemmas.List.{length-map, get_or-map}
 use Rattle.gold_field.specs.declared.gold.TheConstants.{P}
 use Rattle.gold_ntt.specs.Polynomial.{sum_to, eval_at}
@@ -9,12 +10,15 @@ use Rattle.lig_layout.specs.Sizes.{IsParams}
 use Rattle.lig_proof.specs.declared.challenge.Challenges.{Challenges}
 use Rattle.lig_proof.specs.ProofBytes.{AreValues}
 use Rattle.lig_proof.specs.Points.{code_point}
-use Rattle.lig_proof.specs.Columns.{Encoded, column_at, row_value, code_mask_value, linear_mask_value, product_mask_value}
-use Rattle.lig_proof.specs.Tests.{Polynomials, in_order, polynomials_of, alpha, rho, sent_polynomials}
+use Rattle.lig_proof.specs.Columns.{Encoded, column_at, row_value, code_mask_value}
+use Rattle.lig_proof.specs.Columns.{linear_mask_value, product_mask_value}
+use Rattle.lig_proof.specs.Tests.{Polynomials, in_order, polynomials_of, alpha, rho}
+use Rattle.lig_proof.specs.Tests.{sent_polynomials}
 use Rattle.lig_proof.specs.Audit.{Audit, Proximity, LinearColumn, QuadColumn, excess}
 use Rattle.lig_proof.specs.Values.{HasDegrees}
 use Rattle.lig_proof.proofs.Interpolants.{made_values}
-use Rattle.lig_proof.proofs.TestValues.{code_test_has_values, linear_test_has_values, product_test_has_values}
+use Rattle.lig_proof.proofs.TestValues.{code_test_has_values, linear_test_has_values}
+use Rattle.lig_proof.proofs.TestValues.{product_test_has_values}
 use Rattle.lig_complete.proofs.Columns.{row_is, code_is, linear_is, product_is}
 use Rattle.lig_complete.proofs.Places.{AreSent, code_part, linear_part, product_part}
 

@@ -1,16 +1,19 @@
 -- What a column of the encoded matrix says.
-use Rattle.std.proofs.Common.{◌≡◌, ℕ, zero, suc, ◌+◌, ◌<◌, List, [], ◌∷◌, ◌++◌, length, get_or, map, sym, ap, ◌∙◌, arith, zero-add, lit<}
+use Rattle.std.proofs.Common.{◌≡◌, ℕ, zero, suc, ◌+◌, ◌<◌, List, [], ◌∷◌, ◌++◌, length, get_or, map}
+use Rattle.std.proofs.Common.{sym, ap, ◌∙◌, arith, zero-add, lit<}
 use Rattle.std.specs.List.{AllByRecursion, range_with_len}
 use Rattle.std.proofs.lemmas.Nat.{mod_below}
 use Rattle.std.proofs.lemmas.Simd.{map-map}
-use Rattle.std.proofs.lemmas.List.{length-append, length-map, map-append, get_or_append_left, get_or-append-add}
+use Rattle.std.proofs.lemmas.List.{length-append, length-map, map-append, get_or_append_left}
+use Rattle.std.proofs.lemmas.List.{get_or-append-add}
 use Rattle.std.proofs.lemmas.List.FromFn.{length-map-range_with_len, get_or-map-range_with_len}
 use Rattle.gold_field.specs.declared.gold.TheConstants.{P}
 use Rattle.gold_ntt.specs.Polynomial.{eval_at}
 use Rattle.lig_layout.specs.declared.params.Params.{Params}
 use Rattle.lig_proof.specs.ProofBytes.{AreValues}
 use Rattle.lig_proof.specs.Points.{code_point}
-use Rattle.lig_proof.specs.Columns.{Encoded, polynomials, column_at, row_value, code_mask_value, linear_mask_value, product_mask_value}
+use Rattle.lig_proof.specs.Columns.{Encoded, polynomials, column_at, row_value, code_mask_value}
+use Rattle.lig_proof.specs.Columns.{linear_mask_value, product_mask_value}
 
 module _ (p : Params) (e : Encoded) (i : ℕ) where
   abbrev value : List ℕ → ℕ

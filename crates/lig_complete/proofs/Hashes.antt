@@ -1,5 +1,7 @@
 -- What a tree is made of are hashes.
-use Rattle.std.proofs.Common.{◌≡◌, ℕ, zero, suc, ◌+◌, ◌-◌, ◌*◌, ◌%◌, ◌^◌, ◌<◌, List, [], ◌∷◌, ◌++◌, Bool, true, false, cond, ltb, not, All, length, get_or, slice_index, map, take, drop, refl, sym, subst, arith, ⊎_elim, lit<}
+use Rattle.std.proofs.Common.{◌≡◌, ℕ, zero, suc, ◌+◌, ◌-◌, ◌*◌, ◌%◌, ◌^◌, ◌<◌, List, [], ◌∷◌, ◌++◌}
+use Rattle.std.proofs.Common.{Bool, true, false, cond, ltb, not, All, length, get_or, slice_index}
+use Rattle.std.proofs.Common.{map, take, drop, refl, sym, subst, arith, ⊎_elim, lit<}
 use Rattle.std.specs.List.{AllByRecursion}
 use Rattle.std.specs.Int.{w32, to_be_bytes, byte_at, bytes_high_first}
 use Rattle.std.proofs.Math.Nat.{pow-suc}

@@ -1,9 +1,12 @@
 -- The places of values in the matrix.
-use Rattle.std.proofs.Common.{◌≡◌, ℕ, suc, ◌+◌, ◌-◌, ◌*◌, ◌<◌, ◌≤◌, List, ◌++◌, length, get_or, drop, replicate, sym, ap, ◌∙◌, arith, ⊎_elim}
+use Rattle.std.proofs.Common.{◌≡◌, ℕ, suc, ◌+◌, ◌-◌, ◌*◌, ◌<◌, ◌≤◌, List, ◌++◌, length, get_or}
+use Rattle.std.proofs.Common.{drop, replicate, sym, ap, ◌∙◌, arith, ⊎_elim}
 use Rattle.std.proofs.Math.Nat.{mul-le-mul_left}
 use Rattle.std.proofs.Math.Seq.{get_or-append_right}
 use Rattle.std.proofs.lemmas.Bool.{cases_lt}
-use Rattle.std.proofs.lemmas.List.{length-append, length-replicate, get_or_append_left, get_or-append-add, get_or-replicate, get_or_past, get_or-take, get_or-drop}
+use Rattle.std.proofs.lemmas.List.{length-append, length-replicate, get_or_append_left}
+use Rattle.std.proofs.lemmas.List.{get_or-append-add, get_or-replicate, get_or_past, get_or-take}
+use Rattle.std.proofs.lemmas.List.{get_or-drop}
 use Rattle.lig_layout.specs.declared.params.Params.{Params}
 use Rattle.lig_layout.specs.declared.matrix.Vectors.{Vectors}
 use Rattle.lig_layout.specs.Layout.{padded, message, row_at}

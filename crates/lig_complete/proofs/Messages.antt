@@ -1,5 +1,7 @@
 -- What an encoded matrix has at the message points, where its values satisfy the file.
-use Rattle.std.proofs.Common.{◌≡◌, ℕ, zero, suc, ◌+◌, ◌-◌, ◌*◌, ◌%◌, ◌^◌, ◌<◌, All, List, [], ◌∷◌, length, get_or, slice_index, map, drop, refl, sym, ap, subst, ◌∙◌, arith, ⊎_elim}
+use Rattle.std.proofs.Common.{◌≡◌, ℕ, zero, suc, ◌+◌, ◌-◌, ◌*◌, ◌%◌, ◌^◌, ◌<◌, All, List, [], ◌∷◌}
+use Rattle.std.proofs.Common.{length, get_or, slice_index, map, drop, refl, sym, ap, subst, ◌∙◌}
+use Rattle.std.proofs.Common.{arith, ⊎_elim}
 use Rattle.std.proofs.lemmas.Bool.{cases_lt}
 use Rattle.std.proofs.lemmas.Nat.{pow_pos}
 use Rattle.std.proofs.lemmas.List.{get_or_past, length-take-le, length-drop}
@@ -31,7 +33,8 @@ use Rattle.lig_complete.specs.Completeness.{IsWitness}
 use Rattle.lig_complete.proofs.Sizes.{values_fit}
 use Rattle.lig_complete.proofs.Matrix.{row_place, x_at, y_at, z_at}
 use Rattle.lig_complete.proofs.Folding.{values_cancel}
-use Rattle.lig_complete.proofs.Codes.{numbers_below, code_at_message, row_mask_count, row_mask_low, product_mask_zero}
+use Rattle.lig_complete.proofs.Codes.{numbers_below, code_at_message, row_mask_count, row_mask_low}
+use Rattle.lig_complete.proofs.Codes.{product_mask_zero}
 use Rattle.lig_complete.proofs.Solved.{solved, length-right_sides}
 use Rattle.lig_complete.proofs.AtMessage.{AreMessages}
 

@@ -1,9 +1,12 @@
 -- The linear system, combined, times the values of the matrix.
-use Rattle.std.proofs.Common.{◌≡◌, ℕ, zero, suc, ◌+◌, ◌-◌, ◌*◌, ◌%◌, ◌<◌, ◌≤◌, All, List, [], ◌∷◌, ◌++◌, length, get_or, slice_index, map, replicate, refl, sym, ap, subst, ◌∙◌, arith}
+use Rattle.std.proofs.Common.{◌≡◌, ℕ, zero, suc, ◌+◌, ◌-◌, ◌*◌, ◌%◌, ◌<◌, ◌≤◌, All, List, [], ◌∷◌}
+use Rattle.std.proofs.Common.{◌++◌, length, get_or, slice_index, map, replicate, refl, sym, ap}
+use Rattle.std.proofs.Common.{subst, ◌∙◌, arith}
 use Rattle.std.specs.List.{AllByRecursion}
 use Rattle.std.proofs.lemmas.Nat.{pow_pos}
 use Rattle.std.proofs.lemmas.List.{length-append, length-replicate}
-use Rattle.std.proofs.lemmas.List.Elements.{All-nil, All-cons, All-head, All-tail, All-append, All-weaker}
+use Rattle.std.proofs.lemmas.List.Elements.{All-nil, All-cons, All-head, All-tail, All-append}
+use Rattle.std.proofs.lemmas.List.Elements.{All-weaker}
 use Rattle.gold_field.specs.declared.gold.TheConstants.{P}
 use Rattle.gold_field.specs.declared.form.Term.{Term}
 use Rattle.gold_field.specs.declared.form.Constraint.{Constraint}
@@ -18,7 +21,8 @@ use Rattle.lig_layout.specs.Sides.{form_of, forms}
 use Rattle.lig_layout.specs.Sizes.{params_of}
 use Rattle.lig_layout.specs.Width.{width_exponent}
 use Rattle.lig_layout.specs.Layout.{message, vectors_of, x_start, y_start, z_start}
-use Rattle.lig_layout.specs.System.{combined, differences, wire_forms, known_wires, left_sides, right_sides, equation_count}
+use Rattle.lig_layout.specs.System.{combined, differences, wire_forms, known_wires, left_sides}
+use Rattle.lig_layout.specs.System.{right_sides, equation_count}
 use Rattle.lig_layout.specs.Laws.{product, combined_values, publics_of}
 use Rattle.lig_layout.proofs.Products.{linear}
 use Rattle.lig_layout.proofs.Solving.{solves}

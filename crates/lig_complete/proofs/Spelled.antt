@@ -1,5 +1,6 @@
 -- What is made is a proof, in either version, and so its spelling is read.
-use Rattle.std.proofs.Common.{◌≡◌, ℕ, ◌+◌, ◌*◌, ◌<◌, List, [], Ok, length, get_or, map, refl, sym, subst, ◌∙◌, arith}
+use Rattle.std.proofs.Common.{◌≡◌, ℕ, ◌+◌, ◌*◌, ◌<◌, List, [], Ok, length, get_or, map, refl, sym}
+use Rattle.std.proofs.Common.{subst, ◌∙◌, arith}
 use Rattle.std.proofs.lemmas.List.{length-map}
 use Rattle.lig_layout.specs.declared.params.Params.{Params}
 use Rattle.lig_layout.specs.Sizes.{IsParams}
@@ -7,7 +8,7 @@ use Rattle.lig_merkle.specs.Merkle.{path_at}
 use Rattle.lig_merkle.specs.Shared.{AreOpened, shared_nodes}
 use Rattle.lig_merkle.proofs.Leading.{length-shared_nodes}
 use Rattle.lig_merkle.proofs.Paths.{length-path_at}
-use Rattle.lig_proof.specs.declared.challenge.TheConstants.{OPENED}
+use Rattle.lig_proof.specs.ProofBytes.{opened_count}
 use Rattle.lig_proof.specs.declared.proof.Proof.{Proof}
 use Rattle.lig_proof.specs.declared.shared_proof.Proof2.{Proof2}
 use Rattle.lig_proof.specs.declared.shared_proof.AnyProof.TheVariants.{First, Second}
@@ -51,11 +52,10 @@ module _ (p : Params) (e : Encoded) (h : IsParams p) where
       let depth = h.depth in
       record {
         count = length-path_at p.depth (leaves p e) i;
-        each =
-            path_hashes p.depth (leaves p e) i (λ k l. leaf_is_hash k (omega arith));
+        each = path_hashes p.depth (leaves p e) i (λ k l. leaf_is_hash k (omega arith));
       }
 
-  pub first_fits : (polys drawn : List ℕ) → AreValues (18 * p.l) polys → length drawn ≡ OPENED
+  pub first_fits : (polys drawn : List ℕ) → AreValues (18 * p.l) polys → length drawn ≡ opened_count
       → IsProof p (first_made p e polys drawn)
   first_fits polys drawn values count = record {
     root = root_fits;

@@ -1,5 +1,7 @@
 -- Each row has one polynomial, and each row under a mask one code.
-use Rattle.std.proofs.Common.{◌≡◌, ℕ, zero, suc, ◌+◌, ◌-◌, ◌*◌, ◌%◌, ◌^◌, ◌<◌, ◌≤◌, List, [], ◌∷◌, length, map, get_or, refl, sym, ap, subst, ◌∙◌, arith, zero-add, ⊎_elim}
+use Rattle.std.proofs.Common.{◌≡◌, ℕ, zero, suc, ◌+◌, ◌-◌, ◌*◌, ◌%◌, ◌^◌, ◌<◌, ◌≤◌, List, [], ◌∷◌}
+use Rattle.std.proofs.Common.{length, map, get_or, refl, sym, ap, subst, ◌∙◌, arith, zero-add}
+use Rattle.std.proofs.Common.{⊎_elim}
 use Rattle.std.specs.List.{AllByRecursion, range_with_len}
 use Rattle.std.proofs.Math.Nat.{pow-le-pow_right, mod-eq_of_lt}
 use Rattle.std.proofs.lemmas.Bool.{cases_lt}
@@ -17,6 +19,12 @@ use Rattle.lig_proof.specs.ProofBytes.{AreValues}
 use Rattle.lig_proof.specs.Points.{width_log}
 use Rattle.lig_proof.specs.Encoding.{masked, RowsHavePolynomials, PolynomialsAreOne, CodesAreOne}
 
+-- numbers of the field, one by one
+pub all_below : (xs : List ℕ) → ((k : ℕ) → k < length xs → get_or xs k 0 < P)
+    → AllByRecursion (λ x. x < P) xs
+all_below [] h = tt
+all_below (x ∷ xs) h = (h 0 (omega arith), all_below xs (λ k low. h (suc k) (omega arith)))
+
 -- the width is a power of two
 pub record IsWidth (p : Params) : Type 0 where
   pub depth : p.depth ≤ 14
@@ -32,37 +40,48 @@ width_is p h =
     let least = h.least in
     let greatest = h.greatest in
     let columns = h.depth in
-    let three : 3 ≤ p.depth = ⊎_elim (λ low. let few = grown p.depth 2 (omega arith) in absurd (omega arith)) (λ high. high) (cases_lt p.depth 3) in
-    let most : p.depth ≤ 14 = ⊎_elim (λ low. omega arith) (λ high. let many = grown 15 p.depth high in absurd (omega arith)) (cases_lt p.depth 15) in
+    let three : 3 ≤ p.depth =
+    ⊎_elim (λ low. let few = grown p.depth 2 (omega arith) in absurd (omega arith))
+    (λ high. high) (cases_lt p.depth 3) in
+    let most : p.depth ≤ 14 =
+    ⊎_elim (λ low. omega arith) (λ high. let many = grown 15 p.depth high
+    in absurd (omega arith)) (cases_lt p.depth 15) in
     let whole : p.depth ≡ width_log p + 3 = omega arith in
-    let split : 2 ^ p.depth ≡ 2 ^ width_log p * 8 = ap (λ n. 2 ^ n) whole ∙ pow-add 2 (width_log p) 3 in
+    let split : 2 ^ p.depth ≡ 2 ^ width_log p * 8 =
+    ap (λ n. 2 ^ n) whole ∙ pow-add 2 (width_log p) 3 in
     record { depth = most; small = omega arith; power = omega arith; columns = whole }
 
 -- equal lists
-pub same_lists : (xs ys : List ℕ) → length xs ≡ length ys → ((k : ℕ) → k < length xs → get_or xs k 0 ≡ get_or ys k 0) → xs ≡ ys
+pub same_lists : (xs ys : List ℕ) → length xs ≡ length ys
+    → ((k : ℕ) → k < length xs → get_or xs k 0 ≡ get_or ys k 0) → xs ≡ ys
 same_lists [] [] e h = refl
 same_lists [] (y ∷ ys) e h = absurd (omega arith)
 same_lists (x ∷ xs) [] e h = absurd (omega arith)
 same_lists (x ∷ xs) (y ∷ ys) e h =
-    ap (λ z. z ∷ xs) (h 0 (omega arith)) ∙ ap (λ zs. y ∷ zs) (same_lists xs ys (omega arith) (λ k l. h (suc k) (omega arith)))
+    ap (λ z. z ∷ xs) (h 0 (omega arith))
+    ∙ ap (λ zs. y ∷ zs) (same_lists xs ys (omega arith) (λ k l. h (suc k) (omega arith)))
 
-pub value_below : (n : ℕ) (values : List ℕ) → AreValues n values → (k : ℕ) → k < length values → get_or values k 0 < P
+pub value_below : (n : ℕ) (values : List ℕ) → AreValues n values → (k : ℕ) → k < length values
+    → get_or values k 0 < P
 value_below n values h k l = All-from_recursion (λ x. x < P) values h.each k 0 l
 
 pub polynomials_are_one : PolynomialsAreOne
 polynomials_are_one p row a b h first second =
     let width = width_is p h in
-    let size : length row ≡ 2 ^ width_log p = first.values.same_length ∙ first.degree.count ∙ width.power in
+    let size : length row ≡ 2 ^ width_log p =
+    first.values.same_length ∙ first.degree.count ∙ width.power in
     same_lists a b (first.degree.count ∙ sym second.degree.count) (λ k l.
     let count = first.degree.count in
     let other = second.degree.count in
-    let here = same_coefficients (width_log p) a b row width.small size first.values second.values k (omega (arith, width.power)) in
+    let here = same_coefficients (width_log p) a b row width.small size first.values second.values k
+    (omega (arith, width.power)) in
     sym (mod-eq_of_lt {n = get_or a k 0} {m = P} (value_below p.l a first.degree k l)) ∙ here
     ∙ mod-eq_of_lt {n = get_or b k 0} {m = P} (value_below p.l b second.degree k (omega arith)))
 
 -- the numbers that a function gives are a list of the field where it says so
 pub made_values : (n : ℕ) (f : ℕ → ℕ) → AreValues n (map (λ k. f k % P) (range_with_len 0 n))
-made_values n f = record { count = length-map-range_with_len (λ k. f k % P) 0 n; each = each_below 0 n }
+made_values n f =
+    record { count = length-map-range_with_len (λ k. f k % P) 0 n; each = each_below 0 n }
   where
     each_below : (a m : ℕ) → AllByRecursion (λ x. x < P) (map (λ k. f k % P) (range_with_len a m))
     each_below a zero = tt
@@ -89,11 +108,18 @@ rows_have_polynomials p row h values =
       new,
       record {
         degree = subst Values values.count made;
-        values = inverse_undone row mid new e v s width.small size (length-map-range_with_len (λ k. coefficient k % P) 0 n) (root_unit e width.small) (halves_cancel s e refl) there
-            (value_below p.l row values) (λ k l. get_or-map-range_with_len (λ k. coefficient k % P) 0 n k k 0 l (zero-add k));
+        values = inverse_undone row mid new e v s width.small size
+            (length-map-range_with_len (λ k. coefficient k % P) 0 n) (root_unit e width.small)
+            (halves_cancel s e refl) there
+            (value_below p.l row values)
+            (λ k l. get_or-map-range_with_len (λ k. coefficient k % P) 0 n k k 0 l
+            (zero-add k));
       },
     )
 
 pub codes_are_one : CodesAreOne
 codes_are_one p row mask a b h first second =
-    first.sum ∙ ap (λ base. masked p.l (2 * p.l) base mask) (polynomials_are_one p row first.polynomial second.polynomial h first.interpolates second.interpolates) ∙ sym second.sum
+    first.sum
+    ∙ ap (λ base. masked p.l (2 * p.l) base mask)
+    (polynomials_are_one p row first.polynomial second.polynomial h first.interpolates
+    second.interpolates) ∙ sym second.sum

@@ -1,11 +1,11 @@
 pub mod AnyWhole
+pub mod Collected
 pub mod Draws
 pub mod Interpolants
 pub mod Loops
 pub mod MadeOnce
 pub mod Once
 pub mod PointSums
-pub mod SharedSteps
 pub mod SharedWhole
 pub mod Takes
 pub mod TestValues

@@ -1,11 +1,13 @@
 -- Whole proofs of version 2: what is read is spelled so, and what is spelled so is read.
-use Rattle.std.proofs.Common.{◌≡◌, ℕ, ◌-◌, ◌+◌, ◌*◌, ◌<◌, ◌≤◌, true, leb, ◌==◌, nat_le, List, [], ◌++◌, length, take, drop, codes, Result, Ok, Err, IfOk, refl, sym, ap, ◌∙◌, subst, arith}
+use Rattle.std.proofs.Common.{◌≡◌, ℕ, ◌-◌, ◌+◌, ◌*◌, ◌<◌, ◌==◌, List, []}
+use Rattle.std.proofs.Common.{◌++◌, length, Result, Ok, Err, IfOk, refl, sym, ap}
+use Rattle.std.proofs.Common.{◌∙◌, subst}
 use Rattle.std.specs.List.{AllByRecursion, flat_map}
-use Rattle.std.specs.Int.{w32, w64, from_le_bytes, to_le_bytes}
-use Rattle.std.proofs.lemmas.List.{append-nil, length-take-le, take-append-drop, drop-drop, length-drop, nil_from_length}
-use Rattle.std.proofs.lemmas.Bool.{leb-true, le-leb, eqb-true}
-use Rattle.std.proofs.lemmas.Nat.{le_bytes_4}
-use Rattle.binary_format.specs.Reading.{◌>>=◌, repeated, required}
+use Rattle.std.specs.Int.{w64, to_le_bytes}
+use Rattle.std.proofs.lemmas.List.{append-nil}
+use Rattle.std.proofs.lemmas.List.{nil_from_length}
+use Rattle.std.proofs.lemmas.Bool.{eqb-true}
+use Rattle.binary_format.specs.Reading.{Gives, ◌>>=◌, repeated, required}
 use Rattle.binary_format.proofs.ReadBack.{ReadsBack, repeated_again}
 use Rattle.gold_field.specs.declared.gold.TheConstants.{P}
 use Rattle.lig_layout.specs.declared.params.Params.{Params}
@@ -13,82 +15,96 @@ use Rattle.lig_merkle.specs.Merkle.{column_bytes}
 use Rattle.lig_merkle.specs.Shared.{shared_count}
 use Rattle.lig_proof.specs.declared.shared_proof.Proof2.{Proof2}
 use Rattle.lig_proof.specs.declared.fault.ProofFault.{ProofFault}
-use Rattle.lig_proof.specs.ProofBytes.{hashes_bytes, IsHash, AreValues}
+use Rattle.lig_proof.specs.ProofBytes.{head_bytes, hashes_bytes, IsHash, AreValues}
 use Rattle.lig_proof.specs.SharedProof.{IsProof2, opened_for, proof2_bytes}
-use Rattle.lig_proof.specs.Reading.{value_at, hash_at, Gives}
-use Rattle.lig_proof.specs.SharedReading.{head_in, proof2_of}
-use Rattle.lig_proof.proofs.Takes.{IsBytes, TakesExactly, bytes_after, front_bytes, bind_ok, or_else, required_ok, repeated_takes, hash_takes, value_takes}
-use Rattle.lig_proof.proofs.Whole.{each_of, hash_again, values_again}
-
-abbrev MAGIC : ℕ
-MAGIC = from_le_bytes w32 (codes "ligg")
-
-head_takes : (version : ℕ) (bytes : List ℕ) (x : Unit {0} × List ℕ) → IsBytes bytes → head_in version bytes ≡ Ok x → (bytes ≡ codes "ligg" ++ (to_le_bytes w32 version ++ x.1)) × IsBytes x.1
-unfolding head_in
-head_takes number bytes x h e =
-    let after = drop 8 bytes in
-    let name_test = from_le_bytes w32 (take 4 bytes) == MAGIC in
-    let version_test = from_le_bytes w32 (take 4 (drop 4 bytes)) == number in
-    let end : Unit {0} → Result (Unit {0} × List ℕ) ℕ = λ _. Ok (tt, after) in
-    let from_version : Unit {0} → Result (Unit {0} × List ℕ) ℕ = λ _. required version_test 4 >>= end in
-    let from_name : Unit {0} → Result (Unit {0} × List ℕ) ℕ = λ _. required name_test 0 >>= from_version in
-    let long = bind_ok (required (nat_le 8 (length bytes)) (length bytes)) from_name x e in
-    let name = bind_ok (required name_test 0) from_version x long.2 in
-    let version = bind_ok (required version_test 4) end x name.2 in
-    let room : 8 ≤ length bytes = leb-true 8 (length bytes) (required_ok (nat_le 8 (length bytes)) (length bytes) long.0 long.1) in
-    let is_name : from_le_bytes w32 (take 4 bytes) ≡ MAGIC = eqb-true (from_le_bytes w32 (take 4 bytes)) MAGIC (required_ok name_test 0 name.0 name.1) in
-    let is_version : from_le_bytes w32 (take 4 (drop 4 bytes)) ≡ number = eqb-true (from_le_bytes w32 (take 4 (drop 4 bytes))) number (required_ok version_test 4 version.0 version.1) in
-    let name_text : codes "ligg" ≡ take 4 bytes = le_bytes_4 (take 4 bytes) MAGIC (length-take-le 4 bytes (omega arith)) (front_bytes 4 bytes h) (sym is_name) in
-    let version_text : to_le_bytes w32 number ≡ take 4 (drop 4 bytes) = le_bytes_4 (take 4 (drop 4 bytes)) number (length-take-le 4 (drop 4 bytes) (omega (arith, length-drop 4 bytes))) (front_bytes 4 (drop 4 bytes) (bytes_after 4 bytes h)) (sym is_version) in
-    let rest : after ≡ x.1 = ap (λ q. q.1) (ap (or_else (tt, after)) version.2) in
-    let split : bytes ≡ take 4 bytes ++ (take 4 (drop 4 bytes) ++ after) =
-    sym (take-append-drop 4 bytes) ∙ ap (λ y. take 4 bytes ++ y) (sym (take-append-drop 4 (drop 4 bytes)))
-    ∙ ap (λ y. take 4 bytes ++ (take 4 (drop 4 bytes) ++ y)) (drop-drop 4 4 bytes) in
-    let Left : List ℕ → Type 0 = λ r. IsBytes r in (
-      split ∙ ap (λ y. y ++ (take 4 (drop 4 bytes) ++ after)) (sym name_text) ∙ ap (λ y. codes "ligg" ++ (y ++ after)) (sym version_text)
-          ∙ ap (λ y. codes "ligg" ++ (to_le_bytes w32 number ++ y)) rest,
-      subst Left rest (bytes_after 8 bytes h),
-    )
+use Rattle.lig_proof.specs.Reading.{refused, head_of, value_at, hash_at}
+use Rattle.lig_proof.specs.SharedReading.{proof2_of}
+use Rattle.lig_proof.proofs.Takes.{IsBytes, TakesExactly, bind_ok}
+use Rattle.lig_proof.proofs.Takes.{or_else, required_ok, repeated_takes, hash_takes, value_takes}
+use Rattle.lig_proof.proofs.Whole.{each_of, head_takes, head_again, hash_again, values_again}
 
 -- a column
 column_takes : (end m : ℕ) → TakesExactly (repeated (value_at end) m) column_bytes (AreValues m)
 column_takes end m = record {
   takes = λ bytes x rest h e.
-      let taken = repeated_takes (value_at end) (to_le_bytes w64) (λ value. value < P) (value_takes end) m bytes x rest h e in
+      let taken =
+      repeated_takes (value_at end) (to_le_bytes w64) (λ value. value < P)
+      (value_takes end) m bytes x rest h e in
       record { whole = taken.0; fits = record { count = taken.1; each = taken.2 }; left = taken.3 };
 }
 
 -- what is read is a proof, and the bytes are its spelling
-pub proof2_takes : (p : Params) (r1cs_bytes publics bytes : List ℕ) (proof : Proof2) → IsBytes bytes → proof2_of p r1cs_bytes publics bytes ≡ Ok proof
-    → IsProof2 p (opened_for p r1cs_bytes publics proof.root proof.polys) proof × (bytes ≡ proof2_bytes proof)
+pub proof2_takes : (p : Params) (r1cs_bytes publics bytes : List ℕ) (proof : Proof2) → IsBytes bytes
+    → proof2_of p r1cs_bytes publics bytes ≡ Ok proof
+    → IsProof2 p (opened_for p r1cs_bytes publics proof.root proof.polys) proof
+    × (bytes ≡ proof2_bytes proof)
 unfolding proof2_of proof2_bytes
 proof2_takes p r1cs_bytes publics bytes proof h e =
     let end = length bytes in
     let field = repeated (value_at end) (p.rows + 6) in
-    let opened = λ (root : List ℕ). λ (polys : List ℕ). opened_for p r1cs_bytes publics root polys in
-    let made : List ℕ → List ℕ → List (List ℕ) → List (List ℕ) → Proof2 = λ root polys columns nodes. record { root = root; polys = polys; columns = columns; nodes = nodes } in
-    let last : List ℕ → List ℕ → List (List ℕ) → (List (List ℕ) × List ℕ) → Result Proof2 ℕ = λ root polys columns nodes. required (length nodes.1 == 0) (end - length nodes.1) >>= λ _. Ok (made root polys columns nodes.0) in
-    let from_columns : List ℕ → List ℕ → (List (List ℕ) × List ℕ) → Result Proof2 ℕ = λ root polys columns. repeated (hash_at end) (shared_count p.depth (opened root polys)) columns.1 >>= last root polys columns.0 in
-    let from_polys : List ℕ → (List ℕ × List ℕ) → Result Proof2 ℕ = λ root polys. repeated field (length (opened root polys.0)) polys.1 >>= from_columns root polys.0 in
-    let from_root : (List ℕ × List ℕ) → Result Proof2 ℕ = λ root. repeated (value_at end) (18 * p.l) root.1 >>= from_polys root.0 in
-    let head = bind_ok (head_in 2 bytes) (λ head. hash_at end head.1 >>= from_root) proof e in
+    let opened =
+    λ (root : List ℕ). λ (polys : List ℕ). opened_for p r1cs_bytes publics root polys in
+    let made : List ℕ → List ℕ → List (List ℕ) → List (List ℕ)
+    → Proof2 =
+    λ root polys columns nodes. record {
+      root = root;
+      polys = polys;
+      columns = columns;
+      nodes = nodes;
+    } in
+    let last : List ℕ → List ℕ → List (List ℕ) → (List (List ℕ) × List ℕ)
+    → Result Proof2 ℕ =
+    λ root polys columns nodes. required (length nodes.1 == 0) (end - length nodes.1) >>=
+    λ _. Ok (made root polys columns nodes.0) in
+    let from_columns : List ℕ → List ℕ → (List (List ℕ) × List ℕ)
+    → Result Proof2 ℕ =
+    λ root polys columns. repeated (hash_at end) (shared_count p.depth (opened root polys))
+    columns.1 >>= last root polys columns.0 in
+    let from_polys : List ℕ → (List ℕ × List ℕ)
+    → Result Proof2 ℕ =
+    λ root polys. repeated field (length (opened root polys.0)) polys.1 >>= from_columns root
+    polys.0 in
+    let from_root : (List ℕ × List ℕ) → Result Proof2 ℕ =
+    λ root. repeated (value_at end) (18 * p.l) root.1 >>= from_polys root.0 in
+    let head = bind_ok (head_of 2 bytes) (λ head. hash_at end head.1 >>= from_root) proof e in
     let root = bind_ok (hash_at end head.0.1) from_root proof head.2 in
-    let polys = bind_ok (repeated (value_at end) (18 * p.l) root.0.1) (from_polys root.0.0) proof root.2 in
+    let polys =
+    bind_ok (repeated (value_at end) (18 * p.l) root.0.1) (from_polys root.0.0) proof root.2 in
     let due = opened root.0.0 polys.0.0 in
-    let columns = bind_ok (repeated field (length due) polys.0.1) (from_columns root.0.0 polys.0.0) proof polys.2 in
-    let nodes = bind_ok (repeated (hash_at end) (shared_count p.depth due) columns.0.1) (last root.0.0 polys.0.0 columns.0.0) proof columns.2 in
-    let whole = bind_ok (required (length nodes.0.1 == 0) (end - length nodes.0.1)) (λ _. Ok (made root.0.0 polys.0.0 columns.0.0 nodes.0.0)) proof nodes.2 in
+    let columns =
+    bind_ok (repeated field (length due) polys.0.1) (from_columns root.0.0 polys.0.0) proof
+    polys.2 in
+    let nodes =
+    bind_ok (repeated (hash_at end) (shared_count p.depth due) columns.0.1)
+    (last root.0.0 polys.0.0 columns.0.0) proof columns.2 in
+    let whole =
+    bind_ok (required (length nodes.0.1 == 0) (end - length nodes.0.1))
+    (λ _. Ok (made root.0.0 polys.0.0 columns.0.0 nodes.0.0)) proof nodes.2 in
     let headed = head_takes 2 bytes head.0 h head.1 in
     let rooted = (hash_takes end).takes head.0.1 root.0.0 root.0.1 headed.1 root.1 in
-    let valued = repeated_takes (value_at end) (to_le_bytes w64) (λ value. value < P) (value_takes end) (18 * p.l) root.0.1 polys.0.0 polys.0.1 rooted.left polys.1 in
-    let opened_columns = repeated_takes field column_bytes (AreValues (p.rows + 6)) (column_takes end (p.rows + 6)) (length due) polys.0.1 columns.0.0 columns.0.1 valued.3 columns.1 in
-    let hashed = repeated_takes (hash_at end) (λ hash. hash) IsHash (hash_takes end) (shared_count p.depth due) columns.0.1 nodes.0.0 nodes.0.1 opened_columns.3 nodes.1 in
-    let nothing : nodes.0.1 ≡ [] = nil_from_length nodes.0.1 (eqb-true (length nodes.0.1) 0 (required_ok (length nodes.0.1 == 0) (end - length nodes.0.1) whole.0 whole.1)) in
-    let is : made root.0.0 polys.0.0 columns.0.0 nodes.0.0 ≡ proof = ap (or_else (made root.0.0 polys.0.0 columns.0.0 nodes.0.0)) whole.2 in
+    let valued =
+    repeated_takes (value_at end) (to_le_bytes w64) (λ value. value < P) (value_takes end)
+    (18 * p.l) root.0.1 polys.0.0 polys.0.1 rooted.left polys.1 in
+    let opened_columns =
+    repeated_takes field column_bytes (AreValues (p.rows + 6)) (column_takes end (p.rows + 6))
+    (length due) polys.0.1 columns.0.0 columns.0.1 valued.3 columns.1 in
+    let hashed =
+    repeated_takes (hash_at end) (λ hash. hash) IsHash (hash_takes end)
+    (shared_count p.depth due) columns.0.1 nodes.0.0 nodes.0.1 opened_columns.3 nodes.1 in
+    let nothing : nodes.0.1 ≡ [] =
+    nil_from_length nodes.0.1
+    (eqb-true (length nodes.0.1) 0
+    (required_ok (length nodes.0.1 == 0) (end - length nodes.0.1) whole.0 whole.1)) in
+    let is : made root.0.0 polys.0.0 columns.0.0 nodes.0.0 ≡ proof =
+    ap (or_else (made root.0.0 polys.0.0 columns.0.0 nodes.0.0)) whole.2 in
     let Good : Proof2 → Type 0 = λ q. IsProof2 p (opened q.root q.polys) q
-    × (bytes ≡ codes "ligg" ++ (to_le_bytes w32 2 ++ (q.root ++ (column_bytes q.polys ++ (flat_map column_bytes q.columns ++ hashes_bytes q.nodes))))) in
-    let tail : columns.0.1 ≡ hashes_bytes nodes.0.0 = hashed.0 ∙ ap (λ r. hashes_bytes nodes.0.0 ++ r) nothing ∙ append-nil (hashes_bytes nodes.0.0) in
-    let body : polys.0.1 ≡ flat_map column_bytes columns.0.0 ++ hashes_bytes nodes.0.0 = opened_columns.0 ∙ ap (λ r. flat_map column_bytes columns.0.0 ++ r) tail in
+    × (bytes ≡ head_bytes 2
+    ++ (q.root
+    ++ (column_bytes q.polys ++ (flat_map column_bytes q.columns ++ hashes_bytes q.nodes)))) in
+    let tail : columns.0.1 ≡ hashes_bytes nodes.0.0 = hashed.0
+    ∙ ap (λ r. hashes_bytes nodes.0.0 ++ r) nothing ∙ append-nil (hashes_bytes nodes.0.0) in
+    let body : polys.0.1 ≡ flat_map column_bytes columns.0.0 ++ hashes_bytes nodes.0.0 =
+    opened_columns.0 ∙ ap (λ r. flat_map column_bytes columns.0.0 ++ r) tail in
     subst Good is (
       record {
         root = rooted.fits;
@@ -98,54 +114,69 @@ proof2_takes p r1cs_bytes publics bytes proof h e =
         nodes_count = hashed.1;
         nodes = hashed.2;
       },
-      headed.0 ∙ ap (λ r. codes "ligg" ++ (to_le_bytes w32 2 ++ r)) (rooted.whole ∙ ap (λ r. root.0.0 ++ r) (valued.0 ∙ ap (λ r. column_bytes polys.0.0 ++ r) body)),
+      headed.0 ∙ ap (λ r. head_bytes 2 ++ r)
+          (rooted.whole
+          ∙ ap (λ r. root.0.0 ++ r) (valued.0 ∙ ap (λ r. column_bytes polys.0.0 ++ r) body)),
     )
 
 -- ---- and back
 
-head_again : (rest : List ℕ) → head_in 2 (codes "ligg" ++ (to_le_bytes w32 2 ++ rest)) ≡ Ok (tt, rest)
-unfolding head_in
-head_again rest =
-    let bytes = codes "ligg" ++ (to_le_bytes w32 2 ++ rest) in
-    let room : leb 8 (length bytes) ≡ true = le-leb 8 (length bytes) (omega arith) in
-    rw room refl
-
 column_again : (end m : ℕ) → ReadsBack (repeated (value_at end) m) column_bytes (AreValues m)
 column_again end m = record { again = λ values rest fits. values_again end m values rest fits }
 
-columns_again : (end m n : ℕ) (columns : List (List ℕ)) (rest : List ℕ) → length columns ≡ n → AllByRecursion (AreValues m) columns
-    → repeated (repeated (value_at end) m) n (flat_map column_bytes columns ++ rest) ≡ Ok (columns, rest)
+columns_again : (end m n : ℕ) (columns : List (List ℕ)) (rest : List ℕ) → length columns ≡ n
+    → AllByRecursion (AreValues m) columns
+    → repeated (repeated (value_at end) m) n (flat_map column_bytes columns ++ rest)
+    ≡ Ok (columns, rest)
 columns_again end m n columns rest count fits =
-    ap (λ k. repeated (repeated (value_at end) m) k (flat_map column_bytes columns ++ rest)) (sym count)
-    ∙ repeated_again (repeated (value_at end) m) column_bytes (AreValues m) (column_again end m) columns rest (each_of (AreValues m) columns fits)
+    ap (λ k. repeated (repeated (value_at end) m) k (flat_map column_bytes columns ++ rest))
+    (sym count)
+    ∙ repeated_again (repeated (value_at end) m) column_bytes (AreValues m)
+    (column_again end m) columns rest (each_of (AreValues m) columns fits)
 
-nodes_again : (end n : ℕ) (nodes : List (List ℕ)) → length nodes ≡ n → AllByRecursion IsHash nodes → repeated (hash_at end) n (hashes_bytes nodes) ≡ Ok (nodes, [])
+nodes_again : (end n : ℕ) (nodes : List (List ℕ)) → length nodes ≡ n → AllByRecursion IsHash nodes
+    → repeated (hash_at end) n (hashes_bytes nodes) ≡ Ok (nodes, [])
 nodes_again end n nodes count fits =
-    ap (λ k. repeated (hash_at end) k (hashes_bytes nodes)) (sym count) ∙ ap (λ bytes. repeated (hash_at end) (length nodes) bytes) (sym (append-nil (hashes_bytes nodes)))
-    ∙ repeated_again (hash_at end) (λ hash. hash) IsHash (hash_again end) nodes [] (each_of IsHash nodes fits)
+    ap (λ k. repeated (hash_at end) k (hashes_bytes nodes)) (sym count)
+    ∙ ap (λ bytes. repeated (hash_at end) (length nodes) bytes)
+    (sym (append-nil (hashes_bytes nodes)))
+    ∙ repeated_again (hash_at end) (λ hash. hash) IsHash (hash_again end) nodes []
+    (each_of IsHash nodes fits)
 
 -- what is spelled so is read
-pub proof2_again : (p : Params) (r1cs_bytes publics : List ℕ) (proof : Proof2) → IsProof2 p (opened_for p r1cs_bytes publics proof.root proof.polys) proof → proof2_of p r1cs_bytes publics (proof2_bytes proof) ≡ Ok proof
+pub proof2_again : (p : Params) (r1cs_bytes publics : List ℕ) (proof : Proof2)
+    → IsProof2 p (opened_for p r1cs_bytes publics proof.root proof.polys) proof
+    → proof2_of p r1cs_bytes publics (proof2_bytes proof) ≡ Ok proof
 unfolding proof2_of proof2_bytes
 proof2_again p r1cs_bytes publics proof fits =
     let due = opened_for p r1cs_bytes publics proof.root proof.polys in
     let tail = hashes_bytes proof.nodes in
     let columns = flat_map column_bytes proof.columns ++ tail in
     let values = column_bytes proof.polys ++ columns in
-    let end = length (codes "ligg" ++ (to_le_bytes w32 2 ++ (proof.root ++ values))) in
-    let head = head_again (proof.root ++ values) in
+    let end = length (head_bytes 2 ++ (proof.root ++ values)) in
+    let head = head_again 2 (proof.root ++ values) refl in
     let root = (hash_again end).again proof.root values fits.root in
     let polys = values_again end (18 * p.l) proof.polys columns fits.polys in
-    let opened = columns_again end (p.rows + 6) (length due) proof.columns tail fits.opened_count fits.columns in
-    let nodes = nodes_again end (shared_count p.depth due) proof.nodes fits.nodes_count fits.nodes in
+    let opened =
+    columns_again end (p.rows + 6) (length due) proof.columns tail fits.opened_count
+    fits.columns in
+    let nodes =
+    nodes_again end (shared_count p.depth due) proof.nodes fits.nodes_count fits.nodes in
     rw (head, root, polys, opened, nodes) refl
 
-pub found2_of : (r : Result Proof2 ProofFault) (p : Params) (r1cs_bytes publics bytes : List ℕ) → IsBytes bytes → Gives r (proof2_of p r1cs_bytes publics bytes)
-    → IfOk r (λ proof. IsProof2 p (opened_for p r1cs_bytes publics proof.root proof.polys) proof × (bytes ≡ proof2_bytes proof))
-found2_of (Ok proof) p r1cs_bytes publics bytes h e = proof2_takes p r1cs_bytes publics bytes proof h e
+pub found2_of : (r : Result Proof2 ProofFault) (p : Params) (r1cs_bytes publics bytes : List ℕ)
+    → IsBytes bytes → Gives refused (λ x. x) r (proof2_of p r1cs_bytes publics bytes)
+    → IfOk r (λ proof. IsProof2 p (opened_for p r1cs_bytes publics proof.root proof.polys) proof
+    × (bytes ≡ proof2_bytes proof))
+found2_of (Ok proof) p r1cs_bytes publics bytes h e =
+    proof2_takes p r1cs_bytes publics bytes proof h e
 found2_of (Err fault) p r1cs_bytes publics bytes h e = tt
 
-pub only2_of : (r : Result Proof2 ProofFault) (p : Params) (r1cs_bytes publics bytes : List ℕ) (proof : Proof2) → Gives r (proof2_of p r1cs_bytes publics bytes)
-    → IsProof2 p (opened_for p r1cs_bytes publics proof.root proof.polys) proof → bytes ≡ proof2_bytes proof → Gives r (Ok proof)
+pub only2_of : (r : Result Proof2 ProofFault) (p : Params) (r1cs_bytes publics bytes : List ℕ)
+    (proof : Proof2) → Gives refused (λ x. x) r (proof2_of p r1cs_bytes publics bytes)
+    → IsProof2 p (opened_for p r1cs_bytes publics proof.root proof.polys) proof
+    → bytes ≡ proof2_bytes proof → Gives refused (λ x. x) r (Ok proof)
 only2_of r p r1cs_bytes publics bytes proof e fits is =
-    let read : proof2_of p r1cs_bytes publics bytes ≡ Ok proof = ap (proof2_of p r1cs_bytes publics) is ∙ proof2_again p r1cs_bytes publics proof fits in rw (← read) e
+    let read : proof2_of p r1cs_bytes publics bytes ≡ Ok proof =
+    ap (proof2_of p r1cs_bytes publics) is ∙ proof2_again p r1cs_bytes publics proof fits
+    in rw (← read) e

@@ -1,5 +1,6 @@
 -- The values of the polynomials that a prover sends.
-use Rattle.std.proofs.Common.{◌≡◌, ℕ, zero, suc, ◌+◌, ◌-◌, ◌*◌, ◌%◌, ◌^◌, ◌<◌, ◌≤◌, List, [], ◌∷◌, length, get_or, refl, sym, ap, subst, ◌∙◌, arith, zero-add, mul_comm}
+use Rattle.std.proofs.Common.{◌≡◌, ℕ, zero, suc, ◌+◌, ◌-◌, ◌*◌, ◌%◌, ◌^◌, ◌<◌, ◌≤◌, List, [], ◌∷◌}
+use Rattle.std.proofs.Common.{length, get_or, refl, sym, ap, subst, ◌∙◌, arith, zero-add, mul_comm}
 use Rattle.std.specs.List.{AllByRecursion}
 use Rattle.std.proofs.Math.Nat.{mod-mod}
 use Rattle.std.proofs.lemmas.Nat.{mod_below}
@@ -15,7 +16,8 @@ use Rattle.lig_proof.specs.ProofBytes.{AreValues}
 use Rattle.lig_proof.specs.Drawing.{number_at, numbers_of}
 use Rattle.lig_proof.specs.Masks.{drawn}
 use Rattle.lig_proof.specs.Tests.{alpha, rho, coefficients}
-use Rattle.lig_proof.specs.Values.{EncodedHasDegrees, CodeTestHasValues, LinearTestHasValues, ProductTestHasValues}
+use Rattle.lig_proof.specs.Values.{EncodedHasDegrees, CodeTestHasValues, LinearTestHasValues}
+use Rattle.lig_proof.specs.Values.{ProductTestHasValues}
 use Rattle.lig_proof.proofs.Draws.{length-numbers_of}
 use Rattle.lig_proof.proofs.Interpolants.{made_values}
 

@@ -1,5 +1,6 @@
 -- Bytes have one verdict.
-use Rattle.std.proofs.Common.{◌≡◌, ℕ, zero, suc, ◌+◌, ◌*◌, ◌%◌, ◌<◌, ◌≤◌, List, [], Result, Ok, Err, get_or, refl, sym, ap, ◌∙◌, arith, ⊎_elim}
+use Rattle.std.proofs.Common.{◌≡◌, ℕ, zero, suc, ◌+◌, ◌*◌, ◌%◌, ◌<◌, ◌≤◌, List, [], Result, Ok, Err}
+use Rattle.std.proofs.Common.{get_or, refl, sym, ap, ◌∙◌, arith, ⊎_elim}
 use Rattle.std.proofs.lemmas.Bool.{cases_order}
 use Rattle.gold_field.specs.declared.gold.TheConstants.{P}
 use Rattle.gold_ntt.specs.Polynomial.{eval_at}
@@ -12,15 +13,22 @@ use Rattle.lig_layout.specs.System.{combined, left_sides, equation_count}
 use Rattle.lig_proof.specs.declared.challenge.Challenges.{Challenges}
 use Rattle.lig_proof.specs.declared.shared_proof.AnyProof.{AnyProof}
 use Rattle.lig_proof.specs.declared.verdict.Verdict.{Verdict}
-use Rattle.lig_proof.specs.declared.verdict.Verdict.TheVariants.{Accepted, PublicCount, Malformed, BadPath, Proximity as NotNear, LinearSum as NotSum, LinearColumn as NotLinear, QuadZero as NotZero, QuadColumn as NotProduct}
+use Rattle.lig_proof.specs.declared.verdict.Verdict.TheVariants.{Accepted, PublicCount, Malformed}
+use Rattle.lig_proof.specs.declared.verdict.Verdict.TheVariants.{BadPath, Proximity as NotNear}
+use Rattle.lig_proof.specs.declared.verdict.Verdict.TheVariants.{LinearSum as NotSum}
+use Rattle.lig_proof.specs.declared.verdict.Verdict.TheVariants.{LinearColumn as NotLinear}
+use Rattle.lig_proof.specs.declared.verdict.Verdict.TheVariants.{QuadZero as NotZero}
+use Rattle.lig_proof.specs.declared.verdict.Verdict.TheVariants.{QuadColumn as NotProduct}
 use Rattle.lig_proof.specs.Transcript.{opened_columns}
 use Rattle.lig_proof.specs.Points.{code_point}
 use Rattle.lig_proof.specs.Columns.{linear_mask_value, row_value}
 use Rattle.lig_proof.specs.Tests.{r_numbers}
 use Rattle.lig_proof.specs.Proving.{AreSystems, challenges_for}
 use Rattle.lig_proof.specs.SharedReading.{any_proof_of}
-use Rattle.lig_proof.specs.Audit.{Audit, Proximity, LinearSum, LinearColumn, QuadZero, QuadColumn, IsTested}
-use Rattle.lig_proof.specs.Acceptance.{audit_of, root_in, polys_in, columns_in, indices_in, ways_in, Leads, IsFirstFailure, IsReadVerdict, VerdictsAreOne}
+use Rattle.lig_proof.specs.Audit.{Audit, Proximity, LinearSum, LinearColumn, QuadZero, QuadColumn}
+use Rattle.lig_proof.specs.Audit.{IsTested}
+use Rattle.lig_proof.specs.Acceptance.{audit_of, root_in, polys_in, columns_in, indices_in, ways_in}
+use Rattle.lig_proof.specs.Acceptance.{Leads, IsFirstFailure, IsReadVerdict, VerdictsAreOne}
 use Rattle.lig_proof.proofs.Interpolants.{polynomials_are_one}
 
 -- the tests by their place in the order
@@ -96,66 +104,97 @@ most NotProduct = omega arith
 most _ = omega arith
 
 before : (a : Audit) (v w : Verdict) → IsTested a v → IsTested a w → passed v < passed w → ⊥
-before a v w h k l = let end = most w in fails a v h (omega arith) (passes a w k (passed v) l (omega arith))
+before a v w h k l =
+    let end = most w in fails a v h (omega arith) (passes a w k (passed v) l (omega arith))
 
 tested_once : (a : Audit) (v w : Verdict) → IsTested a v → IsTested a w → v ≡ w
 tested_once a v w h k =
-    ⊎_elim (λ e. same_place a v w h k e) (λ o. absurd (⊎_elim (λ l. before a v w h k l) (λ g. before a w v k h g) o)) (cases_order (passed v) (passed w))
+    ⊎_elim (λ e. same_place a v w h k e)
+    (λ o. absurd (⊎_elim (λ l. before a v w h k l) (λ g. before a w v k h g) o))
+    (cases_order (passed v) (passed w))
 
 -- the polynomials of the system count only in the rows that there are
 abbrev AreSame : Params → (ℕ → ℕ → List ℕ) → (ℕ → ℕ → List ℕ) → Type 0
 AreSame p first second = (t k : ℕ) → t < 2 → k < p.rows → first t k ≡ second t k
 
-module _ (f : File) (publics : List ℕ) (c : Challenges) (indices : List ℕ) (proof : AnyProof) (first second : ℕ → ℕ → List ℕ) (same : AreSame (params_of f) first second) where
-  linear_moved : LinearColumn (audit_of f publics c first indices proof) → LinearColumn (audit_of f publics c second indices proof)
+module _ (f : File) (publics : List ℕ) (c : Challenges) (indices : List ℕ) (proof : AnyProof)
+    (first second : ℕ → ℕ → List ℕ) (same : AreSame (params_of f) first second) where
+  linear_moved : LinearColumn (audit_of f publics c first indices proof)
+      → LinearColumn (audit_of f publics c second indices proof)
   linear_moved h = λ t q l m.
       let p = params_of f in
       let x = code_point p (get_or indices q 0) in
       let column = get_or (columns_in proof) q [] in
       h t q l m ∙ ap (λ n. (linear_mask_value p column t + n) % P)
-      (sum_same p.rows (λ k. eval_at (first t k) x * row_value column k) (λ k. eval_at (second t k) x * row_value column k) (λ k r. ap (λ s. eval_at s x * row_value column k) (same t k l r)))
+      (sum_same p.rows (λ k. eval_at (first t k) x * row_value column k)
+      (λ k. eval_at (second t k) x * row_value column k)
+      (λ k r. ap (λ s. eval_at s x * row_value column k) (same t k l r)))
 
-back : (p : Params) (first second : ℕ → ℕ → List ℕ) → AreSame p first second → AreSame p second first
+back : (p : Params) (first second : ℕ → ℕ → List ℕ) → AreSame p first second
+    → AreSame p second first
 back p first second same = λ t k l r. sym (same t k l r)
 
-module _ (f : File) (publics : List ℕ) (c : Challenges) (indices : List ℕ) (proof : AnyProof) (first second : ℕ → ℕ → List ℕ) (same : AreSame (params_of f) first second) where
-  tested_moved : (v : Verdict) → IsTested (audit_of f publics c first indices proof) v → IsTested (audit_of f publics c second indices proof) v
-  tested_moved Accepted h = (h.0, h.1, linear_moved f publics c indices proof first second same h.2, h.3, h.4)
+module _ (f : File) (publics : List ℕ) (c : Challenges) (indices : List ℕ) (proof : AnyProof)
+    (first second : ℕ → ℕ → List ℕ) (same : AreSame (params_of f) first second) where
+  tested_moved : (v : Verdict) → IsTested (audit_of f publics c first indices proof) v
+      → IsTested (audit_of f publics c second indices proof) v
+  tested_moved Accepted h =
+      (h.0, h.1, linear_moved f publics c indices proof first second same h.2, h.3, h.4)
   tested_moved NotNear h = h
   tested_moved NotSum h = h
-  tested_moved NotLinear h = (h.0, h.1, λ holds. h.2 (linear_moved f publics c indices proof second first (back (params_of f) first second same) holds))
-  tested_moved NotZero h = (h.0, h.1, linear_moved f publics c indices proof first second same h.2, h.3)
-  tested_moved NotProduct h = (h.0, h.1, linear_moved f publics c indices proof first second same h.2, h.3, h.4)
+  tested_moved NotLinear h = (
+    h.0,
+    h.1,
+    λ holds. h.2
+        (linear_moved f publics c indices proof second first (back (params_of f) first second same)
+        holds),
+  )
+  tested_moved NotZero h =
+      (h.0, h.1, linear_moved f publics c indices proof first second same h.2, h.3)
+  tested_moved NotProduct h =
+      (h.0, h.1, linear_moved f publics c indices proof first second same h.2, h.3, h.4)
   tested_moved _ h = absurd h
 
-systems_once : (f : File) (c : Challenges) (first second : ℕ → ℕ → List ℕ) → IsParams (params_of f) → AreSystems f c first → AreSystems f c second → AreSame (params_of f) first second
+systems_once : (f : File) (c : Challenges) (first second : ℕ → ℕ → List ℕ) → IsParams (params_of f)
+    → AreSystems f c first → AreSystems f c second → AreSame (params_of f) first second
 systems_once f c first second h one two = λ t k l r.
     let p = params_of f in
-    polynomials_are_one p (row_at p (combined (p.rows * p.l) (r_numbers (equation_count f) c t) (left_sides p f)) k) (first t k) (second t k) h (one t l k r) (two t l k r)
+    polynomials_are_one p
+    (row_at p (combined (p.rows * p.l) (r_numbers (equation_count f) c t) (left_sides p f)) k)
+    (first t k) (second t k) h (one t l k r) (two t l k r)
 
 -- of n ways the first that fails is one, and the tests say one thing
-module _ (n : ℕ) (LeadsAt : ℕ → Type 0) (Tested : Verdict → Type 0) (once : (v w : Verdict) → Tested v → Tested w → v ≡ w) where
-  places_once : (a b : ℕ) → (a < n) × ((q : ℕ) → q < a → LeadsAt q) × (¬ LeadsAt a) → (b < n) × ((q : ℕ) → q < b → LeadsAt q) × (¬ LeadsAt b) → a ≡ b
+module _ (n : ℕ) (LeadsAt : ℕ → Type 0) (Tested : Verdict → Type 0) (once : (v w : Verdict)
+    → Tested v → Tested w → v ≡ w) where
+  places_once : (a b : ℕ) → (a < n) × ((q : ℕ) → q < a → LeadsAt q) × (¬ LeadsAt a)
+      → (b < n) × ((q : ℕ) → q < b → LeadsAt q) × (¬ LeadsAt b) → a ≡ b
   places_once a b h k =
-      ⊎_elim (λ e. e) (λ o. absurd (⊎_elim (λ l. h.2 (k.1 a l)) (λ g. k.2 (h.1 b g)) o)) (cases_order a b)
+      ⊎_elim (λ e. e) (λ o. absurd (⊎_elim (λ l. h.2 (k.1 a l)) (λ g. k.2 (h.1 b g)) o))
+      (cases_order a b)
 
-  failures_once : (v w : Verdict) → IsFirstFailure n LeadsAt (Tested v) v → IsFirstFailure n LeadsAt (Tested w) w → v ≡ w
+  failures_once : (v w : Verdict) → IsFirstFailure n LeadsAt (Tested v) v
+      → IsFirstFailure n LeadsAt (Tested w) w → v ≡ w
   failures_once (BadPath a) (BadPath b) h k = ap (λ i. BadPath i) (places_once a b h k)
   failures_once (BadPath a) _ h k = absurd (h.2 (k.0 a h.0))
   failures_once _ (BadPath b) h k = absurd (k.2 (h.0 b k.0))
   failures_once v w h k = once v w h.1 k.1
 
-read_once : (r1cs_bytes : List ℕ) (f : File) (publics : List ℕ) (reading : Result AnyProof ℕ) (v w : Verdict) → IsParams (params_of f)
-    → IsReadVerdict r1cs_bytes f publics reading v → IsReadVerdict r1cs_bytes f publics reading w → v ≡ w
+read_once : (r1cs_bytes : List ℕ) (f : File) (publics : List ℕ) (reading : Result AnyProof ℕ)
+    (v w : Verdict) → IsParams (params_of f)
+    → IsReadVerdict r1cs_bytes f publics reading v → IsReadVerdict r1cs_bytes f publics reading w
+    → v ≡ w
 read_once r1cs_bytes f publics (Err offset) v w params h k = h ∙ sym k
 read_once r1cs_bytes f publics (Ok proof) v w params h k =
     let p = params_of f in
     let c = challenges_for r1cs_bytes f publics (root_in proof) in
     let indices = indices_in p (opened_columns p c.first (polys_in proof)) proof in
     let audit = λ (system : ℕ → ℕ → List ℕ). audit_of f publics c system indices proof in
-    let Tested : Verdict → Type 0 = λ x. (system : ℕ → ℕ → List ℕ) × AreSystems f c system × IsTested (audit system) x in
+    let Tested : Verdict → Type 0 =
+    λ x. (system : ℕ → ℕ → List ℕ) × AreSystems f c system × IsTested (audit system) x in
     let once : (x y : Verdict) → Tested x → Tested y → x ≡ y = λ x y one two.
-    tested_once (audit two.0) x y (tested_moved f publics c indices proof one.0 two.0 (systems_once f c one.0 two.0 params one.1 two.1) x one.2) two.2 in
+    tested_once (audit two.0) x y
+    (tested_moved f publics c indices proof one.0 two.0
+    (systems_once f c one.0 two.0 params one.1 two.1) x one.2) two.2 in
     failures_once (ways_in proof) (Leads p indices proof) Tested once v w h k
 
 pub verdicts_are_one : VerdictsAreOne
@@ -163,4 +202,5 @@ verdicts_are_one r1cs_bytes f publics bytes PublicCount PublicCount params h k =
 verdicts_are_one r1cs_bytes f publics bytes PublicCount _ params h k = absurd (h k.0)
 verdicts_are_one r1cs_bytes f publics bytes _ PublicCount params h k = absurd (k h.0)
 verdicts_are_one r1cs_bytes f publics bytes v w params h k =
-    read_once r1cs_bytes f publics (any_proof_of (params_of f) r1cs_bytes publics bytes) v w params h.1 k.1
+    read_once r1cs_bytes f publics (any_proof_of (params_of f) r1cs_bytes publics bytes) v w params
+    h.1 k.1

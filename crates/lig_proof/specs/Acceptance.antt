@@ -1,5 +1,6 @@
 -- The verdict on bytes that are offered as a proof.
-use Rattle.std.specs.Prelude.{◌≡◌, ◌≢◌, ℕ, ◌+◌, ◌<◌, List, [], length, map, slice_index, slice_index_or, Result, Ok, Err}
+use Rattle.std.specs.Prelude.{◌≡◌, ◌≢◌, ℕ, ◌+◌, ◌<◌, List, [], length, map, slice_index}
+use Rattle.std.specs.Prelude.{slice_index_or, Result, Ok, Err}
 use Rattle.iden_files.specs.File.{File}
 use Rattle.lig_layout.specs.declared.params.Params.{Params}
 use Rattle.lig_layout.specs.Sizes.{params_of, IsParams}

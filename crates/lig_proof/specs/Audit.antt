@@ -1,6 +1,7 @@
 -- The tests of an auditor, by name and in their order. A value of a polynomial is the plain sum of
 -- its coefficients times the powers of the point.
-use Rattle.std.specs.Prelude.{◌≡◌, ℕ, ◌+◌, ◌-◌, ◌*◌, ◌%◌, ◌<◌, List, length, slice_index, slice_index_or, []}
+use Rattle.std.specs.Prelude.{◌≡◌, ℕ, ◌+◌, ◌-◌, ◌*◌, ◌%◌, ◌<◌, List, length, slice_index}
+use Rattle.std.specs.Prelude.{slice_index_or, []}
 use Rattle.gold_field.specs.declared.gold.TheConstants.{P}
 use Rattle.gold_ntt.specs.Polynomial.{sum_to, eval_at}
 use Rattle.lig_layout.specs.declared.params.Params.{Params}
@@ -8,7 +9,8 @@ use Rattle.lig_proof.specs.declared.challenge.Challenges.{Challenges}
 use Rattle.lig_proof.specs.declared.verdict.Verdict.{Verdict}
 use Rattle.lig_proof.specs.declared.verdict.Verdict.TheVariants as verdicts
 use Rattle.lig_proof.specs.Points.{message_point, code_point}
-use Rattle.lig_proof.specs.Columns.{row_value, code_mask_value, linear_mask_value, product_mask_value}
+use Rattle.lig_proof.specs.Columns.{row_value, code_mask_value, linear_mask_value}
+use Rattle.lig_proof.specs.Columns.{product_mask_value}
 use Rattle.lig_proof.specs.Tests.{Polynomials, alpha, r_numbers, rho}
 
 -- what an auditor tests: the right sides of the system, the polynomials of its rows combined by r

@@ -6,11 +6,14 @@ use Rattle.gold_field.specs.declared.gold.TheConstants.{P}
 use Rattle.lig_layout.specs.declared.params.Params.{Params}
 use Rattle.lig_merkle.specs.Merkle.{column_bytes}
 use Rattle.lig_proof.specs.declared.proof.Proof.{Proof}
-use Rattle.lig_proof.specs.declared.challenge.TheConstants.{OPENED}
+
+-- how many columns are opened
+abbrev pub opened_count : ℕ
+opened_count = 96
 
 -- a name and a version
-abbrev pub head_bytes : List ℕ
-head_bytes = codes "ligg" ++ to_le_bytes w32 1
+abbrev pub head_bytes : ℕ → List ℕ
+head_bytes version = codes "ligg" ++ to_le_bytes w32 version
 
 abbrev pub hashes_bytes : List (List ℕ) → List ℕ
 hashes_bytes hashes = flat_map (λ hash. hash) hashes
@@ -24,7 +27,8 @@ openings_bytes (column ∷ columns) (path ∷ paths) =
 
 unfoldable pub proof_bytes : Proof → List ℕ
 proof_bytes proof =
-    head_bytes ++ (proof.root ++ (column_bytes proof.polys ++ openings_bytes proof.columns proof.paths))
+    let openings = openings_bytes proof.columns proof.paths in
+    head_bytes 1 ++ (proof.root ++ (column_bytes proof.polys ++ openings))
 
 -- 32 bytes
 pub record IsHash (hash : List ℕ) : Type 0 where
@@ -44,7 +48,7 @@ pub record IsPath (depth : ℕ) (path : List (List ℕ)) : Type 0 where
 pub record IsProof (p : Params) (proof : Proof) : Type 0 where
   pub root : IsHash proof.root
   pub polys : AreValues (18 * p.l) proof.polys
-  pub opened : length proof.columns ≡ OPENED
+  pub opened : length proof.columns ≡ opened_count
   pub columns : AllByRecursion (AreValues (p.rows + 6)) proof.columns
-  pub paths_opened : length proof.paths ≡ OPENED
+  pub paths_opened : length proof.paths ≡ opened_count
   pub paths : AllByRecursion (IsPath p.depth) proof.paths

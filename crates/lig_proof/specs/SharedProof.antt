@@ -1,12 +1,11 @@
 -- Proofs of version 2, and the one spelling of each.
-use Rattle.std.specs.Prelude.{◌≡◌, ℕ, ◌+◌, ◌*◌, List, ◌++◌, length, filter, codes}
+use Rattle.std.specs.Prelude.{◌≡◌, ℕ, ◌+◌, ◌*◌, List, ◌++◌, length, filter}
 use Rattle.std.specs.List.{AllByRecursion, flat_map, range_with_len}
-use Rattle.std.specs.Int.{w32, to_le_bytes}
 use Rattle.lig_layout.specs.declared.params.Params.{Params}
 use Rattle.lig_merkle.specs.Merkle.{column_bytes}
 use Rattle.lig_merkle.specs.Shared.{is_known, shared_count}
 use Rattle.lig_proof.specs.declared.shared_proof.Proof2.{Proof2}
-use Rattle.lig_proof.specs.ProofBytes.{hashes_bytes, AreValues, IsHash}
+use Rattle.lig_proof.specs.ProofBytes.{head_bytes, hashes_bytes, AreValues, IsHash}
 use Rattle.lig_proof.specs.Transcript.{first_key, opened_columns}
 
 -- the columns that were drawn, in order and each once
@@ -20,8 +19,9 @@ opened_for p r1cs_bytes publics root polys =
 
 unfoldable pub proof2_bytes : Proof2 → List ℕ
 proof2_bytes proof =
-    codes "ligg" ++ (to_le_bytes w32 2 ++ (proof.root ++ (column_bytes proof.polys
-    ++ (flat_map column_bytes proof.columns ++ hashes_bytes proof.nodes))))
+    let columns = flat_map column_bytes proof.columns in
+    head_bytes 2 ++ (proof.root ++ (column_bytes proof.polys
+    ++ (columns ++ hashes_bytes proof.nodes)))
 
 -- a proof for a matrix of these sizes that opens these columns
 pub record IsProof2 (p : Params) (opened : List ℕ) (proof : Proof2) : Type 0 where

@@ -1,43 +1,34 @@
 -- The proof of version 2 that bytes spell, or the place of the first byte that is wrong; and the
 -- same for a proof of either version. Which columns are due follows from what stands before them:
 -- the relation, the public values, the root and the polynomials give their indices.
-use Rattle.std.specs.Prelude.{◌==◌, ℕ, ◌+◌, ◌-◌, ◌*◌, List, length, take, drop, codes, Result, Ok, nat_le, if◌then◌else◌}
-use Rattle.std.specs.Int.{w32, from_le_bytes}
+use Rattle.std.specs.Prelude.{◌==◌, ℕ, ◌+◌, ◌-◌, ◌*◌, List, length, Result, Ok, if◌then◌else◌}
 use Rattle.binary_format.specs.Reading.{◌>>=◌, required, repeated}
 use Rattle.lig_layout.specs.declared.params.Params.{Params}
 use Rattle.lig_merkle.specs.Shared.{shared_count}
 use Rattle.lig_proof.specs.declared.shared_proof.Proof2.{Proof2}
 use Rattle.lig_proof.specs.declared.shared_proof.AnyProof.{AnyProof}
 use Rattle.lig_proof.specs.declared.shared_proof.AnyProof.TheVariants.{First, Second}
-use Rattle.lig_proof.specs.Reading.{value_at, hash_at, proof_of}
+use Rattle.lig_proof.specs.Reading.{version_at, head_of, value_at, hash_at, proof_of}
 use Rattle.lig_proof.specs.ProofBytes.{IsProof}
 use Rattle.lig_proof.specs.SharedProof.{IsProof2, opened_for}
 
--- the number that follows the name
-abbrev pub version_at : List ℕ → ℕ
-version_at bytes = from_le_bytes w32 (take 4 (drop 4 bytes))
-
--- The name and this version. Fewer bytes than both have are refused before either is looked at.
-unfoldable pub head_in : ℕ → List ℕ → Result (Unit {0} × List ℕ) ℕ
-head_in version bytes = do
-  long ← required (nat_le 8 (length bytes)) (length bytes)
-  name ← required (from_le_bytes w32 (take 4 bytes) == from_le_bytes w32 (codes "ligg")) 0
-  version ← required (version_at bytes == version) 4
-  Ok (tt, drop 8 bytes)
+-- What stands behind the polynomials: the columns that are due and the shared nodes, up to the end.
+abbrev pub rest_of : Params → ℕ → List ℕ → List ℕ → List ℕ → List ℕ → Result Proof2 ℕ
+rest_of p end opened root polys bytes = do
+  columns ← repeated (repeated (value_at end) (p.rows + 6)) (length opened) bytes
+  nodes ← repeated (hash_at end) (shared_count p.depth opened) columns.1
+  whole ← required (length nodes.1 == 0) (end - length nodes.1)
+  Ok (record { root = root; polys = polys; columns = columns.0; nodes = nodes.0 })
 
 -- All of the bytes.
 unfoldable pub proof2_of : Params → List ℕ → List ℕ → List ℕ → Result Proof2 ℕ
 proof2_of p r1cs_bytes publics bytes = do
   let end = length bytes
-  let column = repeated (value_at end) (p.rows + 6)
-  head ← head_in 2 bytes
+  head ← head_of 2 bytes
   root ← hash_at end head.1
   polys ← repeated (value_at end) (18 * p.l) root.1
   let opened = opened_for p r1cs_bytes publics root.0 polys.0
-  columns ← repeated column (length opened) polys.1
-  nodes ← repeated (hash_at end) (shared_count p.depth opened) columns.1
-  whole ← required (length nodes.1 == 0) (end - length nodes.1)
-  Ok (record { root = root.0; polys = polys.0; columns = columns.0; nodes = nodes.0 })
+  rest_of p end opened root.0 polys.0 polys.1
 
 -- A proof of version 2 where the bytes say so, else one of version 1.
 unfoldable pub any_proof_of : Params → List ℕ → List ℕ → List ℕ → Result AnyProof ℕ

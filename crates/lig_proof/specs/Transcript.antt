@@ -8,7 +8,7 @@ use Rattle.lig_layout.specs.declared.params.Params.{Params}
 use Rattle.lig_merkle.specs.Merkle.{column_bytes}
 use Rattle.lig_proof.specs.Drawing.{numbers_of}
 use Rattle.lig_proof.specs.declared.challenge.Challenges.{Challenges}
-use Rattle.lig_proof.specs.declared.challenge.TheConstants.{OPENED}
+use Rattle.lig_proof.specs.ProofBytes.{opened_count}
 
 -- a word of the ChaCha20 key stream of a key of 32 bytes, stream 0
 abbrev pub key_word : List ℕ → ℕ → ℕ
@@ -21,7 +21,9 @@ numbers key place count = numbers_of (key_of key) 0 place count
 -- the first key, of the relation, the public values and the root
 abbrev pub first_key : List ℕ → List ℕ → List ℕ → List ℕ
 first_key r1cs_bytes publics root =
-    sha256 (codes "circom_gold 1" ++ (sha256 r1cs_bytes ++ (to_le_bytes w32 (length publics) ++ (column_bytes publics ++ root))))
+    sha256 (codes "circom_gold 1"
+    ++ (sha256 r1cs_bytes
+    ++ (to_le_bytes w32 (length publics) ++ (column_bytes publics ++ root))))
 
 -- for each of two repetitions a number for each row, each equation and each row of products
 abbrev pub challenges_of : Params → ℕ → List ℕ → Challenges
@@ -33,7 +35,8 @@ challenges_of p equations first =
       first = first;
       alpha = numbers first 0 p.rows ++ numbers first second p.rows;
       r = numbers first r_at equations ++ numbers first (second + r_at) equations;
-      rho = numbers first rho_at p.constraint_rows ++ numbers first (second + rho_at) p.constraint_rows;
+      rho = numbers first rho_at p.constraint_rows
+          ++ numbers first (second + rho_at) p.constraint_rows;
     }
 
 -- the second key, of the first and the polynomials
@@ -42,4 +45,6 @@ second_key first polys = sha256 (2 ∷ (first ++ column_bytes polys))
 
 -- the columns that are opened, one for each word; a column may come more than once
 abbrev pub opened_columns : Params → List ℕ → List ℕ → List ℕ
-opened_columns p first polys = map (λ q. key_word (second_key first polys) q % (8 * p.l)) (range_with_len 0 OPENED)
+opened_columns p first polys =
+    let key = second_key first polys in
+    map (λ q. key_word key q % (8 * p.l)) (range_with_len 0 opened_count)

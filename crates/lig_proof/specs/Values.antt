@@ -1,5 +1,5 @@
--- The values of the polynomials that a prover sends: at each point they are those of the rows and of
--- the masks, combined.
+-- The values of the polynomials that a prover sends: at each point they are those of the rows and
+-- of the masks, combined.
 use Rattle.std.specs.Prelude.{◌≡◌, ℕ, ◌+◌, ◌-◌, ◌*◌, ◌%◌, ◌<◌, List}
 use Rattle.gold_field.specs.declared.gold.TheConstants.{P}
 use Rattle.gold_ntt.specs.Polynomial.{sum_to, eval_at}

@@ -2,8 +2,9 @@
 
 ghost use Rattle.std.specs.Prelude.{◌≡◌, ◌==◌, ◌<◌, ◌≤◌, ◌^◌, IfOk, false, length};
 ghost use Rattle.lig_layout.specs.Sizes.{IsParams};
-ghost use Rattle.lig_proof.specs.Reading.{Gives};
-ghost use Rattle.lig_proof.specs.SharedReading.{any_proof_of, version_at, IsAny};
+ghost use Rattle.binary_format.specs.Reading.{Gives};
+ghost use Rattle.lig_proof.specs.Reading.{refused, version_at};
+ghost use Rattle.lig_proof.specs.SharedReading.{any_proof_of, IsAny};
 
 use crate::fault::ProofFault;
 use crate::read::read_proof;
@@ -26,7 +27,8 @@ pub fn read_any(
     requires publics { length publics.now < 2 ^ 32 }
     ensures found { IfOk result (λ proof. IsAny params.now r1cs_bytes.now publics.now proof) }
     // Which proof it is, or which fault, and where.
-    ensures exact { Gives result (any_proof_of params.now r1cs_bytes.now publics.now bytes.now) }
+    ensures exact { Gives refused (λ x. x) result
+        (any_proof_of params.now r1cs_bytes.now publics.now bytes.now) }
 {
     if is_second(bytes) {
         match read_proof2(alloc, params, r1cs_bytes, publics, bytes) {

@@ -5,8 +5,8 @@ use lig_merkle::Hash;
 /// How many columns a proof opens.
 pub const OPENED: u32 = 96;
 
-/// What the verifier would draw before the polynomials are sent. Each list has repetition 0 and then
-/// repetition 1.
+/// What the verifier would draw before the polynomials are sent. Each list has repetition 0 and
+/// then repetition 1.
 #[derive(Debug, Drop)]
 pub struct Challenges {
     /// The key that the numbers are drawn from.

@@ -24,7 +24,8 @@ fn next_number(words: &mut ChaCha20Rng) -> Gold
 pub fn next_column(words: &mut ChaCha20Rng, columns: u32) -> u32
     requires some { 0 < columns }
     requires left { words.old.word_pos + 1 < 2 ^ 68 }
-    ensures value { result ≡ word_at 10 words.old.key words.old.stream words.old.word_pos % columns }
+    ensures value { result
+        ≡ word_at 10 words.old.key words.old.stream words.old.word_pos % columns }
     ensures after { words.new ≡ record words.old { word_pos = words.old.word_pos + 1 } }
 {
     words.next_word() % columns
@@ -33,8 +34,11 @@ pub fn next_column(words: &mut ChaCha20Rng, columns: u32) -> u32
 /// Draws so many numbers, and appends them.
 pub fn draw(out: &mut Vec<Gold>, words: &mut ChaCha20Rng, count: u32) -> Result<(), AllocError>
     requires { words.old.word_pos + 2 * count < 2 ^ 68 }
-    ensures drawn { OnOk result (out.new.items ≡ out.old.items ++ numbers_of words.old.key words.old.stream words.old.word_pos count) }
-    ensures after { OnOk result (words.new ≡ record words.old { word_pos = words.old.word_pos + 2 * count }) }
+    ensures drawn { OnOk result
+        (out.new.items ≡ out.old.items
+        ++ numbers_of words.old.key words.old.stream words.old.word_pos count) }
+    ensures after { OnOk result
+        (words.new ≡ record words.old { word_pos = words.old.word_pos + 2 * count }) }
 {
     for _ in 0..count {
         out.push(next_number(words))?;

@@ -6,8 +6,8 @@ use std::alloc::{AllocError, AllocFailed};
 /// Why bytes were not read as a proof.
 #[derive(Clone, Copy, Debug, PartialEq, Eq)]
 pub enum ProofFault {
-    /// The bytes are no proof. The offset is that of the first byte that is wrong, counted from 0; it
-    /// is the length where the bytes end too early.
+    /// The bytes are no proof. The offset is that of the first byte that is wrong, counted from 0;
+    /// it is the length where the bytes end too early.
     Malformed { offset: u64 },
     OutOfMemory,
 }

@@ -1,8 +1,8 @@
-//! The fields of a proof.
+//! The head and the fields of a proof.
 
-ghost use Rattle.std.specs.Prelude.{◌≡◌};
-ghost use Rattle.binary_format.specs.Reading.{repeated};
-ghost use Rattle.lig_proof.specs.Reading.{Reads, value_at, hash_at};
+ghost use Rattle.std.specs.Prelude.{◌≡◌, length};
+ghost use Rattle.binary_format.specs.Reading.{Reads, repeated};
+ghost use Rattle.lig_proof.specs.Reading.{refused, head_of, value_at, hash_at};
 
 use crate::fault::ProofFault;
 use binary_format::Reader;
@@ -10,10 +10,35 @@ use gold_field::Gold;
 use lig_merkle::Hash;
 use std::alloc::Global;
 
+// The first four bytes, as a number whose lowest byte stands first.
+const MAGIC: u32 = 0x6767_696c;
+
+/// What a proof of this version begins with.
+#[tactic(auto, unfolding(crate::specs::Reading::head_of))]
+pub fn read_head(fields: &mut Reader<'_>, version: u32) -> Result<(), ProofFault>
+    requires { fields.old.end ≡ length fields.old.rest.now }
+    ensures read { Reads refused (λ x. x) fields.new.rest.now result
+        (head_of version fields.old.rest.now) }
+    ensures end { fields.new.end ≡ fields.old.end }
+{
+    let end = fields.end;
+    let (Some(magic), Some(named)) = (fields.u32(), fields.u32()) else {
+        return Err(ProofFault::Malformed { offset: end });
+    };
+    if magic != MAGIC {
+        return Err(ProofFault::Malformed { offset: 0 });
+    }
+    if named != version {
+        return Err(ProofFault::Malformed { offset: 4 });
+    }
+    Ok(())
+}
+
 /// The next number of the field.
 #[tactic(auto, unfolding(crate::specs::Reading::value_at))]
 pub fn next_value(fields: &mut Reader<'_>) -> Result<Gold, ProofFault>
-    ensures read { Reads (λ v. v) fields.new.rest.now result (value_at fields.old.end fields.old.rest.now) }
+    ensures read { Reads refused (λ v. v) fields.new.rest.now result
+        (value_at fields.old.end fields.old.rest.now) }
     ensures end { fields.new.end ≡ fields.old.end }
 {
     let offset = fields.offset();
@@ -29,7 +54,8 @@ pub fn next_value(fields: &mut Reader<'_>) -> Result<Gold, ProofFault>
 /// The next hash.
 #[tactic(auto, unfolding(crate::specs::Reading::hash_at))]
 pub fn next_hash(fields: &mut Reader<'_>) -> Result<Hash, ProofFault>
-    ensures read { Reads (λ h. h) fields.new.rest.now result (hash_at fields.old.end fields.old.rest.now) }
+    ensures read { Reads refused (λ h. h) fields.new.rest.now result
+        (hash_at fields.old.end fields.old.rest.now) }
     ensures end { fields.new.end ≡ fields.old.end }
 {
     let Some(bytes) = fields.bytes(32) else {
@@ -46,7 +72,8 @@ pub fn next_values(
     fields: &mut Reader<'_>,
     count: u32,
 ) -> Result<Vec<Gold>, ProofFault>
-    ensures read { Reads (λ v. v.items) fields.new.rest.now result (repeated (value_at fields.old.end) count fields.old.rest.now) }
+    ensures read { Reads refused (λ v. v.items) fields.new.rest.now result
+        (repeated (value_at fields.old.end) count fields.old.rest.now) }
     ensures end { fields.new.end ≡ fields.old.end }
 {
     let mut values = Vec::with_capacity(alloc, (count as usize).min(fields.rest.len() / 8))?;
@@ -63,7 +90,8 @@ pub fn next_hashes(
     fields: &mut Reader<'_>,
     count: u32,
 ) -> Result<Vec<Hash>, ProofFault>
-    ensures read { Reads (λ v. v.items) fields.new.rest.now result (repeated (hash_at fields.old.end) count fields.old.rest.now) }
+    ensures read { Reads refused (λ v. v.items) fields.new.rest.now result
+        (repeated (hash_at fields.old.end) count fields.old.rest.now) }
     ensures end { fields.new.end ≡ fields.old.end }
 {
     let mut hashes = Vec::with_capacity(alloc, (count as usize).min(fields.rest.len() / 32))?;

@@ -2,7 +2,8 @@
 
 ghost use Rattle.lig_proof.specs.Encoding.{RowsHavePolynomials, PolynomialsAreOne, CodesAreOne};
 ghost use Rattle.lig_proof.specs.Proving.{ProofsAreOne};
-ghost use Rattle.lig_proof.specs.Values.{EncodedHasDegrees, CodeTestHasValues, LinearTestHasValues, ProductTestHasValues};
+ghost use Rattle.lig_proof.specs.Values.{EncodedHasDegrees, CodeTestHasValues, LinearTestHasValues};
+ghost use Rattle.lig_proof.specs.Values.{ProductTestHasValues};
 ghost use Rattle.lig_proof.specs.Acceptance.{VerdictsAreOne};
 
 /// Each row of numbers of the field has a polynomial of degree below the width, and only one; so it

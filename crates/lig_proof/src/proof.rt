@@ -7,9 +7,9 @@ use lig_merkle::Hash;
 pub struct Proof {
     /// The root over the columns of the encoded matrix.
     pub root: Hash,
-    /// The coefficients of six polynomials: for each of two repetitions one that tests that the rows
-    /// are close to codewords, of `2 * l` coefficients, one for the linear system, of `3 * l`, and one
-    /// for the products, of `4 * l`.
+    /// The coefficients of six polynomials: for each of two repetitions one that tests that the
+    /// rows are close to codewords, of `2 * l` coefficients, one for the linear system, of `3 * l`,
+    /// and one for the products, of `4 * l`.
     pub polys: Items<Gold>,
     /// The opened columns, in the order in which they were drawn.
     pub columns: Items<Items<Gold>>,

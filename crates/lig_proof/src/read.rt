@@ -1,14 +1,15 @@
 //! Reading a proof.
 
 ghost use Rattle.std.specs.Prelude.{◌≡◌, ◌≤◌, ◌*◌, ◌^◌, ◌<◌, IfOk, Ok, length};
+ghost use Rattle.binary_format.specs.Reading.{Gives, Reads};
 ghost use Rattle.lig_layout.specs.Sizes.{IsParams};
 ghost use Rattle.lig_proof.specs.declared.proof.Proof.{Proof};
 ghost use Rattle.lig_proof.specs.ProofBytes.{IsProof, proof_bytes};
-ghost use Rattle.lig_proof.specs.Reading.{Reads, Gives, proof_of, head_of, openings_at};
+ghost use Rattle.lig_proof.specs.Reading.{refused, proof_of, openings_at};
 
 use crate::challenge::OPENED;
 use crate::fault::ProofFault;
-use crate::fields::{next_hash, next_hashes, next_values};
+use crate::fields::{next_hash, next_hashes, next_values, read_head};
 use crate::proof::Proof;
 use binary_format::Reader;
 use gold_field::Gold;
@@ -17,20 +18,17 @@ use lig_layout::Params;
 use lig_merkle::Hash;
 use std::alloc::Global;
 
-// The first four bytes, as a number whose lowest byte stands first.
-const MAGIC: u32 = 0x6767_696c;
-
-const VERSION: u32 = 1;
-
 /// Reads a proof for a matrix of these sizes, all of the bytes.
 pub fn read_proof(alloc: Global, params: &Params, bytes: &[u8]) -> Result<Proof, ProofFault>
     requires { IsParams params.now }
     // What is read is a proof, and the bytes are its spelling.
-    ensures found { IfOk result (λ proof. IsProof params.now proof × (bytes.now ≡ proof_bytes proof)) }
+    ensures found { IfOk result (λ proof.
+        IsProof params.now proof × (bytes.now ≡ proof_bytes proof)) }
     // The spelling of a proof is read, unless memory runs out.
-    ensures only { (proof : Proof) → IsProof params.now proof → bytes.now ≡ proof_bytes proof → Gives result (Ok proof) }
+    ensures only { (proof : Proof) → IsProof params.now proof → bytes.now ≡ proof_bytes proof →
+        Gives refused (λ x. x) result (Ok proof) }
     // Which fault it is, and where.
-    ensures exact { Gives result (proof_of params.now bytes.now) }
+    ensures exact { Gives refused (λ x. x) result (proof_of params.now bytes.now) }
 {
     proof_in(alloc, params, bytes)
 }
@@ -38,10 +36,10 @@ pub fn read_proof(alloc: Global, params: &Params, bytes: &[u8]) -> Result<Proof,
 #[tactic(auto, unfolding(crate::specs::Reading::proof_of))]
 fn proof_in(alloc: Global, params: &Params, bytes: &[u8]) -> Result<Proof, ProofFault>
     requires { IsParams params.now }
-    ensures { Gives result (proof_of params.now bytes.now) }
+    ensures { Gives refused (λ x. x) result (proof_of params.now bytes.now) }
 {
     let mut fields = Reader::new(bytes);
-    read_head(&mut fields)?;
+    read_head(&mut fields, 1)?;
     let root = next_hash(&mut fields)?;
     let polys = next_values(alloc, &mut fields, 18 * params.l)?;
     let (columns, paths) = next_openings(alloc, &mut fields, params, OPENED)?;
@@ -58,26 +56,6 @@ fn proof_in(alloc: Global, params: &Params, bytes: &[u8]) -> Result<Proof, Proof
     })
 }
 
-// What a proof of this version begins with.
-#[tactic(auto, unfolding(crate::specs::Reading::head_of))]
-fn read_head(fields: &mut Reader<'_>) -> Result<(), ProofFault>
-    requires { fields.old.end ≡ length fields.old.rest.now }
-    ensures read { Reads (λ x. x) fields.new.rest.now result (head_of fields.old.rest.now) }
-    ensures end { fields.new.end ≡ fields.old.end }
-{
-    let end = fields.end;
-    let (Some(magic), Some(version)) = (fields.u32(), fields.u32()) else {
-        return Err(ProofFault::Malformed { offset: end });
-    };
-    if magic != MAGIC {
-        return Err(ProofFault::Malformed { offset: 0 });
-    }
-    if version != VERSION {
-        return Err(ProofFault::Malformed { offset: 4 });
-    }
-    Ok(())
-}
-
 // The next opened columns, each with its path.
 fn next_openings(
     alloc: Global,
@@ -86,7 +64,8 @@ fn next_openings(
     count: u32,
 ) -> Result<(Vec<Items<Gold>>, Vec<Items<Hash>>), ProofFault>
     requires { IsParams params.now }
-    ensures read { Reads (λ x. (x.0.items, x.1.items)) fields.new.rest.now result (openings_at params.now fields.old.end count fields.old.rest.now) }
+    ensures read { Reads refused (λ x. (x.0.items, x.1.items)) fields.new.rest.now result
+        (openings_at params.now fields.old.end count fields.old.rest.now) }
     ensures end { fields.new.end ≡ fields.old.end }
 {
     let mut columns = Vec::with_capacity(alloc, count as usize)?;

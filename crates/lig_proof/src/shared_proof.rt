@@ -1,3 +1,6 @@
+ghost use Rattle.std.specs.Prelude.{◌≡◌};
+ghost use Rattle.lig_proof.specs.Acceptance.{root_in, polys_in, columns_in};
+
 use crate::proof::Proof;
 use gold_field::Gold;
 use items::Items;
@@ -21,4 +24,36 @@ pub struct Proof2 {
 pub enum AnyProof {
     First(Proof),
     Second(Proof2),
+}
+
+impl AnyProof {
+    /// The root over the columns of the encoded matrix.
+    pub fn root(&self) -> &Hash
+        ensures { result.now ≡ root_in self.now }
+    {
+        match self {
+            AnyProof::First(proof) => &proof.root,
+            AnyProof::Second(proof) => &proof.root,
+        }
+    }
+
+    /// The coefficients of the six polynomials, as they were sent.
+    pub fn polys(&self) -> &[Gold]
+        ensures { result.now ≡ polys_in self.now }
+    {
+        match self {
+            AnyProof::First(proof) => proof.polys.as_slice(),
+            AnyProof::Second(proof) => proof.polys.as_slice(),
+        }
+    }
+
+    /// The opened columns.
+    pub fn columns(&self) -> &[Items<Gold>]
+        ensures { result.now ≡ columns_in self.now }
+    {
+        match self {
+            AnyProof::First(proof) => proof.columns.as_slice(),
+            AnyProof::Second(proof) => proof.columns.as_slice(),
+        }
+    }
 }

@@ -1,16 +1,16 @@
 //! Reading a proof of version 2.
 
 ghost use Rattle.std.specs.Prelude.{◌≡◌, ◌+◌, ◌*◌, ◌<◌, ◌≤◌, ◌^◌, All, IfOk, Ok, length, vec_len};
-ghost use Rattle.binary_format.specs.Reading.{repeated};
+ghost use Rattle.binary_format.specs.Reading.{Gives, Reads, repeated};
 ghost use Rattle.lig_layout.specs.Sizes.{IsParams};
 ghost use Rattle.lig_merkle.specs.Shared.{AreOpened};
-ghost use Rattle.lig_proof.specs.Reading.{Reads, Gives, value_at};
+ghost use Rattle.lig_proof.specs.Reading.{refused, value_at};
 ghost use Rattle.lig_proof.specs.SharedProof.{IsProof2, opened_once, opened_for, proof2_bytes};
-ghost use Rattle.lig_proof.specs.SharedReading.{proof2_of, head_in};
+ghost use Rattle.lig_proof.specs.SharedReading.{proof2_of, rest_of};
 ghost use Rattle.lig_proof.specs.declared.shared_proof.Proof2.{Proof2};
 
 use crate::fault::ProofFault;
-use crate::fields::{next_hash, next_hashes, next_values};
+use crate::fields::{next_hash, next_hashes, next_values, read_head};
 use crate::shared_proof::Proof2;
 use crate::transcript::{first_key, queries};
 use binary_format::Reader;
@@ -19,9 +19,6 @@ use items::Items;
 use lig_layout::Params;
 use lig_merkle::{Hash, shared};
 use std::alloc::{AllocError, Global};
-
-// The first four bytes, as a number whose lowest byte stands first.
-const MAGIC: u32 = 0x6767_696c;
 
 /// Reads a proof of version 2 for a matrix of these sizes, all of the bytes. Which columns it has
 /// follows from the relation, the public values and what stands before them.
@@ -42,9 +39,10 @@ pub fn read_proof2(
     ensures only { (proof : Proof2)
         → (let opened = opened_for params.now r1cs_bytes.now publics.now proof.root proof.polys in
         IsProof2 params.now opened proof)
-        → bytes.now ≡ proof2_bytes proof → Gives result (Ok proof) }
+        → bytes.now ≡ proof2_bytes proof → Gives refused (λ x. x) result (Ok proof) }
     // Which fault it is, and where.
-    ensures exact { Gives result (proof2_of params.now r1cs_bytes.now publics.now bytes.now) }
+    ensures exact { Gives refused (λ x. x) result
+        (proof2_of params.now r1cs_bytes.now publics.now bytes.now) }
 {
     proof2_in(alloc, params, r1cs_bytes, publics, bytes)
 }
@@ -59,16 +57,35 @@ fn proof2_in(
 ) -> Result<Proof2, ProofFault>
     requires params { IsParams params.now }
     requires publics { length publics.now < 2 ^ 32 }
-    ensures { Gives result (proof2_of params.now r1cs_bytes.now publics.now bytes.now) }
+    ensures { Gives refused (λ x. x) result
+        (proof2_of params.now r1cs_bytes.now publics.now bytes.now) }
 {
     let mut fields = Reader::new(bytes);
-    read_head2(&mut fields)?;
+    read_head(&mut fields, 2)?;
     let root = next_hash(&mut fields)?;
     let polys = next_values(alloc, &mut fields, 18 * params.l)?;
     let opened = opened_for(alloc, params, r1cs_bytes, publics, &root, &polys)?;
-    let columns = next_columns(alloc, &mut fields, params, opened.len() as u32)?;
-    let count = shared(alloc, params.depth, &opened)?;
-    let nodes = next_hashes(alloc, &mut fields, count)?;
+    rest_in(alloc, &mut fields, params, root, polys, &opened)
+}
+
+// What stands behind the polynomials, up to the end of the bytes.
+fn rest_in(
+    alloc: Global,
+    fields: &mut Reader<'_>,
+    params: &Params,
+    root: Hash,
+    polys: Vec<Gold>,
+    opened: &[u32],
+) -> Result<Proof2, ProofFault>
+    requires params { IsParams params.now }
+    requires opened { AreOpened params.now.depth opened.now }
+    requires few { length opened.now ≤ 96 }
+    ensures { Gives refused (λ x. x) result
+        (rest_of params.now fields.old.end opened.now root polys.items fields.old.rest.now) }
+{
+    let columns = next_columns(alloc, fields, params, opened.len() as u32)?;
+    let count = shared(alloc, params.depth, opened)?;
+    let nodes = next_hashes(alloc, fields, count)?;
     if !fields.is_empty() {
         return Err(ProofFault::Malformed {
             offset: fields.offset(),
@@ -119,26 +136,6 @@ pub fn opened_once(alloc: Global, params: &Params, drawn: &[u32]) -> Result<Vec<
     Ok(once)
 }
 
-// What a proof of version 2 begins with.
-#[tactic(auto, unfolding(crate::specs::SharedReading::head_in))]
-fn read_head2(fields: &mut Reader<'_>) -> Result<(), ProofFault>
-    requires { fields.old.end ≡ length fields.old.rest.now }
-    ensures read { Reads (λ x. x) fields.new.rest.now result (head_in 2 fields.old.rest.now) }
-    ensures end { fields.new.end ≡ fields.old.end }
-{
-    let end = fields.end;
-    let (Some(magic), Some(version)) = (fields.u32(), fields.u32()) else {
-        return Err(ProofFault::Malformed { offset: end });
-    };
-    if magic != MAGIC {
-        return Err(ProofFault::Malformed { offset: 0 });
-    }
-    if version != 2 {
-        return Err(ProofFault::Malformed { offset: 4 });
-    }
-    Ok(())
-}
-
 // The next columns.
 fn next_columns(
     alloc: Global,
@@ -148,7 +145,7 @@ fn next_columns(
 ) -> Result<Vec<Items<Gold>>, ProofFault>
     requires { IsParams params.now }
     ensures read { let column = repeated (value_at fields.old.end) (params.now.rows + 6) in
-        Reads (λ v. v.items) fields.new.rest.now result
+        Reads refused (λ v. v.items) fields.new.rest.now result
         (repeated column count fields.old.rest.now) }
     ensures end { fields.new.end ≡ fields.old.end }
 {

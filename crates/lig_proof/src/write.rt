@@ -1,11 +1,10 @@
 //! Writing a proof.
 
-ghost use Rattle.std.specs.Prelude.{◌≡◌, ◌++◌, IfOk, OnOk, codes, length};
-ghost use Rattle.std.specs.Int.{w32, to_le_bytes};
+ghost use Rattle.std.specs.Prelude.{◌≡◌, ◌++◌, IfOk, OnOk, length};
 ghost use Rattle.std.specs.List.{flat_map};
-ghost use Rattle.lig_proof.specs.ProofBytes.{proof_bytes, hashes_bytes, openings_bytes};
+ghost use Rattle.lig_proof.specs.ProofBytes.{opened_count, proof_bytes, head_bytes};
+ghost use Rattle.lig_proof.specs.ProofBytes.{hashes_bytes, openings_bytes};
 ghost use Rattle.lig_merkle.specs.Merkle.{column_bytes};
-ghost use Rattle.lig_proof.specs.declared.challenge.TheConstants.{OPENED};
 
 use crate::proof::Proof;
 use binary_format::{put_u32, put_u64};
@@ -16,8 +15,8 @@ use std::alloc::{AllocError, Global};
 
 /// The one spelling of the proof.
 pub fn write_proof(alloc: Global, proof: &Proof) -> Result<Vec<u8>, AllocError>
-    requires columns { length proof.now.columns ≡ OPENED }
-    requires paths { length proof.now.paths ≡ OPENED }
+    requires columns { length proof.now.columns ≡ opened_count }
+    requires paths { length proof.now.paths ≡ opened_count }
     ensures { IfOk result (λ v. v.items ≡ proof_bytes proof.now) }
 {
     let mut out = Vec::new(alloc);
@@ -30,7 +29,7 @@ pub fn write_proof(alloc: Global, proof: &Proof) -> Result<Vec<u8>, AllocError>
 
 pub fn put_head(out: &mut Vec<u8>, version: u32) -> Result<(), AllocError>
     ensures { OnOk result (out.new.items
-        ≡ out.old.items ++ (codes "ligg" ++ to_le_bytes w32 version)) }
+        ≡ out.old.items ++ head_bytes version) }
 {
     out.extend_from_slice(b"ligg")?;
     put_u32(out, version)

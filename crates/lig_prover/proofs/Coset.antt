@@ -1,23 +1,20 @@
 -- Values at 7 times the powers of a root, and the polynomial that they determine.
-use Rattle.std.proofs.Common.{◌≡◌, ℕ, ◌*◌, ◌%◌, ◌^◌, ◌<◌, List, ◌++◌, length, map, take, drop, get_or, sym, ap, subst, ◌∙◌, arith, zero-add, mul_assoc, lit<}
+use Rattle.std.proofs.Common.{◌≡◌, ℕ, ◌*◌, ◌%◌, ◌^◌, ◌<◌, List, ◌++◌, length, map, take, drop}
+use Rattle.std.proofs.Common.{get_or, sym, ap, subst, ◌∙◌, arith, zero-add, mul_assoc, lit<}
 use Rattle.std.specs.List.{range_with_len}
 use Rattle.std.proofs.Math.Nat.{mod-mod, mod-eq_of_lt}
 use Rattle.std.proofs.lemmas.Nat.{mul-mod_first, mul-mod_second}
 use Rattle.std.proofs.lemmas.List.{take-append-le, take_all}
-use Rattle.std.proofs.lemmas.List.Elements.{All-from_get_or, recursion_from_All}
-use Rattle.std.proofs.lemmas.List.FromFn.{length-map-range_with_len, get_or-map-range_with_len, fill_by_all}
+use Rattle.std.proofs.lemmas.List.FromFn.{length-map-range_with_len, get_or-map-range_with_len}
+use Rattle.std.proofs.lemmas.List.FromFn.{fill_by_all}
 use Rattle.gold_field.specs.declared.gold.TheConstants.{P}
 use Rattle.gold_ntt.specs.Polynomial.{eval_at, IsPadded}
-use Rattle.gold_ntt.specs.Transform.{root_of, IsLength, IsTransform, IsCosetTransform}
+use Rattle.gold_ntt.specs.Transform.{root_of, IsTransform, IsCosetTransform}
 use Rattle.gold_ntt.proofs.Interpolation.{value_of_padded}
 use Rattle.gold_ntt.proofs.Inverse.{both}
 use Rattle.gold_ntt.proofs.Transforms.{coset_values}
-use Rattle.lig_layout.specs.declared.params.Params.{Params}
-use Rattle.lig_layout.specs.Sizes.{IsParams}
-use Rattle.lig_proof.specs.Encoding.{Interpolates}
-use Rattle.lig_proof.specs.Points.{width_log}
 use Rattle.lig_proof.specs.ProofBytes.{AreValues}
-use Rattle.lig_proof.proofs.Interpolants.{same_lists, value_below, width_is}
+use Rattle.lig_proof.proofs.Interpolants.{same_lists, value_below}
 use Rattle.lig_prover.specs.Transform.{values_at}
 
 pub length-values_at : (e : ℕ) (coefs : List ℕ) → length (values_at e coefs) ≡ 2 ^ e
@@ -103,23 +100,3 @@ pub written_back : (count : ℕ) (new old : List ℕ) → count ≡ length old �
 written_back count new old size same =
     take-append-le count new (drop (length new) old) (omega arith)
     ∙ take_all count new (omega arith)
-
--- a width is the length of transforms
-pub width_length : (p : Params) (n : ℕ) → IsParams p → n ≡ p.l → IsLength n
-width_length p n h is =
-    let width = width_is p h in
-    let depth = width.depth in
-    let columns = width.columns in
-    record { log = width_log p; small = omega arith; power = is ∙ width.power }
-
--- the inverse transform of a row
-pub row_interpolates : (p : Params) (row coefs : List ℕ) → IsParams p → length row ≡ p.l
-    → length coefs ≡ length row → ((k : ℕ) → k < length coefs → get_or coefs k 0 < P)
-    → ((e : ℕ) → length row ≡ 2 ^ e → IsTransform e coefs row) → Interpolates p row coefs
-row_interpolates p row coefs h size same below transform = record {
-  degree = record {
-    count = same ∙ size;
-    each = recursion_from_All (λ x. x < P) coefs (All-from_get_or (λ x. x < P) coefs 0 below);
-  };
-  values = transform (width_log p) (size ∙ (width_is p h).power);
-}

@@ -1,7 +1,9 @@
 -- The matrix that the rows and the masks make.
-use Rattle.std.proofs.Common.{◌≡◌, ℕ, zero, suc, ◌+◌, ◌-◌, ◌*◌, ◌<◌, ◌≤◌, List, [], ◌++◌, length, get_or, replicate, sym, ap, subst, ◌∙◌, arith}
+use Rattle.std.proofs.Common.{◌≡◌, ℕ, zero, suc, ◌+◌, ◌-◌, ◌*◌, ◌<◌, ◌≤◌, List, [], ◌++◌, length}
+use Rattle.std.proofs.Common.{get_or, replicate, sym, ap, subst, ◌∙◌, arith}
 use Rattle.std.specs.List.{AllZip, range_with_len}
-use Rattle.std.proofs.lemmas.List.{get_or_append_left, get_or-append-add, length-append, length-replicate}
+use Rattle.std.proofs.lemmas.List.{get_or_append_left, get_or-append-add, length-append}
+use Rattle.std.proofs.lemmas.List.{length-replicate}
 use Rattle.lig_layout.specs.declared.params.Params.{Params}
 use Rattle.lig_layout.specs.declared.matrix.Vectors.{Vectors}
 use Rattle.lig_layout.specs.Sizes.{IsParams}
@@ -10,7 +12,7 @@ use Rattle.lig_proof.specs.Encoding.{IsCode}
 use Rattle.lig_proof.specs.Masks.{row_mask, code_mask, linear_mask, product_mask}
 use Rattle.lig_proof.specs.Proving.{IsEncoded}
 use Rattle.lig_prover.specs.Matrix.{encoded_by, test_masks}
-use Rattle.lig_prover.proofs.Collected.{at_first, placed_length}
+use Rattle.lig_proof.proofs.Collected.{at_first, placed_length}
 
 -- the vectors fit their rows
 pub record FitRows (p : Params) (v : Vectors) : Type 0 where

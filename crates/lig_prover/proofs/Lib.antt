@@ -1,5 +1,4 @@
 pub mod Adding
-pub mod Collected
 pub mod Coset
 pub mod Encodings
 pub mod Made

@@ -1,8 +1,11 @@
 -- The bytes that are made are the definition's.
-use Rattle.std.proofs.Common.{◌≡◌, ℕ, ◌+◌, ◌-◌, ◌*◌, ◌%◌, ◌^◌, ◌<◌, ◌≤◌, List, [], ◌∷◌, ◌++◌, length, map, take, drop, get_or, refl, sym, ap, subst, ◌∙◌, arith, ⊎_elim, All}
+use Rattle.std.proofs.Common.{◌≡◌, ℕ, ◌+◌, ◌-◌, ◌*◌, ◌%◌, ◌^◌, ◌<◌, ◌≤◌, List, [], ◌∷◌, ◌++◌}
+use Rattle.std.proofs.Common.{length, map, take, drop, get_or, refl, sym, ap, subst, ◌∙◌, arith}
+use Rattle.std.proofs.Common.{⊎_elim, All}
 use Rattle.std.specs.List.{AllByRecursion, range_with_len}
 use Rattle.std.proofs.lemmas.Bool.{cases_lt}
-use Rattle.std.proofs.lemmas.List.{take-append-drop, length-take-le, length-drop, get_or-drop, get_or-take}
+use Rattle.std.proofs.lemmas.List.{take-append-drop, length-take-le, length-drop, get_or-drop}
+use Rattle.std.proofs.lemmas.List.{get_or-take}
 use Rattle.std.proofs.lemmas.List.Elements.{All-filter, All-from_get_or, recursion_from_All}
 use Rattle.std.proofs.lemmas.List.FromFn.{fill_by_all, length-range_with_len, get_or-range_with_len}
 use Rattle.gold_field.specs.declared.gold.TheConstants.{P}
@@ -30,7 +33,7 @@ use Rattle.lig_proof.specs.Values.{HasDegrees}
 use Rattle.lig_prover.specs.Matrix.{AreCodes, AreSystemsOf, encoded_by, column_in}
 use Rattle.lig_prover.specs.Spelling.{spelled_by}
 use Rattle.lig_prover.specs.Transform.{values_at}
-use Rattle.lig_prover.proofs.Collected.{range_same}
+use Rattle.lig_proof.proofs.Collected.{range_same}
 use Rattle.lig_prover.proofs.Coset.{get_or-values_at}
 
 -- ---- all polynomials are short enough to be encoded

@@ -1,10 +1,13 @@
 -- Every other code point, and what the codes have there.
-use Rattle.std.proofs.Common.{◌≡◌, ℕ, zero, suc, ◌+◌, ◌-◌, ◌*◌, ◌%◌, ◌^◌, ◌<◌, ◌≤◌, List, [], ◌∷◌, ◌++◌, length, map, take, replicate, get_or, refl, sym, ap, ◌∙◌, arith, ⊎_elim}
+use Rattle.std.proofs.Common.{◌≡◌, ℕ, zero, suc, ◌+◌, ◌-◌, ◌*◌, ◌%◌, ◌^◌, ◌<◌, ◌≤◌, List, [], ◌∷◌}
+use Rattle.std.proofs.Common.{◌++◌, length, map, take, replicate, get_or, refl, sym, ap, ◌∙◌, arith}
+use Rattle.std.proofs.Common.{⊎_elim}
 use Rattle.std.specs.List.{AllByRecursion, range_with_len}
 use Rattle.std.proofs.lemmas.Bool.{cases_lt}
 use Rattle.std.proofs.Math.Nat.{two-pow-succ}
 use Rattle.std.proofs.lemmas.Nat.{pow-add}
-use Rattle.std.proofs.lemmas.List.{get_or-map, length-append, length-replicate, get_or_append_left, get_or-append_right, get_or_past, take-append-le, take_all}
+use Rattle.std.proofs.lemmas.List.{get_or-map, length-append, length-replicate, get_or_append_left}
+use Rattle.std.proofs.lemmas.List.{get_or-append_right, get_or_past, take-append-le, take_all}
 use Rattle.gold_field.specs.declared.gold.TheConstants.{P}
 use Rattle.gold_field.specs.Prime.{squared}
 use Rattle.gold_field.proofs.Period.{squared-power, pow_square}
@@ -25,7 +28,7 @@ use Rattle.lig_proof.proofs.Interpolants.{width_is}
 use Rattle.lig_proof.proofs.TestValues.{linear_test_has_values, product_test_has_values}
 use Rattle.lig_prover.specs.Matrix.{AreCodes, encoded_by, entry_of, linear_value, product_value}
 use Rattle.lig_prover.specs.Transform.{values_at}
-use Rattle.lig_prover.proofs.Collected.{range_same}
+use Rattle.lig_proof.proofs.Collected.{range_same}
 use Rattle.lig_prover.proofs.Coset.{get_or-values_at}
 
 -- ---- every other code point

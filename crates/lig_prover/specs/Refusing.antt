@@ -3,7 +3,8 @@ use Rattle.std.specs.Prelude.{◌==◌, ℕ, List, length, slice_index, if◌the
 use Rattle.iden_files.specs.File.{File}
 use Rattle.iden_files.specs.Failing.{first_failing_from}
 use Rattle.lig_prover.specs.declared.fault.ProveFault.{ProveFault}
-use Rattle.lig_prover.specs.declared.fault.ProveFault.TheVariants.{WrongLength, WireZero, Unsatisfied}
+use Rattle.lig_prover.specs.declared.fault.ProveFault.TheVariants.{WrongLength, WireZero}
+use Rattle.lig_prover.specs.declared.fault.ProveFault.TheVariants.{Unsatisfied}
 
 -- the least constraint that fails, if one does
 abbrev pub failing : Option ℕ → Option ProveFault

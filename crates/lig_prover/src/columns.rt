@@ -6,12 +6,12 @@ ghost use Rattle.lig_layout.specs.Sizes.{IsParams};
 ghost use Rattle.lig_merkle.specs.Merkle.{leaf_hash};
 ghost use Rattle.lig_prover.specs.Matrix.{column_in};
 
-use crate::parallel::each_place;
 use crate::transform::number_at;
 use gold_field::Gold;
 use items::Items;
 use lig_layout::Params;
 use lig_merkle::{Hash, Tree, leaf};
+use lig_proof::each_place;
 use std::alloc::{AllocError, Global};
 use std::thread::Threads;
 

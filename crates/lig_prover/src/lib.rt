@@ -9,7 +9,6 @@ mod columns;
 mod fault;
 mod masks;
 mod opening;
-mod parallel;
 mod proving;
 mod rows;
 mod sent;

@@ -1,16 +1,15 @@
 //! Whole proofs.
 
-ghost use Rattle.std.specs.Prelude.{◌≡◌, ◌⊎◌, IfOk, IfErr, Some, None, length};
+ghost use Rattle.std.specs.Prelude.{◌≡◌, IfOk, length};
 ghost use Rattle.iden_files.specs.File.{InLimits};
-ghost use Rattle.lig_layout.specs.Layout.{vectors_of};
 ghost use Rattle.lig_layout.specs.Laws.{publics_of};
 ghost use Rattle.lig_layout.specs.Sizes.{IsParams, params_of};
 ghost use Rattle.lig_layout.specs.System.{equation_count};
 ghost use Rattle.lig_proof.specs.declared.version.Version.TheVariants.{One, Two};
 ghost use Rattle.lig_proof.specs.Proving.{AreMade, IsEncoded};
 ghost use Rattle.lig_prover.specs.Matrix.{AreCodes, encoded_by};
+ghost use Rattle.lig_prover.specs.Proves.{AreOf, IsProofOrRefusal};
 ghost use Rattle.lig_prover.specs.Refusing.{refusal_of};
-ghost use Rattle.lig_prover.specs.declared.fault.ProveFault.TheVariants.{OutOfMemory};
 
 use crate::columns::commit;
 use crate::fault::ProveFault;
@@ -22,7 +21,7 @@ use iden_files::{R1cs, first_failing};
 use items::Items;
 use lig_layout::{Params, Vectors, vectors};
 use lig_merkle::Hash;
-use lig_proof::{Version, challenges, queries};
+use lig_proof::{Version, challenges, equation_count, queries};
 use std::alloc::{AllocError, Global};
 use std::thread::Threads;
 
@@ -36,13 +35,7 @@ pub fn prove<R: Threads + AllocGlobal + Sync>(
     seed: [u8; 32],
 ) -> Result<Vec<u8>, ProveFault>
     requires { InLimits file.now }
-    // The values satisfy the file where there is a proof, and it is the definition's.
-    ensures satisfied { IfOk result (λ v. refusal_of file.now w.now ≡ None) }
-    ensures made { IfOk result (λ v.
-        AreMade One r1cs_bytes.now file.now (vectors_of file.now w.now) seed v.items) }
-    // What is refused is the first refusal, but for want of memory.
-    ensures refused { IfErr result (λ fault.
-        (fault ≡ OutOfMemory) ⊎ (refusal_of file.now w.now ≡ Some fault)) }
+    ensures { IsProofOrRefusal One r1cs_bytes.now file.now w.now seed result }
 {
     prove_as(rt, Version::One, r1cs_bytes, file, w, seed)
 }
@@ -56,11 +49,7 @@ pub fn prove2<R: Threads + AllocGlobal + Sync>(
     seed: [u8; 32],
 ) -> Result<Vec<u8>, ProveFault>
     requires { InLimits file.now }
-    ensures satisfied { IfOk result (λ v. refusal_of file.now w.now ≡ None) }
-    ensures made { IfOk result (λ v.
-        AreMade Two r1cs_bytes.now file.now (vectors_of file.now w.now) seed v.items) }
-    ensures refused { IfErr result (λ fault.
-        (fault ≡ OutOfMemory) ⊎ (refusal_of file.now w.now ≡ Some fault)) }
+    ensures { IsProofOrRefusal Two r1cs_bytes.now file.now w.now seed result }
 {
     prove_as(rt, Version::Two, r1cs_bytes, file, w, seed)
 }
@@ -75,10 +64,7 @@ pub fn prove_any<R: Threads + AllocGlobal + Sync>(
     seed: [u8; 32],
 ) -> Result<Vec<u8>, AllocError>
     requires limits { InLimits file.now }
-    requires w { length vectors.now.w ≡ file.now.wires }
-    requires x { length vectors.now.x ≡ length file.now.constraints }
-    requires y { length vectors.now.y ≡ length file.now.constraints }
-    requires z { length vectors.now.z ≡ length file.now.constraints }
+    requires vectors { AreOf file.now vectors.now }
     ensures { IfOk result (λ v. AreMade One r1cs_bytes.now file.now vectors.now seed v.items) }
 {
     prove_any_as(rt, Version::One, r1cs_bytes, file, vectors, seed)
@@ -93,11 +79,7 @@ fn prove_as<R: Threads + AllocGlobal + Sync>(
     seed: [u8; 32],
 ) -> Result<Vec<u8>, ProveFault>
     requires { InLimits file.now }
-    ensures satisfied { IfOk result (λ v. refusal_of file.now w.now ≡ None) }
-    ensures made { IfOk result (λ v.
-        AreMade version r1cs_bytes.now file.now (vectors_of file.now w.now) seed v.items) }
-    ensures refused { IfErr result (λ fault.
-        (fault ≡ OutOfMemory) ⊎ (refusal_of file.now w.now ≡ Some fault)) }
+    ensures { IsProofOrRefusal version r1cs_bytes.now file.now w.now seed result }
 {
     if let Some(fault) = refusal_of(file, w) {
         return Err(fault);
@@ -138,10 +120,7 @@ pub fn prove_any_as<R: Threads + AllocGlobal + Sync>(
     seed: [u8; 32],
 ) -> Result<Vec<u8>, AllocError>
     requires limits { InLimits file.now }
-    requires w { length vectors.now.w ≡ file.now.wires }
-    requires x { length vectors.now.x ≡ length file.now.constraints }
-    requires y { length vectors.now.y ≡ length file.now.constraints }
-    requires z { length vectors.now.z ≡ length file.now.constraints }
+    requires vectors { AreOf file.now vectors.now }
     ensures { IfOk result (λ v. AreMade version r1cs_bytes.now file.now vectors.now seed v.items) }
 {
     let alloc = rt.alloc();
@@ -167,10 +146,7 @@ fn encode<R: Threads + Sync>(
 ) -> Result<(Vec<Items<Gold>>, Vec<Items<Gold>>), AllocError>
     requires file { params.now ≡ params_of file.now }
     requires params { IsParams params.now }
-    requires w { length vectors.now.w ≡ file.now.wires }
-    requires x { length vectors.now.x ≡ length file.now.constraints }
-    requires y { length vectors.now.y ≡ length file.now.constraints }
-    requires z { length vectors.now.z ≡ length file.now.constraints }
+    requires vectors { AreOf file.now vectors.now }
     ensures encoded { IfOk result (λ m. IsEncoded params.now vectors.now seed.now
         (encoded_by params.now m.0.items)) }
     ensures codes { IfOk result (λ m. AreCodes params.now m.0.items m.1.items) }
@@ -189,12 +165,4 @@ fn publics_of<'a>(file: &R1cs, w: &'a [Gold]) -> &'a [Gold]
     let (_, from) = w.split_at(1);
     let (known, _) = from.split_at(file.outputs as usize + file.public_inputs as usize);
     known
-}
-
-fn equation_count(file: &R1cs) -> u32
-    requires { InLimits file.now }
-    ensures { result ≡ equation_count file.now }
-{
-    let constraints = file.constraints().len() as u32;
-    3 * constraints + (1 + (file.outputs + file.public_inputs))
 }

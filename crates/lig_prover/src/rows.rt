@@ -1,6 +1,7 @@
 //! The rows of the matrix, as values, as polynomials and as codes.
 
-ghost use Rattle.std.specs.Prelude.{◌≡◌, ◌≤◌, ◌<◌, ◌+◌, ◌*◌, ◌^◌, ◌++◌, All, IfOk, OnOk, length, map, slice_index_or, []};
+ghost use Rattle.std.specs.Prelude.{◌≡◌, ◌≤◌, ◌<◌, ◌+◌, ◌*◌, ◌^◌, ◌++◌, All, IfOk, OnOk, length};
+ghost use Rattle.std.specs.Prelude.{map, slice_index_or, []};
 ghost use Rattle.std.specs.List.{AllZip, range_with_len};
 ghost use Rattle.lig_layout.specs.Sizes.{IsParams};
 ghost use Rattle.lig_layout.specs.Layout.{message, padded, row_at};
@@ -11,12 +12,12 @@ ghost use Rattle.lig_prover.specs.Matrix.{encoded_by};
 ghost use Rattle.lig_prover.specs.Transform.{values_at};
 
 use crate::masks::{put_test_masks, row_mask};
-use crate::parallel::each_place;
 use crate::transform::{evaluate, row_code};
 use gold_field::Gold;
 use items::Items;
 use lig_layout::{Params, Vectors};
 use lig_merkle::Hash;
+use lig_proof::{each_place, row_at};
 use std::alloc::{AllocError, Global};
 use std::thread::Threads;
 
@@ -50,20 +51,6 @@ fn put_padded(out: &mut Vec<Gold>, values: &[Gold], count: usize) -> Result<(), 
         out.push(Gold::ZERO)?;
     }
     Ok(())
-}
-
-/// Row `k` of values whose rows stand one after another.
-pub fn row_at<'a>(params: &Params, values: &'a [Gold], k: usize) -> &'a [Gold]
-    requires params { IsParams params.now }
-    requires row { k < params.now.rows }
-    requires whole { length values.now ≡ params.now.rows * params.now.l }
-    ensures row { result.now ≡ row_at params.now values.now k }
-    ensures width { length result.now ≡ params.now.l }
-{
-    let l = params.l as usize;
-    let (_, from) = values.split_at(k * l);
-    let (row, _) = from.split_at(l);
-    row
 }
 
 /// The polynomials of the rows and of the masks of the tests, in the order of a column.

@@ -1,6 +1,7 @@
 //! The six polynomials that are sent.
 
-ghost use Rattle.std.specs.Prelude.{◌≡◌, ℕ, ◌≤◌, ◌<◌, ◌+◌, ◌-◌, ◌*◌, ◌%◌, ◌^◌, List, [], IfOk, length, map, take, slice_index, slice_index_or};
+ghost use Rattle.std.specs.Prelude.{◌≡◌, ℕ, ◌≤◌, ◌<◌, ◌+◌, ◌-◌, ◌*◌, ◌%◌, ◌^◌, List, [], IfOk};
+ghost use Rattle.std.specs.Prelude.{length, map, take, slice_index, slice_index_or};
 ghost use Rattle.std.specs.List.{AllZip, range_with_len};
 ghost use Rattle.gold_field.specs.declared.gold.TheConstants.{P};
 ghost use Rattle.gold_ntt.specs.Polynomial.{sum_to};
@@ -11,17 +12,17 @@ ghost use Rattle.lig_layout.specs.System.{combined, left_sides, equation_count};
 ghost use Rattle.lig_proof.specs.Encoding.{Interpolates, InterpolateRows};
 ghost use Rattle.lig_proof.specs.ProofBytes.{AreValues};
 ghost use Rattle.lig_proof.specs.Tests.{alpha, r_numbers, code_test, linear_test, product_test};
-ghost use Rattle.lig_prover.specs.Matrix.{AreCodes, IsLinearTest, encoded_by, entry_of, linear_value, product_value};
+ghost use Rattle.lig_prover.specs.Matrix.{AreCodes, IsLinearTest, encoded_by, entry_of};
+ghost use Rattle.lig_prover.specs.Matrix.{linear_value, product_value};
 ghost use Rattle.lig_prover.specs.Transform.{values_at};
 
-use crate::parallel::each_place;
-use crate::rows::{evaluated, row_at};
-use crate::transform::{interpolate, number_at, row_polynomial};
+use crate::rows::evaluated;
+use crate::transform::{interpolate, number_at};
 use gold_field::Gold;
 use iden_files::R1cs;
 use items::Items;
 use lig_layout::{Params, combine};
-use lig_proof::Challenges;
+use lig_proof::{Challenges, each_place, r_numbers, row_polynomials};
 use std::alloc::{AllocError, Global};
 use std::thread::Threads;
 
@@ -122,60 +123,6 @@ fn coefficients_of(params: &Params, values: Vec<Gold>, count: usize) -> Vec<Gold
     interpolate(&mut coefs);
     coefs.truncate(count);
     coefs
-}
-
-// The numbers of one repetition, for each equation one.
-fn r_numbers(challenges: &Challenges, t: usize) -> &[Gold]
-    requires { t < 2 }
-    ensures { (equations : ℕ) → length challenges.now.r ≡ 2 * equations
-        → result.now ≡ r_numbers equations challenges.now t }
-{
-    let numbers = challenges.r.as_slice();
-    let equations = numbers.len() / 2;
-    let (_, from) = numbers.split_at(t * equations);
-    let (of_one, _) = from.split_at(equations);
-    of_one
-}
-
-fn row_polynomials<R: Threads + Sync>(
-    rt: &R,
-    alloc: Global,
-    params: &Params,
-    values: &[Gold],
-) -> Result<Vec<Items<Gold>>, AllocError>
-    requires params { IsParams params.now }
-    requires whole { length values.now ≡ params.now.rows * params.now.l }
-    ensures count { IfOk result (λ v. length v.items ≡ params.now.rows) }
-    ensures rows { IfOk result (λ v. InterpolateRows params.now values.now
-        (λ k. slice_index_or v.items k [])) }
-{
-    let rows = each_place(
-        rt,
-        alloc,
-        params.rows as usize,
-        |k: usize| -> Result<Items<Gold>, AllocError>
-            requires { IsParams params.now × (k < params.now.rows)
-                × (length values.now ≡ params.now.rows * params.now.l) }
-            ensures { IfOk result (Interpolates params.entry.now
-                (row_at params.entry.now values.entry.now k)) }
-        { polynomial_at(alloc, params, values, k) },
-    )?;
-    Ok(rows)
-}
-
-fn polynomial_at(
-    alloc: Global,
-    params: &Params,
-    values: &[Gold],
-    k: usize,
-) -> Result<Items<Gold>, AllocError>
-    requires params { IsParams params.now }
-    requires row { k < params.now.rows }
-    requires whole { length values.now ≡ params.now.rows * params.now.l }
-    ensures { IfOk result (Interpolates params.now (row_at params.now values.now k)) }
-{
-    let coefs = row_polynomial(alloc, params, row_at(params, values, k))?;
-    Ok(Items::of(coefs))
 }
 
 fn linear_values<R: Threads + Sync>(

@@ -1,6 +1,7 @@
 //! Polynomials and their values. A polynomial is the list of its coefficients, lowest first.
 
-ghost use Rattle.std.specs.Prelude.{◌≡◌, ℕ, ◌≤◌, ◌<◌, ◌+◌, ◌-◌, ◌*◌, ◌%◌, ◌^◌, List, IfOk, length, slice_index};
+ghost use Rattle.std.specs.Prelude.{◌≡◌, ℕ, ◌≤◌, ◌<◌, ◌+◌, ◌-◌, ◌*◌, ◌%◌, ◌^◌, List, IfOk, length};
+ghost use Rattle.std.specs.Prelude.{slice_index};
 ghost use Rattle.gold_field.specs.declared.gold.TheConstants.{P};
 ghost use Rattle.gold_ntt.specs.Polynomial.{IsPadded, shifted_at};
 ghost use Rattle.gold_ntt.specs.Transform.{IsLength};
@@ -10,8 +11,9 @@ ghost use Rattle.lig_proof.specs.ProofBytes.{AreValues};
 ghost use Rattle.lig_prover.specs.Transform.{values_at};
 
 use gold_field::Gold;
-use gold_ntt::{coset_ntt, intt};
+use gold_ntt::{coset_ntt, intt, padded, scale_by_powers};
 use lig_layout::Params;
+use lig_proof::row_polynomial;
 use std::alloc::{AllocError, Global};
 
 // The inverse of 7 modulo p.
@@ -38,18 +40,6 @@ pub fn evaluate(alloc: Global, coefs: &[Gold], log: u32) -> Result<Vec<Gold>, Al
     Ok(values)
 }
 
-// The same polynomial, with zeros behind.
-fn padded(alloc: Global, coefs: &[Gold], size: usize) -> Result<Vec<Gold>, AllocError>
-    requires { length coefs.now ≤ size }
-    ensures places { IfOk result (λ v. length v.items ≡ size) }
-    ensures same { IfOk result (λ v. IsPadded coefs.now v.items) }
-{
-    let mut all = Vec::with_capacity(alloc, size)?;
-    all.extend_from_slice(coefs)?;
-    all.resize(size, Gold::ZERO)?;
-    Ok(all)
-}
-
 /// The polynomial that has these values at 7 times the powers of the root, in their place.
 pub fn interpolate(values: &mut [Gold])
     requires { IsLength (length values.old) }
@@ -58,29 +48,6 @@ pub fn interpolate(values: &mut [Gold])
 {
     intt(values);
     scale_by_powers(values, Gold::from_wide(INVERSE_OF_SEVEN));
-}
-
-// Number `k` times `factor ^ k`.
-fn scale_by_powers(values: &mut [Gold], factor: Gold)
-    ensures { (k : ℕ) → k < length values.old
-        → slice_index values.new k ≡ slice_index values.old k * factor ^ k % P }
-{
-    let mut power = Gold::ONE;
-    for x in values.iter_mut() {
-        *x = x.mul(power);
-        power = power.mul(factor);
-    }
-}
-
-/// The polynomial of a row.
-pub fn row_polynomial(alloc: Global, params: &Params, row: &[Gold]) -> Result<Vec<Gold>, AllocError>
-    requires params { IsParams params.now }
-    requires row { length row.now ≡ params.now.l }
-    ensures { IfOk result (λ v. Interpolates params.now row.now v.items) }
-{
-    let mut coefs = Vec::from_slice(alloc, row)?;
-    intt(&mut coefs);
-    Ok(coefs)
 }
 
 /// The code of a row under a mask.

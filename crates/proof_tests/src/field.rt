@@ -1,9 +1,6 @@
+use crate::samples::gold;
 use gold_field::{Gold, Op1, Op2, binary, unary};
 use std::test::Fail;
-
-fn gold(n: u64) -> Result<Gold, Fail> {
-    Ok(Gold::new(n).ok_or("not below p")?)
-}
 
 // An operator, its operands and its answer.
 static ROWS: [(Op2, u64, u64, u64); 131] = [

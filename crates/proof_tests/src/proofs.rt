@@ -1,3 +1,4 @@
+use crate::samples::{PRODUCT, bytes_of, gold};
 use gold_field::{Gold, P};
 use lig_layout::Params;
 use lig_proof::{ProofFault, challenges, queries, read_proof, write_proof};
@@ -13,15 +14,6 @@ const SMALL: Params = Params {
     rows: 4,
 };
 
-// `c <== a * b`, with the wires 1, c, a and b.
-const FILE: &str = "\
-    72316373010000000300000001000000280000000000000008000000\
-    01000000ffffffff0400000001000000000000000200000004000000\
-    00000000010000000200000030000000000000000100000002000000\
-    00000000ffffffff0100000003000000010000000000000001000000\
-    0100000000000000ffffffff03000000200000000000000000000000\
-    00000000010000000000000002000000000000000300000000000000";
-
 const ROOT: &str = "8a4c74101543d4fcecc077b30e6d7658152f2ba7f8aa68acb2d87dc1159ae9a1";
 
 const FIRST: &str = "f8f72fc23bdeb83a54302bca8bc6e4b21942792c1f90200180f22b323f91eb44";
@@ -32,10 +24,6 @@ fn hash_of(text: &str) -> Result<[u8; 32], Fail> {
         .ok()
         .ok_or("32 bytes in hexadecimal")?;
     Ok(hash)
-}
-
-fn gold(n: u64) -> Result<Gold, Fail> {
-    Ok(Gold::new(n).ok_or("not below p")?)
 }
 
 fn text_of(alloc: Global, values: &[Gold]) -> Result<String, AllocError> {
@@ -50,7 +38,7 @@ fn text_of(alloc: Global, values: &[Gold]) -> Result<String, AllocError> {
 #[test]
 fn numbers_from_the_first_key(rt: HostRuntime) -> Result<(), Fail> {
     let alloc = rt.alloc();
-    let file = hex::decode(alloc, FILE).ok().ok_or("hexadecimal")?;
+    let file = bytes_of(alloc, PRODUCT)?;
     let drawn = challenges(alloc, &SMALL, &file, &[gold(33)?], 5, &hash_of(ROOT)?)?;
     assert_eq!(rt; hex::encode(alloc, drawn.first)?.as_str(), FIRST);
     assert_eq!(rt; drawn.r.len(), 10);

@@ -1,6 +1,7 @@
 ghost use Rattle.std.specs.Prelude.{length};
 ghost use Rattle.gold_ntt.specs.Transform.{IsLength};
 
+use crate::samples::gold;
 use gold_field::Gold;
 use gold_ntt::{coset_ntt, eval, intt, mul, ntt, root};
 use std::process::Abort;
@@ -108,10 +109,6 @@ static ROOTS: [(u32, u64); 9] = [
     (31, 4614640910117430873),
     (32, 1753635133440165772),
 ];
-
-fn gold(n: u64) -> Result<Gold, Fail> {
-    Ok(Gold::new(n).ok_or("not below p")?)
-}
 
 fn fill(room: &mut [Gold], list: &[u64]) -> Result<(), Fail> {
     for (place, n) in room.iter_mut().zip(list) {

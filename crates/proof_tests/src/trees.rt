@@ -1,6 +1,6 @@
 ghost use Rattle.std.specs.Prelude.{◌≡◌, ◌<◌, ◌^◌, IfOk, length};
 
-use gold_field::Gold;
+use crate::samples::{gold, golds};
 use lig_merkle::{Tree, leaf, root_of};
 use std::alloc::Global;
 use std::test::Fail;
@@ -8,11 +8,7 @@ use std::test::Fail;
 const EIGHT: &str = "395bbca6997cb818846dcfa25e7d49f02e6cc5bcccb39351d639ecd266a02797";
 
 fn hash_of(alloc: Global, words: &[u64]) -> Result<String, Fail> {
-    let mut column = Vec::new(alloc);
-    for word in words {
-        column.push(Gold::new(*word).ok_or("not below p")?)?;
-    }
-    Ok(hex::encode(alloc, leaf(&column))?)
+    Ok(hex::encode(alloc, leaf(&golds(alloc, words)?))?)
 }
 
 // The tree over the columns of one value each, 0 to `2^depth - 1`.
@@ -23,7 +19,7 @@ fn tree_of(alloc: Global, depth: u32) -> Result<Tree, Fail>
     let count = 1u64 << depth;
     let mut leaves = Vec::new(alloc);
     for number in 0..count {
-        leaves.push(leaf(&[Gold::new(number).ok_or("not below p")?]))?;
+        leaves.push(leaf(&[gold(number)?]))?;
     }
     Ok(Tree::make(alloc, &leaves)?)
 }
@@ -89,7 +85,7 @@ fn path_of_a_leaf(rt: HostRuntime) -> Result<(), Fail> {
          3fb6c7c29dd8a307953654cfa671f57d2c66bf944c43ab3e9b155bddaadc8df8\
          9656f8043dfd7640896c81198d4fd347e03483cce7a1bfb081cd1fa3f7f916b1"
     );
-    let start = leaf(&[Gold::new(5).ok_or("not below p")?]);
+    let start = leaf(&[gold(5)?]);
     let root = root_of(&start, 5, &path);
     assert_eq!(rt; hex::encode(rt.alloc(), root)?.as_str(), EIGHT);
     Ok(())

@@ -7,4 +7,5 @@ use Rattle.lig_auditor.proofs.codes.code_value.Given as goal
 
 abbrev pub invariant-loop-k : goal.invariant-loop-k
 invariant-loop-k l =
-    l.sum ≡ sum_to l.k (λ i. alpha l.opening.params.now l.opening.challenges.now l.t i * row_value l.column i) % P
+    l.sum ≡ sum_to l.k
+    (λ i. alpha l.opening.params.now l.opening.challenges.now l.t i * row_value l.column i) % P

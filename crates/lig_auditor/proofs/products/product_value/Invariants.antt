@@ -7,4 +7,6 @@ use Rattle.lig_auditor.proofs.products.product_value.Given as goal
 
 abbrev pub invariant-loop-k : goal.invariant-loop-k
 invariant-loop-k l =
-    l.sum ≡ sum_to l.k (λ i. rho l.opening.params.now l.opening.challenges.now l.t i * excess l.opening.params.now l.column i) % P
+    l.sum ≡ sum_to l.k
+    (λ i. rho l.opening.params.now l.opening.challenges.now l.t i
+    * excess l.opening.params.now l.column i) % P

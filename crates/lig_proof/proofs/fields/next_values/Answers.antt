@@ -8,10 +8,14 @@ use Rattle.lig_proof.proofs.fields.next_values.Goals as goal
 
 pub returns-in_err-value-clause-read : goal.returns-in_err-value-clause-read
 returns-in_err-value-clause-read c =
-    let p = err_from_is_err_and c.from_residual-in_err-value.result c.from_residual-in_err-value.ensures.1 in
+    let p = err_from_is_err_and c.from_residual-in_err-value.result
+    c.from_residual-in_err-value.ensures.1 in
     let field = value_at c.args.fields.now.end in
     let read = rw c.loop.invariant.ends at c.in_err-value.ensures.read in
-    rw (p.1, p.2) (field_fails field c.in_err-value.field-0.0 c.loop.values.items c.args.count c.loop.counter c.loop.fields.rest.now (repeated field c.args.count c.args.fields.now.rest.now) c.loop-test.true read c.loop.invariant.so_far)
+    rw (p.1, p.2)
+    (field_fails field c.in_err-value.field-0.0 c.loop.values.items c.args.count c.loop.counter
+    c.loop.fields.rest.now (repeated field c.args.count c.args.fields.now.rest.now)
+    c.loop-test.true read c.loop.invariant.so_far)
 
 pub loop-preserved : goal.loop-preserved
 loop-preserved c =
@@ -20,5 +24,9 @@ loop-preserved c =
     let read = rw inv.ends at c.in_ok-value.ensures.read in
     record {
       ends = c.in_ok-value.ensures.end ∙ inv.ends;
-      so_far = rw c.in_ok-push.ensures.items (goes_on field c.loop.values.items c.args.count c.loop.counter c.loop.fields.rest.now c.in_ok-value.value c.next_value.new.fields.rest.now (repeated field c.args.count c.args.fields.now.rest.now) c.loop-test.true read inv.so_far);
+      so_far = rw c.in_ok-push.ensures.items
+          (goes_on field c.loop.values.items c.args.count c.loop.counter c.loop.fields.rest.now
+          c.in_ok-value.value c.next_value.new.fields.rest.now
+          (repeated field c.args.count c.args.fields.now.rest.now) c.loop-test.true read
+          inv.so_far);
     }

@@ -3,4 +3,6 @@ use Rattle.lig_proof.proofs.Loops.{Reading}
 use Rattle.lig_proof.proofs.fields.next_values.Given as goal
 
 abbrev pub invariant-loop : goal.invariant-loop
-invariant-loop l = Reading value_at l.count l.fields.end l.fn.fields.end l.counter l.values.items l.fields.rest.now l.fn.fields.rest.now
+invariant-loop l =
+    Reading value_at l.count l.fields.end l.fn.fields.end l.counter l.values.items l.fields.rest.now
+    l.fn.fields.rest.now

@@ -2,4 +2,5 @@ use Rattle.lig_proof.proofs.Interpolants.{rows_have_polynomials, polynomials_are
 use Rattle.lig_proof.proofs.laws.rows_have_polynomials.Goals as goal
 
 pub returns : goal.returns
-returns c = record { exists = rows_have_polynomials; one = polynomials_are_one; codes = codes_are_one }
+returns c =
+    record { exists = rows_have_polynomials; one = polynomials_are_one; codes = codes_are_one }

@@ -1,4 +1,5 @@
-use Rattle.lig_proof.proofs.TestValues.{encoded_has_degrees, code_test_has_values, linear_test_has_values, product_test_has_values}
+use Rattle.lig_proof.proofs.TestValues.{encoded_has_degrees, code_test_has_values}
+use Rattle.lig_proof.proofs.TestValues.{linear_test_has_values, product_test_has_values}
 use Rattle.lig_proof.proofs.laws.tests_have_values.Goals as goal
 
 pub returns : goal.returns

@@ -8,10 +8,15 @@ use Rattle.lig_proof.proofs.shared_read.next_columns.Goals as goal
 
 pub returns-in_err-column-clause-read : goal.returns-in_err-column-clause-read
 returns-in_err-column-clause-read c =
-    let p = err_from_is_err_and c.from_residual-in_err-column.result c.from_residual-in_err-column.ensures.1 in
+    let p = err_from_is_err_and c.from_residual-in_err-column.result
+    c.from_residual-in_err-column.ensures.1 in
     let field = repeated (value_at c.args.fields.now.end) (c.args.params.now.rows + 6) in
     let read = rw c.loop.invariant.ends at c.in_err-column.ensures.read in
-    rw (p.1, p.2) (field_fails field c.in_err-column.field-0.0 c.loop.columns.items c.args.count c.loop.counter c.loop.fields.rest.now (repeated field c.args.count c.args.fields.now.rest.now) c.loop-test.true read c.loop.invariant.so_far)
+    rw (p.1, p.2)
+    (field_fails field c.in_err-column.field-0.0 c.loop.columns.items c.args.count
+    c.loop.counter c.loop.fields.rest.now
+    (repeated field c.args.count c.args.fields.now.rest.now) c.loop-test.true read
+    c.loop.invariant.so_far)
 
 pub loop-preserved : goal.loop-preserved
 loop-preserved c =
@@ -20,5 +25,9 @@ loop-preserved c =
     let read = rw inv.ends at c.in_ok-column.ensures.read in
     record {
       ends = c.in_ok-column.ensures.end ∙ inv.ends;
-      so_far = rw (c.in_ok-push.ensures.items, c.of.ensures) (goes_on field c.loop.columns.items c.args.count c.loop.counter c.loop.fields.rest.now c.in_ok-column.column.items c.next_values.new.fields.rest.now (repeated field c.args.count c.args.fields.now.rest.now) c.loop-test.true read inv.so_far);
+      so_far = rw (c.in_ok-push.ensures.items, c.of.ensures)
+          (goes_on field c.loop.columns.items c.args.count c.loop.counter c.loop.fields.rest.now
+          c.in_ok-column.column.items c.next_values.new.fields.rest.now
+          (repeated field c.args.count c.args.fields.now.rest.now) c.loop-test.true read
+          inv.so_far);
     }

@@ -6,4 +6,5 @@ use Rattle.lig_proof.proofs.shared_read.next_columns.Given as goal
 
 abbrev pub invariant-loop : goal.invariant-loop
 invariant-loop l =
-    Reading (λ end. repeated (value_at end) (l.params.rows + 6)) l.count l.fields.end l.fn.fields.end l.counter l.columns.items l.fields.rest.now l.fn.fields.rest.now
+    Reading (λ end. repeated (value_at end) (l.params.rows + 6)) l.count l.fields.end
+    l.fn.fields.end l.counter l.columns.items l.fields.rest.now l.fn.fields.rest.now

@@ -7,5 +7,7 @@ use Rattle.lig_proof.proofs.transcript.queries.Given as goal
 -- one word has been drawn for each column so far
 abbrev pub invariant-loop : goal.invariant-loop
 invariant-loop l =
-    (◌≡◌ {A = ChaCha} l.words (record { key = key_of (second_key l.first l.polys); stream = 0; word_pos = l.counter }))
-    × (l.opened.items ≡ map (λ q. key_word (second_key l.first l.polys) q % (8 * l.params.l)) (range_with_len 0 l.counter))
+    (◌≡◌ {A = ChaCha} l.words
+    (record { key = key_of (second_key l.first l.polys); stream = 0; word_pos = l.counter }))
+    × (l.opened.items ≡ map (λ q. key_word (second_key l.first l.polys) q % (8 * l.params.l))
+    (range_with_len 0 l.counter))

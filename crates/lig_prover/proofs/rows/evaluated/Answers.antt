@@ -1,7 +1,7 @@
 use Rattle.std.proofs.Common.{[]}
 use Rattle.rayon.proofs.ListFacts.{IfOk-then}
 use Rattle.lig_prover.specs.Transform.{values_at}
-use Rattle.lig_prover.proofs.Collected.{mapped}
+use Rattle.lig_proof.proofs.Collected.{mapped}
 use Rattle.lig_prover.proofs.rows.evaluated.Goals as goal
 
 pub returns : goal.returns

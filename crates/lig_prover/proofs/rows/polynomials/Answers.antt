@@ -5,7 +5,7 @@ use Rattle.lig_proof.specs.Encoding.{IsCode}
 use Rattle.lig_proof.specs.Masks.{row_mask}
 use Rattle.lig_proof.specs.Proving.{IsEncoded}
 use Rattle.lig_prover.specs.Matrix.{encoded_by, test_masks}
-use Rattle.lig_prover.proofs.Collected.{placed_length}
+use Rattle.lig_proof.proofs.Collected.{placed_length}
 use Rattle.lig_prover.proofs.Encodings.{encoded_from, length-message}
 use Rattle.lig_prover.proofs.rows.polynomials.Goals as goal
 

@@ -1,4 +1,5 @@
-use Rattle.std.proofs.Common.{◌≡◌, ◌-◌, ◌+◌, ◌*◌, ◌^◌, ◌%◌, ◌≤◌, ℕ, List, [], length, map, drop, get_or, ap, subst, ◌∙◌, arith}
+use Rattle.std.proofs.Common.{◌≡◌, ◌-◌, ◌+◌, ◌*◌, ◌^◌, ◌%◌, ◌≤◌, ℕ, List, [], length, map, drop}
+use Rattle.std.proofs.Common.{get_or, ap, subst, ◌∙◌, arith}
 use Rattle.std.proofs.lemmas.List.{length-take-le, length-drop}
 use Rattle.std.proofs.lemmas.List.Elements.{All-from_get_or}
 use Rattle.std.proofs.lemmas.List.FromFn.{length-map-range_with_len}
@@ -10,7 +11,8 @@ use Rattle.lig_proof.specs.Tests.{linear_test}
 use Rattle.lig_proof.proofs.Interpolants.{made_values}
 use Rattle.lig_prover.specs.Matrix.{encoded_by, linear_value}
 use Rattle.lig_prover.specs.Transform.{values_at}
-use Rattle.lig_prover.proofs.Points.{half_points, linear_are, widened, widened_front, widened_values, within_both}
+use Rattle.lig_prover.proofs.Points.{half_points, linear_are, widened, widened_front}
+use Rattle.lig_prover.proofs.Points.{widened_values, within_both}
 use Rattle.lig_prover.proofs.tests.linear_test.Goals as goal
 
 pub combine-requires-clause-numbers : goal.combine-requires-clause-numbers
@@ -20,7 +22,7 @@ combine-requires-clause-numbers g c =
     let r = c.args.challenges.now.r in
     let both = within_both t n c.requires.repetition in
     let whole = c.requires.numbers in
-    ap length (c.r_numbers.ensures n whole)
+    ap length (c.r_numbers.ensures.value n whole)
     ∙ length-take-le n (drop (t * n) r) (omega (arith, length-drop (t * n) r, both, whole))
 
 pub row_polynomials-requires-clause-whole : goal.row_polynomials-requires-clause-whole
@@ -57,7 +59,7 @@ returns g c = λ polynomials are.
     let n = equation_count f in
     let made = c.deref.ensures.value ∙ c.in_ok-system.ensures
     ∙ ap (λ r. combined (p.rows * p.l) r (left_sides p f))
-    (c.r_numbers.ensures n c.requires.numbers) in
+    (c.r_numbers.ensures.value n c.requires.numbers) in
     let Rows : List ℕ → Type 0 = λ values. InterpolateRows p values system in
     let interpolate = subst Rows made c.in_ok-rows.ensures.rows in
     let test = linear_test p (encoded_by p polynomials) system c.args.t in
