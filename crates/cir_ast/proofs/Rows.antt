@@ -1,35 +1,79 @@
 -- Lists inside a tree, as the lists that they are.
-use Rattle.std.proofs.Common.{◌≡◌, ◌∙◌, ap, refl, List, []}
+use Rattle.std.proofs.Common.{◌≡◌, ◌∙◌, ap, refl, sym, List, []}
 use Rattle.std.specs.Prelude.{Bool, map, ℕ}
 use mathlib.Core.Former.{Count}
-use Rattle.cir_ast.specs.declared.tree.Expr.{Expr as CodeExpr, Row_of-Expr, end_of-Expr, more_of-Expr, items-the_row-Expr}
-use Rattle.cir_ast.specs.declared.tree.Accessor.{Accessor as CodeAccessor}
-use Rattle.cir_ast.specs.declared.tree.Accessor.TheVariants.{Index, Member}
-use Rattle.cir_ast.specs.declared.tree.Accessor.TheBlock as block
-use Rattle.cir_ast.specs.declared.tree.Place.{Row_of-Accessor, end_of-Accessor, more_of-Accessor}
-use Rattle.cir_ast.specs.declared.tree.Block.{Row_of-Statement, end_of-Statement, more_of-Statement}
-use Rattle.cir_ast.specs.declared.tree.Statement.{Statement as CodeStatement}
-use Rattle.cir_ast.specs.declared.tree.Statement.TheBlock as statement_block
-use Rattle.cir_ast.specs.Tree.{bare, bare_row, bare_exprs, bare_accessors, as_accessors, bare_statement, bare_statement_row, as_statements, more, index, member, then_more}
+use Rattle.cir_ast.specs.declared.marked.Expr.{Expr as CodeExpr, Row_of-Expr, end_of-Expr}
+use Rattle.cir_ast.specs.declared.marked.Expr.{more_of-Expr}
+use Rattle.cir_ast.specs.declared.marked.Accessor.{Accessor as CodeAccessor}
+use Rattle.cir_ast.specs.declared.marked.Accessor.TheVariants.{Index, Member}
+use Rattle.cir_ast.specs.declared.marked.Accessor.TheBlock as block
+use Rattle.cir_ast.specs.declared.marked.Place.{Row_of-Accessor, end_of-Accessor, more_of-Accessor}
+use Rattle.cir_ast.specs.declared.marked.Inputs.{Row_of-NamedInput, end_of-NamedInput}
+use Rattle.cir_ast.specs.declared.marked.Inputs.{more_of-NamedInput}
+use Rattle.cir_ast.specs.declared.marked.NamedInput.{NamedInput as CodeInput}
+use Rattle.cir_ast.specs.declared.marked.Block.{Block as CodeBlock, Block', out-Block, outs-Block'}
+use Rattle.cir_ast.specs.declared.marked.Block.{Row_of-Statement, end_of-Statement}
+use Rattle.cir_ast.specs.declared.marked.Block.{more_of-Statement, items-the_row-Statement}
+use Rattle.cir_ast.specs.declared.marked.Block.{items_shown-the_row-Statement-0}
+use Rattle.cir_ast.specs.declared.marked.Statement.{Statement as CodeStatement}
+use Rattle.cir_ast.specs.declared.marked.StatementForm.TheViews.{roll-Block, out-roll-Block}
+use Rattle.cir_ast.specs.Tree.{bare, bare_row, bare_exprs, bare_accessors, as_accessors, bare_named}
+use Rattle.cir_ast.specs.Tree.{as_named, bare_form, bare_statement, bare_statement_row, bare_block}
+use Rattle.cir_ast.specs.Tree.{as_statements, more, index, member, named, then_more}
 
-row_is : (n : Count) (row : Row_of-Expr n) → bare_row row ≡ bare_exprs (block.items-the_row-Expr n row)
+row_is : {N : Type 0} (n : Count) (row : Row_of-Expr N n)
+    → bare_row row ≡ bare_exprs (block.items-the_row-Expr N n row)
 row_is n end_of-Expr = refl
 row_is n (more_of-Expr e rest) = ap (more (bare e)) (row_is _ rest)
 
-pub exprs_are : (es : List CodeExpr) → bare_row (block.hidden-the_row-Expr-1 es) ≡ bare_exprs es
-exprs_are es = row_is _ (block.hidden-the_row-Expr-1 es) ∙ ap bare_exprs (block.items_hidden-the_row-Expr-1 es)
+pub exprs_are : (N : Type 0) (es : List (CodeExpr N))
+    → bare_row (block.hidden-the_row-Expr-1 N es) ≡ bare_exprs es
+exprs_are N es = row_is _ (block.hidden-the_row-Expr-1 N es)
+    ∙ ap bare_exprs (block.items_hidden-the_row-Expr-1 N es)
 
-accessor_row_is : (n : Count) (row : Row_of-Accessor n) → bare_accessors row ≡ as_accessors (block.items-the_row-Accessor n row)
+accessor_row_is : {N : Type 0} (n : Count) (row : Row_of-Accessor N n)
+    → bare_accessors row ≡ as_accessors (block.items-the_row-Accessor N n row)
 accessor_row_is n end_of-Accessor = refl
 accessor_row_is n (more_of-Accessor (Index e) rest) = ap (index (bare e)) (accessor_row_is _ rest)
 accessor_row_is n (more_of-Accessor (Member name) rest) = ap (member name) (accessor_row_is _ rest)
 
-pub accessors_are : (list : List CodeAccessor) → bare_accessors (block.hidden-the_row-Accessor-0 list) ≡ as_accessors list
-accessors_are list = accessor_row_is _ (block.hidden-the_row-Accessor-0 list) ∙ ap as_accessors (block.items_hidden-the_row-Accessor-0 list)
+pub accessors_are : (N : Type 0) (list : List (CodeAccessor N))
+    → bare_accessors (block.hidden-the_row-Accessor-0 N list) ≡ as_accessors list
+accessors_are N list = accessor_row_is _ (block.hidden-the_row-Accessor-0 N list)
+    ∙ ap as_accessors (block.items_hidden-the_row-Accessor-0 N list)
 
-statement_row_is : (n : Count) (row : Row_of-Statement n) → bare_statement_row row ≡ as_statements (map bare_statement (statement_block.items-the_row-Statement n row))
+named_row_is : {N : Type 0} (n : Count) (row : Row_of-NamedInput N n)
+    → bare_named row ≡ as_named (block.items-the_row-NamedInput N n row)
+named_row_is n end_of-NamedInput = refl
+named_row_is n (more_of-NamedInput name arrow e rest) =
+    ap (named name arrow (bare e)) (named_row_is _ rest)
+
+pub named_are : (N : Type 0) (list : List (CodeInput N))
+    → bare_named (block.hidden-the_row-NamedInput-2 N list) ≡ as_named list
+named_are N list = named_row_is _ (block.hidden-the_row-NamedInput-2 N list)
+    ∙ ap as_named (block.items_hidden-the_row-NamedInput-2 N list)
+
+statement_row_is : {S N : Type 0} (n : Count) (row : Row_of-Statement S N n)
+    → bare_statement_row row
+    ≡ as_statements (map (bare_statement {S = S} {N = N}) (items-the_row-Statement S N n row))
 statement_row_is n end_of-Statement = refl
-statement_row_is n (more_of-Statement s rest) = ap (then_more (bare_statement s)) (statement_row_is _ rest)
+statement_row_is n (more_of-Statement spot form rest) =
+    ap (then_more (bare_form spot form)) (statement_row_is _ rest)
 
-pub statements_are : (list : List CodeStatement) → bare_statement_row (statement_block.hidden-the_row-Statement-0 list) ≡ as_statements (map bare_statement list)
-statements_are list = statement_row_is _ (statement_block.hidden-the_row-Statement-0 list) ∙ ap (λ (l : List CodeStatement). as_statements (map bare_statement l)) (statement_block.items_hidden-the_row-Statement-0 list)
+pub block_is : (S N : Type 0) (b : CodeBlock S N)
+    → bare_block b
+    ≡ as_statements (map (bare_statement {S = S} {N = N}) (out-Block S N b).statements)
+block_is S N (Block' n row) =
+    statement_row_is _ row
+    ∙ sym (ap (λ o. as_statements (map (bare_statement {S = S} {N = N}) o.statements))
+    (outs-Block' n row)
+    ∙ ap (λ (ss : List (CodeStatement S N)). as_statements
+    (map (bare_statement {S = S} {N = N}) ss)) (items_shown-the_row-Statement-0 S N n row))
+
+pub statements_are : (S N : Type 0) (list : List (CodeStatement S N))
+    → bare_block (roll-Block S N record { statements = list })
+    ≡ as_statements (map (bare_statement {S = S} {N = N}) list)
+statements_are S N list =
+    block_is S N (roll-Block S N record { statements = list })
+    ∙ ap (λ b. as_statements (map (bare_statement {S = S} {N = N}) b.statements))
+    (out-roll-Block S N record { statements = list })

@@ -1,8 +1,7 @@
-pub mod PlainTree
-pub mod PlainPrint
-pub mod PlainShape
 pub mod Tree
+pub mod Plain
+pub mod Program
 pub mod Print
 pub mod Shape
 pub mod Height
-pub mod Placed
+pub mod Spot

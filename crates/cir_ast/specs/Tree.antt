@@ -1,257 +1,364 @@
--- A file's tree as plain data: without the pointers that a program's own tree has, so that two trees of one
--- shape are equal.
+-- A file's tree as plain data: without the pointers that a program's own tree has, so that two
+-- trees of one shape are equal. S is what an item or a statement carries as its place, and N what a
+-- name carries as its meaning.
 use Rattle.std.specs.Prelude.{ℕ, List, [], ◌∷◌, map, Bool, Option, Some, None}
-use Rattle.cir_ast.specs.declared.tree.Unary.{Unary as UnaryOp}
-use Rattle.cir_ast.specs.declared.tree.Binary.{Binary as BinaryOp}
-use Rattle.cir_ast.specs.declared.tree.Compound.{Compound as CompoundOp}
-use Rattle.cir_ast.specs.declared.tree.Direction.{Direction}
-use Rattle.cir_ast.specs.declared.tree.Expr.{Expr as CodeExpr, Row_of-Expr, end_of-Expr, more_of-Expr}
-use Rattle.cir_ast.specs.declared.tree.Expr.TheVariants as expr
-use Rattle.cir_ast.specs.declared.tree.Accessor.{Accessor as CodeAccessor}
-use Rattle.cir_ast.specs.declared.tree.Accessor.TheVariants as accessor
-use Rattle.cir_ast.specs.declared.tree.Place.{Place as CodePlace, Row_of-Accessor, end_of-Accessor, more_of-Accessor}
-use Rattle.cir_ast.specs.declared.tree.DeclaredVariable.{DeclaredVariable as CodeVariable}
-use Rattle.cir_ast.specs.declared.tree.SignalValue.{SignalValue as CodeValue}
-use Rattle.cir_ast.specs.declared.tree.SignalValue.TheVariants as value
-use Rattle.cir_ast.specs.declared.tree.DeclaredSignal.{DeclaredSignal as CodeSignal}
-use Rattle.cir_ast.specs.declared.tree.DeclaredComponent.{DeclaredComponent as CodeComponent}
-use Rattle.cir_ast.specs.declared.tree.Components.TheVariants as components
-use Rattle.cir_ast.specs.declared.tree.Assign.{Assign as CodeAssign}
-use Rattle.cir_ast.specs.declared.tree.Assign.TheVariants as assign
-use Rattle.cir_ast.specs.declared.tree.First.{First as CodeFirst}
-use Rattle.cir_ast.specs.declared.tree.First.TheVariants as first
-use Rattle.cir_ast.specs.declared.tree.LogArgument.{LogArgument as CodeArgument}
-use Rattle.cir_ast.specs.declared.tree.LogArgument.TheVariants as argument
-use Rattle.cir_ast.specs.declared.tree.Simple.{Simple as CodeSimple}
-use Rattle.cir_ast.specs.declared.tree.Simple.TheVariants as simple
-use Rattle.cir_ast.specs.declared.tree.Block.{Block as CodeBlock, Row_of-Statement, end_of-Statement, more_of-Statement}
-use Rattle.cir_ast.specs.declared.tree.Statement.{Statement as CodeStatement}
-use Rattle.cir_ast.specs.declared.tree.Statement.TheVariants as statement
-use Rattle.cir_ast.specs.declared.tree.Definition.TheVariants as definition
-use Rattle.cir_ast.specs.declared.tree.Item.{Item as CodeItem}
-use Rattle.cir_ast.specs.declared.tree.Item.TheVariants as item
-use Rattle.cir_ast.specs.declared.tree.File.{File as CodeFile}
+use Rattle.cir_ast.specs.declared.operators.Unary.{Unary as UnaryOp}
+use Rattle.cir_ast.specs.declared.operators.Binary.{Binary as BinaryOp}
+use Rattle.cir_ast.specs.declared.operators.Compound.{Compound as CompoundOp}
+use Rattle.cir_ast.specs.declared.operators.Arrow.{Arrow}
+use Rattle.cir_ast.specs.declared.operators.Direction.{Direction}
+use Rattle.cir_ast.specs.declared.marked.Expr.{Expr as CodeExpr, Row_of-Expr, end_of-Expr}
+use Rattle.cir_ast.specs.declared.marked.Expr.{more_of-Expr}
+use Rattle.cir_ast.specs.declared.marked.Expr.TheVariants as expr
+use Rattle.cir_ast.specs.declared.marked.Accessor.{Accessor as CodeAccessor}
+use Rattle.cir_ast.specs.declared.marked.Accessor.TheVariants as accessor
+use Rattle.cir_ast.specs.declared.marked.Place.{Place as CodePlace, Row_of-Accessor}
+use Rattle.cir_ast.specs.declared.marked.Place.{end_of-Accessor, more_of-Accessor}
+use Rattle.cir_ast.specs.declared.marked.Anonymous.{Anonymous as CodeAnonymous}
+use Rattle.cir_ast.specs.declared.marked.Inputs.{Inputs as CodeInputs, Row_of-NamedInput}
+use Rattle.cir_ast.specs.declared.marked.Inputs.{end_of-NamedInput, more_of-NamedInput}
+use Rattle.cir_ast.specs.declared.marked.Inputs.TheVariants as inputs
+use Rattle.cir_ast.specs.declared.marked.NamedInput.{NamedInput as CodeInput}
+use Rattle.cir_ast.specs.declared.marked.DeclaredVariable.{DeclaredVariable as CodeVariable}
+use Rattle.cir_ast.specs.declared.marked.SignalValue.{SignalValue as CodeValue}
+use Rattle.cir_ast.specs.declared.marked.SignalValue.TheVariants as value
+use Rattle.cir_ast.specs.declared.marked.DeclaredSignal.{DeclaredSignal as CodeSignal}
+use Rattle.cir_ast.specs.declared.marked.DeclaredComponent.{DeclaredComponent as CodeComponent}
+use Rattle.cir_ast.specs.declared.marked.Components.TheVariants as components
+use Rattle.cir_ast.specs.declared.marked.Assign.{Assign as CodeAssign}
+use Rattle.cir_ast.specs.declared.marked.Assign.TheVariants as assign
+use Rattle.cir_ast.specs.declared.marked.Target.{Target as CodeTarget}
+use Rattle.cir_ast.specs.declared.marked.Target.TheVariants as target
+use Rattle.cir_ast.specs.declared.marked.Slot.{Slot as CodeSlot}
+use Rattle.cir_ast.specs.declared.marked.Slot.TheVariants as slot
+use Rattle.cir_ast.specs.declared.marked.Source.{Source as CodeSource}
+use Rattle.cir_ast.specs.declared.marked.Source.TheVariants as source
+use Rattle.cir_ast.specs.declared.marked.FirstForm.{FirstForm as CodeFirst}
+use Rattle.cir_ast.specs.declared.marked.FirstForm.TheVariants as first
+use Rattle.cir_ast.specs.declared.marked.LogArgument.{LogArgument as CodeArgument}
+use Rattle.cir_ast.specs.declared.marked.LogArgument.TheVariants as argument
+use Rattle.cir_ast.specs.declared.marked.Simple.{Simple as CodeSimple}
+use Rattle.cir_ast.specs.declared.marked.Simple.TheVariants as simple
+use Rattle.cir_ast.specs.declared.marked.Block.{Block as CodeBlock, Block', Row_of-Statement}
+use Rattle.cir_ast.specs.declared.marked.Block.{end_of-Statement, more_of-Statement}
+use Rattle.cir_ast.specs.declared.marked.Statement.{Statement as CodeStatement}
+use Rattle.cir_ast.specs.declared.marked.StatementForm.{StatementForm as CodeForm}
+use Rattle.cir_ast.specs.declared.marked.StatementForm.TheVariants as statement
+use Rattle.cir_ast.specs.declared.marked.Definition.TheVariants as definition
+use Rattle.cir_ast.specs.declared.marked.Item.{Item as CodeItem}
+use Rattle.cir_ast.specs.declared.marked.ItemForm.{ItemForm as CodeItemForm}
+use Rattle.cir_ast.specs.declared.marked.ItemForm.TheVariants as item
+use Rattle.cir_ast.specs.declared.marked.File.{File as CodeFile}
 
 mutual
-  pub data Expr : Type 0 where
-    Number : ℕ → Expr
-    Place : (name : List ℕ) → (accessors : Accessors) → Expr
-    Call : (parallel : Bool) → (name : List ℕ) → (arguments : Exprs) → Expr
-    Parentheses : Expr → Expr
-    Array : (elements : Exprs) → Expr
-    Unary : UnaryOp → Expr → Expr
-    Binary : BinaryOp → Expr → Expr → Expr
-    Choice : (condition chosen other : Expr) → Expr
+  pub data Expr (N : Type 0) : Type 0 where
+    Number : ℕ → Expr N
+    Place : (name : List ℕ) → (meant : N) → (accessors : Accessors N) → Expr N
+    Call : (parallel : Bool) → (name : List ℕ) → (meant : N) → (arguments : Exprs N) → Expr N
+    Anonymous : (parallel : Bool) → (name : List ℕ) → (meant : N) → (arguments : Exprs N)
+        → (inputs : Inputs N) → Expr N
+    Parentheses : Expr N → Expr N
+    Array : (elements : Exprs N) → Expr N
+    Unary : UnaryOp → Expr N → Expr N
+    Binary : BinaryOp → Expr N → Expr N → Expr N
+    Choice : (condition chosen other : Expr N) → Expr N
 
   -- a list of expressions
-  pub data Exprs : Type 0 where
-    none : Exprs
-    more : Expr → Exprs → Exprs
+  pub data Exprs (N : Type 0) : Type 0 where
+    none : Exprs N
+    more : Expr N → Exprs N → Exprs N
 
   -- the indices and members behind a name
-  pub data Accessors : Type 0 where
-    done : Accessors
-    index : Expr → Accessors → Accessors
-    member : List ℕ → Accessors → Accessors
+  pub data Accessors (N : Type 0) : Type 0 where
+    done : Accessors N
+    index : Expr N → Accessors N → Accessors N
+    member : List ℕ → Accessors N → Accessors N
 
-pub record Variable : Type 0 where
+  -- what an anonymous component is given
+  pub data Inputs (N : Type 0) : Type 0 where
+    Listed : Exprs N → Inputs N
+    Named : NamedInputs N → Inputs N
+
+  -- a list of names, each with its arrow and value
+  pub data NamedInputs (N : Type 0) : Type 0 where
+    unnamed : NamedInputs N
+    named : (name : List ℕ) → Arrow → Expr N → NamedInputs N → NamedInputs N
+
+pub record Variable (N : Type 0) : Type 0 where
   pub name : List ℕ
-  pub dimensions : Exprs
-  pub value : Option Expr
+  pub meant : N
+  pub dimensions : Exprs N
+  pub value : Option (Expr N)
 
-pub data SignalValue : Type 0 where
-  Nothing : SignalValue
-  Arrow : Expr → SignalValue
-  Constrained : Expr → SignalValue
+pub data SignalValue (N : Type 0) : Type 0 where
+  Nothing : SignalValue N
+  Given : Arrow → Expr N → SignalValue N
 
-pub record Signal : Type 0 where
+pub record Signal (N : Type 0) : Type 0 where
   pub name : List ℕ
-  pub dimensions : Exprs
-  pub value : SignalValue
+  pub meant : N
+  pub dimensions : Exprs N
+  pub value : SignalValue N
 
-pub record Component : Type 0 where
+pub record Component (N : Type 0) : Type 0 where
   pub name : List ℕ
-  pub dimensions : Exprs
+  pub meant : N
+  pub dimensions : Exprs N
 
 -- a place is an expression too, `Place`
-pub data Assign : Type 0 where
-  Set : (name : List ℕ) → Accessors → Expr → Assign
-  Compound : (name : List ℕ) → Accessors → CompoundOp → Expr → Assign
-  ArrowLeft : (name : List ℕ) → Accessors → Expr → Assign
-  ConstrainLeft : (name : List ℕ) → Accessors → Expr → Assign
-  Increment : (name : List ℕ) → Accessors → Assign
-  Decrement : (name : List ℕ) → Accessors → Assign
+pub data Assign (N : Type 0) : Type 0 where
+  Set : (name : List ℕ) → (meant : N) → Accessors N → Expr N → Assign N
+  Compound : (name : List ℕ) → (meant : N) → Accessors N → CompoundOp → Expr N → Assign N
+  Left : (name : List ℕ) → (meant : N) → Accessors N → Arrow → Expr N → Assign N
+  Increment : (name : List ℕ) → (meant : N) → Accessors N → Assign N
+  Decrement : (name : List ℕ) → (meant : N) → Accessors N → Assign N
 
-pub data First : Type 0 where
-  FirstVars : List Variable → First
-  FirstAssign : Assign → First
+pub data First (N : Type 0) : Type 0 where
+  FirstVars : List (Variable N) → First N
+  FirstAssign : Assign N → First N
 
-pub data LogArgument : Type 0 where
-  Words : List ℕ → LogArgument
-  LogValue : Expr → LogArgument
+pub data LogArgument (N : Type 0) : Type 0 where
+  Words : List ℕ → LogArgument N
+  LogValue : Expr N → LogArgument N
 
-pub data Simple : Type 0 where
-  Vars : List Variable → Simple
-  Signals : Direction → List Signal → Simple
-  Declared : List Component → Simple
-  Created : (name : List ℕ) → Expr → Simple
-  Assigned : Assign → Simple
-  Constrain : Expr → Expr → Simple
-  ArrowRight : Expr → (name : List ℕ) → Accessors → Simple
-  ConstrainRight : Expr → (name : List ℕ) → Accessors → Simple
+pub data Slot (N : Type 0) : Type 0 where
+  SlotPlace : (name : List ℕ) → (meant : N) → Accessors N → Slot N
+  SlotDiscard : Slot N
 
+-- `_`, or a tuple of slots
+pub data Target (N : Type 0) : Type 0 where
+  Discard : Target N
+  Slots : List (Slot N) → Target N
+
+-- one value, or a tuple of values
+pub data Source (N : Type 0) : Type 0 where
+  One : Expr N → Source N
+  Values : List (Expr N) → Source N
+
+pub data Simple (N : Type 0) : Type 0 where
+  Vars : List (Variable N) → Simple N
+  Signals : Direction → List (Signal N) → Simple N
+  Declared : List (Component N) → Simple N
+  Created : (name : List ℕ) → (meant : N) → Expr N → Simple N
+  Assigned : Assign N → Simple N
+  Constrain : Expr N → Expr N → Simple N
+  Right : Expr N → Arrow → (name : List ℕ) → (meant : N) → Accessors N → Simple N
+  TargetLeft : Target N → Arrow → Source N → Simple N
+  TargetRight : Source N → Arrow → Target N → Simple N
+  Alone : (parallel : Bool) → (name : List ℕ) → (meant : N) → (arguments : Exprs N)
+      → (inputs : Inputs N) → Simple N
+
+-- each statement has its place, and so have the two in the head of a `for`
 mutual
-  pub data Statement : Type 0 where
-    Block : Statements → Statement
-    If : Expr → Statement → Statement
-    IfElse : Expr → Statement → Statement → Statement
-    While : Expr → Statement → Statement
-    For : First → Expr → Assign → Statement → Statement
-    Return : Expr → Statement
-    Assert : Expr → Statement
-    Log : List LogArgument → Statement
-    Ended : Simple → Statement
+  pub data Statement (S N : Type 0) : Type 0 where
+    Block : S → Statements S N → Statement S N
+    If : S → Expr N → Statement S N → Statement S N
+    IfElse : S → Expr N → Statement S N → Statement S N → Statement S N
+    While : S → Expr N → Statement S N → Statement S N
+    For : S → S → First N → Expr N → S → Assign N → Statement S N → Statement S N
+    Return : S → Expr N → Statement S N
+    Assert : S → Expr N → Statement S N
+    Log : S → List (LogArgument N) → Statement S N
+    Ended : S → Simple N → Statement S N
 
   -- a list of statements
-  pub data Statements : Type 0 where
-    empty : Statements
-    then_more : Statement → Statements → Statements
+  pub data Statements (S N : Type 0) : Type 0 where
+    empty : Statements S N
+    then_more : Statement S N → Statements S N → Statements S N
 
-pub data Item : Type 0 where
-  Pragma : (major minor patch : ℕ) → Item
-  Include : (name : List ℕ) → Item
-  Template : (parallel : Bool) → (name : List ℕ) → (parameters : List (List ℕ)) → Statements → Item
-  Function : (name : List ℕ) → (parameters : List (List ℕ)) → Statements → Item
-  Main : (public_names : List (List ℕ)) → (template : List ℕ) → (arguments : Exprs) → Item
+pub data Item (S N : Type 0) : Type 0 where
+  Pragma : S → (major minor patch : ℕ) → Item S N
+  Include : S → (name : List ℕ) → Item S N
+  Template : S → (parallel : Bool) → (name : List ℕ) → (parameters : List (List ℕ)) → Statements S N
+      → Item S N
+  Function : S → (name : List ℕ) → (parameters : List (List ℕ)) → Statements S N → Item S N
+  Main : S → (public_names : List (List ℕ)) → (template : List ℕ) → (meant : N)
+      → (arguments : Exprs N) → Item S N
 
-abbrev pub File : Type 0
-File = List Item
+abbrev pub File : (S N : Type 0) → Type 0
+File S N = List (Item S N)
 
 -- what the program's own trees stand for
 abbrev mutual
-  pub bare : CodeExpr → Expr
+  pub bare : {N : Type 0} → CodeExpr N → Expr N
   bare (expr.Number n) = Number n
-  bare (expr.Place' name _ row) = Place name (bare_accessors row)
-  bare (expr.Call' parallel name _ row) = Call parallel name (bare_row row)
+  bare (expr.Place' name meant _ row) = Place name meant (bare_accessors row)
+  bare (expr.Call' parallel name meant _ row) = Call parallel name meant (bare_row row)
+  bare (expr.Anonymous' parallel name meant _ row given) =
+      Anonymous parallel name meant (bare_row row) (bare_inputs given)
   bare (expr.Parentheses' _ e) = Parentheses (bare e)
   bare (expr.Array' _ row) = Array (bare_row row)
   bare (expr.Unary' op _ a) = Unary op (bare a)
   bare (expr.Binary' op _ a _ b) = Binary op (bare a) (bare b)
   bare (expr.Choice' _ c _ a _ b) = Choice (bare c) (bare a) (bare b)
 
-  pub bare_row : {n : _} → Row_of-Expr n → Exprs
+  pub bare_row : {N : Type 0} {n : _} → Row_of-Expr N n → Exprs N
   bare_row end_of-Expr = none
   bare_row (more_of-Expr e rest) = more (bare e) (bare_row rest)
 
-  pub bare_accessors : {n : _} → Row_of-Accessor n → Accessors
+  pub bare_accessors : {N : Type 0} {n : _} → Row_of-Accessor N n → Accessors N
   bare_accessors end_of-Accessor = done
   bare_accessors (more_of-Accessor (accessor.Index e) rest) = index (bare e) (bare_accessors rest)
   bare_accessors (more_of-Accessor (accessor.Member name) rest) = member name (bare_accessors rest)
 
--- a list as the tree has it
-abbrev pub as_accessors : List CodeAccessor → Accessors
+  pub bare_inputs : {N : Type 0} → CodeInputs N → Inputs N
+  bare_inputs (inputs.Listed' _ row) = Listed (bare_row row)
+  bare_inputs (inputs.Named' _ row) = Named (bare_named row)
+
+  pub bare_named : {N : Type 0} {n : _} → Row_of-NamedInput N n → NamedInputs N
+  bare_named end_of-NamedInput = unnamed
+  bare_named (more_of-NamedInput name arrow e rest) = named name arrow (bare e) (bare_named rest)
+
+-- lists as the tree has them
+abbrev pub as_accessors : {N : Type 0} → List (CodeAccessor N) → Accessors N
 as_accessors [] = done
 as_accessors (accessor.Index e ∷ rest) = index (bare e) (as_accessors rest)
 as_accessors (accessor.Member name ∷ rest) = member name (as_accessors rest)
 
-abbrev pub as_exprs : List Expr → Exprs
+abbrev pub as_named : {N : Type 0} → List (CodeInput N) → NamedInputs N
+as_named [] = unnamed
+as_named (i ∷ rest) = named i.name i.arrow (bare i.value) (as_named rest)
+
+abbrev pub as_exprs : {N : Type 0} → List (Expr N) → Exprs N
 as_exprs [] = none
 as_exprs (e ∷ es) = more e (as_exprs es)
 
-abbrev pub bare_exprs : List CodeExpr → Exprs
+abbrev pub bare_exprs : {N : Type 0} → List (CodeExpr N) → Exprs N
 bare_exprs es = as_exprs (map bare es)
 
 -- a place, as an expression
-abbrev pub bare_place : CodePlace → Expr
+abbrev pub bare_place : {N : Type 0} → CodePlace N → Expr N
 bare_place p = bare (expr.Place p)
 
 -- the indices and members of an expression that is a place
-abbrev pub accessors_of : Expr → Accessors
-accessors_of (Place name accessors) = accessors
+abbrev pub accessors_of : {N : Type 0} → Expr N → Accessors N
+accessors_of (Place name meant accessors) = accessors
 accessors_of _ = done
 
-abbrev pub place_accessors : CodePlace → Accessors
+abbrev pub place_accessors : {N : Type 0} → CodePlace N → Accessors N
 place_accessors p = accessors_of (bare_place p)
 
-abbrev pub bare_value : Option CodeExpr → Option Expr
+-- an anonymous component, as an expression
+abbrev pub bare_anonymous : {N : Type 0} → CodeAnonymous N → Expr N
+bare_anonymous a = bare (expr.Anonymous a)
+
+abbrev pub arguments_of : {N : Type 0} → Expr N → Exprs N
+arguments_of (Anonymous parallel name meant arguments given) = arguments
+arguments_of _ = none
+
+abbrev pub bare_value : {N : Type 0} → Option (CodeExpr N) → Option (Expr N)
 bare_value None = None
 bare_value (Some e) = Some (bare e)
 
-abbrev pub bare_variable : CodeVariable → Variable
-bare_variable v = record { name = v.name; dimensions = bare_exprs v.dimensions; value = bare_value v.value }
+abbrev pub bare_variable : {N : Type 0} → CodeVariable N → Variable N
+bare_variable v =
+    record {
+      name = v.name;
+      meant = v.meant;
+      dimensions = bare_exprs v.dimensions;
+      value = bare_value v.value;
+    }
 
-abbrev pub bare_signal_value : CodeValue → SignalValue
+abbrev pub bare_signal_value : {N : Type 0} → CodeValue N → SignalValue N
 bare_signal_value value.Nothing = Nothing
-bare_signal_value (value.Arrow e) = Arrow (bare e)
-bare_signal_value (value.Constrain e) = Constrained (bare e)
+bare_signal_value (value.Given arrow e) = Given arrow (bare e)
 
-abbrev pub bare_signal : CodeSignal → Signal
-bare_signal s = record { name = s.name; dimensions = bare_exprs s.dimensions; value = bare_signal_value s.value }
+abbrev pub bare_signal : {N : Type 0} → CodeSignal N → Signal N
+bare_signal s =
+    record {
+      name = s.name;
+      meant = s.meant;
+      dimensions = bare_exprs s.dimensions;
+      value = bare_signal_value s.value;
+    }
 
-abbrev pub bare_component : CodeComponent → Component
-bare_component c = record { name = c.name; dimensions = bare_exprs c.dimensions }
+abbrev pub bare_component : {N : Type 0} → CodeComponent N → Component N
+bare_component c = record { name = c.name; meant = c.meant; dimensions = bare_exprs c.dimensions }
 
-abbrev pub bare_assign : CodeAssign → Assign
-bare_assign (assign.Set p e) = Set p.name (place_accessors p) (bare e)
-bare_assign (assign.Compound p op e) = Compound p.name (place_accessors p) op (bare e)
-bare_assign (assign.ArrowLeft p e) = ArrowLeft p.name (place_accessors p) (bare e)
-bare_assign (assign.ConstrainLeft p e) = ConstrainLeft p.name (place_accessors p) (bare e)
-bare_assign (assign.Increment p) = Increment p.name (place_accessors p)
-bare_assign (assign.Decrement p) = Decrement p.name (place_accessors p)
+abbrev pub bare_assign : {N : Type 0} → CodeAssign N → Assign N
+bare_assign (assign.Set p e) = Set p.name p.meant (place_accessors p) (bare e)
+bare_assign (assign.Compound p op e) = Compound p.name p.meant (place_accessors p) op (bare e)
+bare_assign (assign.Left p arrow e) = Left p.name p.meant (place_accessors p) arrow (bare e)
+bare_assign (assign.Increment p) = Increment p.name p.meant (place_accessors p)
+bare_assign (assign.Decrement p) = Decrement p.name p.meant (place_accessors p)
 
-abbrev pub bare_first : CodeFirst → First
+abbrev pub bare_first : {N : Type 0} → CodeFirst N → First N
 bare_first (first.Vars v) = FirstVars (map bare_variable v.variables)
 bare_first (first.Assign a) = FirstAssign (bare_assign a)
 
-abbrev pub bare_argument : CodeArgument → LogArgument
+abbrev pub bare_argument : {N : Type 0} → CodeArgument N → LogArgument N
 bare_argument (argument.Words w) = Words w
 bare_argument (argument.Value e) = LogValue (bare e)
 
-abbrev pub bare_simple : CodeSimple → Simple
+abbrev pub bare_slot : {N : Type 0} → CodeSlot N → Slot N
+bare_slot (slot.Place p) = SlotPlace p.name p.meant (place_accessors p)
+bare_slot slot.Discard = SlotDiscard
+
+abbrev pub bare_target : {N : Type 0} → CodeTarget N → Target N
+bare_target target.Discard = Discard
+bare_target (target.Tuple slots) = Slots (map bare_slot slots)
+
+abbrev pub bare_source : {N : Type 0} → CodeSource N → Source N
+bare_source (source.One e) = One (bare e)
+bare_source (source.Tuple es) = Values (map bare es)
+
+abbrev pub bare_alone : {N : Type 0} → CodeAnonymous N → Simple N
+bare_alone a =
+    Alone a.parallel a.name a.meant (arguments_of (bare_anonymous a)) (bare_inputs a.inputs)
+
+abbrev pub bare_simple : {N : Type 0} → CodeSimple N → Simple N
 bare_simple (simple.Vars v) = Vars (map bare_variable v.variables)
 bare_simple (simple.Signals s) = Signals s.direction (map bare_signal s.signals)
 bare_simple (simple.Components (components.Declared cs)) = Declared (map bare_component cs)
-bare_simple (simple.Components (components.Created name e)) = Created name (bare e)
+bare_simple (simple.Components (components.Created name meant e)) = Created name meant (bare e)
 bare_simple (simple.Assign a) = Assigned (bare_assign a)
 bare_simple (simple.Constrain a b) = Constrain (bare a) (bare b)
-bare_simple (simple.ArrowRight e p) = ArrowRight (bare e) p.name (place_accessors p)
-bare_simple (simple.ConstrainRight e p) = ConstrainRight (bare e) p.name (place_accessors p)
+bare_simple (simple.Right e arrow p) = Right (bare e) arrow p.name p.meant (place_accessors p)
+bare_simple (simple.TargetLeft t arrow s) = TargetLeft (bare_target t) arrow (bare_source s)
+bare_simple (simple.TargetRight s arrow t) = TargetRight (bare_source s) arrow (bare_target t)
+bare_simple (simple.Anonymous a) = bare_alone a
 
 abbrev mutual
-  pub bare_statement : CodeStatement → Statement
-  bare_statement (statement.Block' _ row) = Block (bare_statement_row row)
-  bare_statement (statement.If' c _ s) = If (bare c) (bare_statement s)
-  bare_statement (statement.IfElse' c _ s _ t) = IfElse (bare c) (bare_statement s) (bare_statement t)
-  bare_statement (statement.While' c _ s) = While (bare c) (bare_statement s)
-  bare_statement (statement.For' f c a _ s) = For (bare_first f) (bare c) (bare_assign a) (bare_statement s)
-  bare_statement (statement.Return e) = Return (bare e)
-  bare_statement (statement.Assert e) = Assert (bare e)
-  bare_statement (statement.Log arguments) = Log (map bare_argument arguments)
-  bare_statement (statement.Simple s) = Ended (bare_simple s)
+  pub bare_form : {S N : Type 0} → S → CodeForm S N → Statement S N
+  bare_form spot (statement.Block b) = Block spot (bare_block b)
+  bare_form spot (statement.If' c _ at s) = If spot (bare c) (bare_form at s)
+  bare_form spot (statement.IfElse' c _ at s _ after t) =
+      IfElse spot (bare c) (bare_form at s) (bare_form after t)
+  bare_form spot (statement.While' c _ at s) = While spot (bare c) (bare_form at s)
+  bare_form spot (statement.For' f c a _ at s) =
+      For spot f.spot (bare_first f.form) (bare c) a.spot (bare_assign a.assign) (bare_form at s)
+  bare_form spot (statement.Return e) = Return spot (bare e)
+  bare_form spot (statement.Assert e) = Assert spot (bare e)
+  bare_form spot (statement.Log arguments) = Log spot (map bare_argument arguments)
+  bare_form spot (statement.Simple s) = Ended spot (bare_simple s)
 
-  pub bare_statement_row : {n : _} → Row_of-Statement n → Statements
+  pub bare_block : {S N : Type 0} → CodeBlock S N → Statements S N
+  bare_block (Block' _ row) = bare_statement_row row
+
+  pub bare_statement_row : {S N : Type 0} {n : _} → Row_of-Statement S N n → Statements S N
   bare_statement_row end_of-Statement = empty
-  bare_statement_row (more_of-Statement s rest) = then_more (bare_statement s) (bare_statement_row rest)
+  bare_statement_row (more_of-Statement spot form rest) =
+      then_more (bare_form spot form) (bare_statement_row rest)
+
+abbrev pub bare_statement : {S N : Type 0} → CodeStatement S N → Statement S N
+bare_statement s = bare_form s.spot s.form
 
 -- a list as the tree has it
-abbrev pub as_statements : List Statement → Statements
+abbrev pub as_statements : {S N : Type 0} → List (Statement S N) → Statements S N
 as_statements [] = empty
 as_statements (s ∷ ss) = then_more s (as_statements ss)
 
--- the statements of a statement that is a block
-abbrev pub statements_of : Statement → Statements
-statements_of (Block ss) = ss
-statements_of _ = empty
+abbrev pub bare_item_form : {S N : Type 0} → S → CodeItemForm S N → Item S N
+bare_item_form spot (item.Pragma p) = Pragma spot p.major p.minor p.patch
+bare_item_form spot (item.Include i) = Include spot i.name
+bare_item_form spot (item.Definition (definition.Template t)) =
+    Template spot t.parallel t.name t.parameters (bare_block t.body)
+bare_item_form spot (item.Definition (definition.Function f)) =
+    Function spot f.name f.parameters (bare_block f.body)
+bare_item_form spot (item.Main m) = Main spot m.public m.template m.meant (bare_exprs m.arguments)
 
-abbrev pub block_statements : CodeBlock → Statements
-block_statements b = statements_of (bare_statement (statement.Block b))
+abbrev pub bare_item : {S N : Type 0} → CodeItem S N → Item S N
+bare_item i = bare_item_form i.spot i.form
 
-abbrev pub bare_item : CodeItem → Item
-bare_item (item.Pragma p) = Pragma p.major p.minor p.patch
-bare_item (item.Include i) = Include i.name
-bare_item (item.Definition (definition.Template t)) = Template t.parallel t.name t.parameters (block_statements t.body)
-bare_item (item.Definition (definition.Function f)) = Function f.name f.parameters (block_statements f.body)
-bare_item (item.Main m) = Main m.public m.template (bare_exprs m.arguments)
-
-abbrev pub bare_file : CodeFile → File
+abbrev pub bare_file : {S N : Type 0} → CodeFile S N → File S N
 bare_file f = map bare_item f.items

@@ -2,13 +2,13 @@
 #![tactic(auto)]
 
 mod making;
-mod placing;
-pub mod plain_program;
-pub mod plain_tree;
+pub mod marked;
+mod operators;
 pub mod program;
 mod refusal;
 pub mod tree;
 
-pub use cir_lexer::Text;
+pub use cir_token::Text;
+pub use marked::Blank;
 pub use refusal::{Form, Kind, Place, Refusal, Which};
 pub use tree::File;

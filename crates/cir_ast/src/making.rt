@@ -1,45 +1,94 @@
 //! Trees of lists. They take no memory.
 ghost use Rattle.std.specs.Prelude.{◌≡◌, map};
-ghost use Rattle.cir_ast.specs.Tree.{bare, bare_exprs, bare_place, as_accessors, Call, Array, Place as PlaceTree, bare_statement, Block as BlockTree, as_statements, block_statements};
+ghost use Rattle.cir_ast.specs.Tree.{bare, bare_exprs, bare_inputs, bare_place, as_accessors};
+ghost use Rattle.cir_ast.specs.Tree.{as_named, Call, Array, Listed, Named};
+ghost use Rattle.cir_ast.specs.Tree.{Anonymous as AnonymousTree, Place as PlaceTree};
+ghost use Rattle.cir_ast.specs.Tree.{bare_anonymous, bare_statement, Block as BlockTree};
+ghost use Rattle.cir_ast.specs.Tree.{as_statements, bare_block};
 
-use crate::tree::{Accessor, Block, Expr, Place, Statement};
-use cir_lexer::Text;
+use crate::marked::{
+    Accessor, Anonymous, Block, Expr, Inputs, NamedInput, Place, Statement, StatementForm,
+};
+use cir_token::Text;
 use items::Items;
 
-impl Place {
-    pub fn of(name: Text, accessors: Items<Accessor>) -> Place
-        ensures { bare_place result ≡ PlaceTree name (as_accessors accessors) }
+impl<N> Place<N> {
+    pub fn of(name: Text, meant: N, accessors: Items<Accessor<N>>) -> Place<N>
+        ensures { bare_place result ≡ PlaceTree name meant (as_accessors accessors) }
     {
-        Place { name, accessors }
+        Place {
+            name,
+            meant,
+            accessors,
+        }
     }
 }
 
-impl Expr {
-    pub fn call(parallel: bool, name: Text, arguments: Items<Expr>) -> Expr
-        ensures { bare result ≡ Call parallel name (bare_exprs arguments) }
+impl<N> Inputs<N> {
+    pub fn listed(values: Items<Expr<N>>) -> Inputs<N>
+        ensures { bare_inputs result ≡ Listed (bare_exprs values) }
     {
-        Expr::Call(parallel, name, arguments)
+        Inputs::Listed(values)
     }
 
-    pub fn array(elements: Items<Expr>) -> Expr
+    pub fn named(inputs: Items<NamedInput<N>>) -> Inputs<N>
+        ensures { bare_inputs result ≡ Named (as_named inputs) }
+    {
+        Inputs::Named(inputs)
+    }
+}
+
+impl<N> Anonymous<N> {
+    pub fn of(
+        parallel: bool,
+        name: Text,
+        meant: N,
+        arguments: Items<Expr<N>>,
+        inputs: Inputs<N>,
+    ) -> Anonymous<N>
+        ensures { bare_anonymous result
+            ≡ AnonymousTree parallel name meant (bare_exprs arguments) (bare_inputs inputs) }
+    {
+        Anonymous {
+            parallel,
+            name,
+            meant,
+            arguments,
+            inputs,
+        }
+    }
+}
+
+impl<N> Expr<N> {
+    pub fn call(parallel: bool, name: Text, meant: N, arguments: Items<Expr<N>>) -> Expr<N>
+        ensures { bare result ≡ Call parallel name meant (bare_exprs arguments) }
+    {
+        Expr::Call(parallel, name, meant, arguments)
+    }
+
+    pub fn array(elements: Items<Expr<N>>) -> Expr<N>
         ensures { bare result ≡ Array (bare_exprs elements) }
     {
         Expr::Array(elements)
     }
 }
 
-impl Block {
-    pub fn of(statements: Items<Statement>) -> Block
-        ensures { block_statements result ≡ as_statements (map bare_statement statements) }
+impl<S, N> Block<S, N> {
+    pub fn of(statements: Items<Statement<S, N>>) -> Block<S, N>
+        ensures { bare_block result ≡ as_statements (map bare_statement statements) }
     {
         Block { statements }
     }
 }
 
-impl Statement {
-    pub fn block(statements: Items<Statement>) -> Statement
-        ensures { bare_statement result ≡ BlockTree (as_statements (map bare_statement statements)) }
+impl<S, N> Statement<S, N> {
+    pub fn block(spot: S, statements: Items<Statement<S, N>>) -> Statement<S, N>
+        ensures { bare_statement result
+            ≡ BlockTree spot (as_statements (map bare_statement statements)) }
     {
-        Statement::Block(Block { statements })
+        Statement {
+            spot,
+            form: StatementForm::Block(Block { statements }),
+        }
     }
 }

@@ -1,11 +1,40 @@
-//! The definitions of all files of a program, with their places and the numbers of their variables.
-//!
-//! Lines and columns count from 1, and a column counts bytes. An item or a statement stands at its first
-//! token; so do the two statements in the head of a `for`. The parameters and the declared variables of a
-//! definition are numbered from 0, in source order.
-pub use crate::tree::{Binary, Compound, Direction, Unary};
-use cir_lexer::Text;
+//! The definitions of all files of a program. Each item and statement has its place, and each name
+//! its meaning.
+use crate::marked;
+use crate::marked::Blank;
+pub use crate::marked::{Arrow, Binary, Compound, Direction, Unary};
+use cir_token::Text;
 use items::Items;
+
+/// A line and a column of a source. Both count from 1, and a column counts bytes. An item or a
+/// statement stands at its first token; so do the two statements in the head of a `for`.
+#[derive(Debug, Clone, Copy, PartialEq, Eq)]
+pub struct Spot {
+    pub line: u32,
+    pub column: u32,
+}
+
+/// What a name means where it stands.
+///
+/// In a definition, its variables are numbered from 0: the parameters, then the declarations in the
+/// order of the text. So are its signals, and so its components. Templates and functions are
+/// numbered as the program lists them.
+#[derive(Debug, Clone, Copy, PartialEq, Eq)]
+pub enum Meant {
+    /// Nothing that is declared there or defined, or nothing yet.
+    Other,
+    Variable(u32),
+    Signal(Direction, u32),
+    Component(u32),
+    Template(u32),
+    Function(u32),
+}
+
+impl Blank for Meant {
+    fn blank() -> Meant {
+        Meant::Other
+    }
+}
 
 /// The files in the order of loading, and their definitions in that order.
 #[derive(Drop)]
@@ -16,24 +45,22 @@ pub struct Program {
     pub mains: Items<Main>,
 }
 
-/// A definition or a main component.
-#[derive(Drop)]
-pub enum Definition {
-    Template(Template),
-    Function(Function),
-    Main(Main),
-}
-
 /// `template name(parameters) { .. }`
 #[derive(Drop)]
 pub struct Template {
     /// The place of its file in the program's list.
     pub file: u32,
-    pub line: u32,
-    pub column: u32,
+    pub spot: Spot,
     pub parallel: bool,
     pub name: Text,
-    pub parameters: Items<Parameter>,
+    /// Its first variables.
+    pub parameters: Items<Text>,
+    /// How many variables it has, with the parameters.
+    pub variables: u32,
+    /// How many signals it declares.
+    pub signals: u32,
+    /// How many components it declares.
+    pub components: u32,
     pub body: Block,
 }
 
@@ -42,18 +69,13 @@ pub struct Template {
 pub struct Function {
     /// The place of its file in the program's list.
     pub file: u32,
-    pub line: u32,
-    pub column: u32,
+    pub spot: Spot,
     pub name: Text,
-    pub parameters: Items<Parameter>,
+    /// Its first variables.
+    pub parameters: Items<Text>,
+    /// How many variables it has, with the parameters.
+    pub variables: u32,
     pub body: Block,
-}
-
-#[derive(Drop)]
-pub struct Parameter {
-    pub name: Text,
-    /// Its number among the variables of the definition.
-    pub variable: u32,
 }
 
 /// `component main {public [names]} = template(arguments);`
@@ -61,198 +83,61 @@ pub struct Parameter {
 pub struct Main {
     /// The place of its file in the program's list.
     pub file: u32,
-    pub line: u32,
-    pub column: u32,
+    pub spot: Spot,
     /// The public inputs; empty where the list isn't written.
     pub public: Items<Text>,
     pub template: Text,
+    /// What the template's name means.
+    pub meant: Meant,
     pub arguments: Items<Expr>,
 }
 
-#[cycle(program_statements)]
-#[derive(Drop)]
-pub struct Block {
-    pub statements: Items<Statement>,
-}
+pub type Block = marked::Block<Spot, Meant>;
 
-#[cycle(program_statements)]
-#[derive(Drop)]
-pub struct Statement {
-    pub line: u32,
-    pub column: u32,
-    pub form: StatementForm,
-}
+pub type Statement = marked::Statement<Spot, Meant>;
 
-#[cycle(program_statements)]
-#[derive(Drop)]
-pub enum StatementForm {
-    Block(Block),
-    /// `if (condition) chosen`
-    If(Expr, Box<Statement>),
-    /// `if (condition) chosen else other`
-    IfElse(Expr, Box<Statement>, Box<Statement>),
-    /// `while (condition) body`
-    While(Expr, Box<Statement>),
-    /// `for (first; condition; step) body`
-    For(First, Expr, Step, Box<Statement>),
-    /// `return value;`
-    Return(Expr),
-    /// `assert(condition);`
-    Assert(Expr),
-    /// `log(arguments);`
-    Log(Items<LogArgument>),
-    /// A simple statement and its `;`.
-    Simple(Simple),
-}
+pub type StatementForm = marked::StatementForm<Spot, Meant>;
 
-/// What the head of a `for` begins with.
-#[derive(Drop)]
-pub struct First {
-    pub line: u32,
-    pub column: u32,
-    pub form: FirstForm,
-}
+pub type First = marked::First<Spot, Meant>;
 
-#[derive(Drop)]
-pub enum FirstForm {
-    Vars(Vars),
-    Assign(Assign),
-}
+pub type FirstForm = marked::FirstForm<Meant>;
 
-/// What the head of a `for` ends with.
-#[derive(Drop)]
-pub struct Step {
-    pub line: u32,
-    pub column: u32,
-    pub assign: Assign,
-}
+pub type Step = marked::Step<Spot, Meant>;
 
-#[derive(Drop)]
-pub enum LogArgument {
-    /// What stands between the quotes.
-    Words(Text),
-    Value(Expr),
-}
+pub type LogArgument = marked::LogArgument<Meant>;
 
-#[derive(Drop)]
-pub enum Simple {
-    Vars(Vars),
-    Signals(Signals),
-    Components(Components),
-    Assign(Assign),
-    /// `left === right`
-    Constrain(Expr, Expr),
-    /// `value --> place`
-    ArrowRight(Expr, Place),
-    /// `value ==> place`
-    ConstrainRight(Expr, Place),
-}
+pub type Simple = marked::Simple<Meant>;
 
-/// `var` and one or more variables.
-#[derive(Drop)]
-pub struct Vars {
-    pub variables: Items<DeclaredVariable>,
-}
+pub type Vars = marked::Vars<Meant>;
 
-/// `name[dimension]..`, or `name[dimension].. = value`
-#[derive(Drop)]
-pub struct DeclaredVariable {
-    pub name: Text,
-    /// Its number among the variables of the definition.
-    pub variable: u32,
-    pub dimensions: Items<Expr>,
-    pub value: Option<Expr>,
-}
+pub type DeclaredVariable = marked::DeclaredVariable<Meant>;
 
-/// `signal`, optionally `input` or `output`, and one or more signals.
-#[derive(Drop)]
-pub struct Signals {
-    pub direction: Direction,
-    pub signals: Items<DeclaredSignal>,
-}
+pub type Signals = marked::Signals<Meant>;
 
-#[derive(Drop)]
-pub struct DeclaredSignal {
-    pub name: Text,
-    pub dimensions: Items<Expr>,
-    pub value: SignalValue,
-}
+pub type DeclaredSignal = marked::DeclaredSignal<Meant>;
 
-/// What a declared signal is given at once.
-#[derive(Drop)]
-pub enum SignalValue {
-    Nothing,
-    /// `<-- value`
-    Arrow(Expr),
-    /// `<== value`
-    Constrain(Expr),
-}
+pub type SignalValue = marked::SignalValue<Meant>;
 
-#[derive(Drop)]
-pub enum Components {
-    /// `component` and one or more components without a template.
-    Declared(Items<DeclaredComponent>),
-    /// `component name = value`
-    Created(Text, Expr),
-}
+pub type Components = marked::Components<Meant>;
 
-#[derive(Drop)]
-pub struct DeclaredComponent {
-    pub name: Text,
-    pub dimensions: Items<Expr>,
-}
+pub type DeclaredComponent = marked::DeclaredComponent<Meant>;
 
-#[derive(Drop)]
-pub enum Assign {
-    /// `place = value`
-    Set(Place, Expr),
-    /// `place += value`, and so for the other operators.
-    Compound(Place, Compound, Expr),
-    /// `place <-- value`
-    ArrowLeft(Place, Expr),
-    /// `place <== value`
-    ConstrainLeft(Place, Expr),
-    /// `place++`
-    Increment(Place),
-    /// `place--`
-    Decrement(Place),
-}
+pub type Assign = marked::Assign<Meant>;
 
-/// What an expression reads or an assignment writes: `name[index].member`, with any number of indices and
-/// members.
-#[cycle(program_expressions)]
-#[derive(Drop)]
-pub struct Place {
-    pub name: Text,
-    /// The number of the variable or parameter that the name means, if it means one.
-    pub variable: Option<u32>,
-    pub accessors: Items<Accessor>,
-}
+pub type Target = marked::Target<Meant>;
 
-#[cycle(program_expressions)]
-#[derive(Drop)]
-pub enum Accessor {
-    /// `[index]`
-    Index(Expr),
-    /// `.member`
-    Member(Text),
-}
+pub type Slot = marked::Slot<Meant>;
 
-/// An expression, with its parentheses.
-#[cycle(program_expressions)]
-#[derive(Drop)]
-pub enum Expr {
-    /// A number as it is written, before any reduction.
-    Number(u128),
-    Place(Place),
-    /// `name(arguments)`, and whether the word `parallel` stands before it.
-    Call(bool, Text, Items<Expr>),
-    /// `(inner)`
-    Parentheses(Box<Expr>),
-    /// `[elements]`
-    Array(Items<Expr>),
-    Unary(Unary, Box<Expr>),
-    Binary(Binary, Box<Expr>, Box<Expr>),
-    /// `condition ? chosen : other`
-    Choice(Box<Expr>, Box<Expr>, Box<Expr>),
-}
+pub type Source = marked::Source<Meant>;
+
+pub type Place = marked::Place<Meant>;
+
+pub type Accessor = marked::Accessor<Meant>;
+
+pub type Anonymous = marked::Anonymous<Meant>;
+
+pub type Inputs = marked::Inputs<Meant>;
+
+pub type NamedInput = marked::NamedInput<Meant>;
+
+pub type Expr = marked::Expr<Meant>;

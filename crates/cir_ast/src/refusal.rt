@@ -1,4 +1,9 @@
-use cir_lexer::{LexCause, Text};
+ghost use Rattle.std.specs.Prelude.{◌≡◌, IfOk};
+ghost use Rattle.cir_ast.specs.Spot.{refusal_at};
+
+use crate::program::Spot;
+use cir_token::{LexCause, Text};
+use std::alloc::{AllocError, Global};
 
 /// Where a refusal stands. Lines and columns count from 1, and a column counts bytes.
 #[derive(Debug, Drop)]
@@ -15,6 +20,25 @@ pub struct Place {
 pub struct Refusal {
     pub kind: Kind,
     pub place: Place,
+}
+
+impl Refusal {
+    /// The refusal at a place of the file of this name, before any instance is made.
+    pub fn at(alloc: Global, file: &[u8], kind: Kind, spot: Spot) -> Result<Refusal, AllocError>
+        ensures { IfOk result (λ r. r ≡ refusal_at file.now kind spot) }
+    {
+        let file = Text::from_slice(alloc, file)?;
+        let path = Text::from_slice(alloc, b"-")?;
+        Ok(Refusal {
+            kind,
+            place: Place {
+                file,
+                line: spot.line,
+                column: spot.column,
+                path,
+            },
+        })
+    }
 }
 
 /// The 22 kinds of refusal of a source, E1 to E22.
@@ -58,6 +82,7 @@ pub enum Form {
     LogPlace,
     RunArray,
     RunDimension,
+    AnonymousPlace,
     /// In the profile, and not built yet.
     Unbuilt,
 }

@@ -1,293 +1,72 @@
-//! What the parser makes of a file's tokens: one type for each rule of the grammar. A tree has no places and
-//! no numbers of declarations.
-use cir_lexer::Text;
-use items::Items;
+//! What the parser makes of a file's tokens: trees without places, whose names have no meaning yet.
+use crate::marked;
+use crate::marked::Blank;
+pub use crate::marked::{Arrow, Binary, Compound, Direction, Include, Pragma, Unary};
 
-/// A source file.
-#[derive(Drop)]
-pub struct File {
-    pub items: Items<Item>,
+impl Blank for () {
+    fn blank() {}
 }
 
-#[derive(Drop)]
-pub enum Item {
-    Pragma(Pragma),
-    Include(Include),
-    Definition(Definition),
-    Main(Main),
-}
+pub type File = marked::File<(), ()>;
 
-/// `pragma circom 2.0.0;`, with the numbers as they are written.
-#[derive(Drop)]
-pub struct Pragma {
-    pub major: u128,
-    pub minor: u128,
-    pub patch: u128,
-}
+pub type Item = marked::Item<(), ()>;
 
-/// `include "name";`
-#[derive(Drop)]
-pub struct Include {
-    /// What stands between the quotes.
-    pub name: Text,
-}
+pub type ItemForm = marked::ItemForm<(), ()>;
 
-#[derive(Drop)]
-pub enum Definition {
-    Template(Template),
-    Function(Function),
-}
+pub type Definition = marked::Definition<(), ()>;
 
-/// `template name(parameters) { .. }`
-#[derive(Drop)]
-pub struct Template {
-    /// Whether the word `parallel` stands before the name.
-    pub parallel: bool,
-    pub name: Text,
-    pub parameters: Items<Text>,
-    pub body: Block,
-}
+pub type Template = marked::Template<(), ()>;
 
-/// `function name(parameters) { .. }`
-#[derive(Drop)]
-pub struct Function {
-    pub name: Text,
-    pub parameters: Items<Text>,
-    pub body: Block,
-}
+pub type Function = marked::Function<(), ()>;
 
-/// `component main {public [names]} = template(arguments);`
-#[derive(Drop)]
-pub struct Main {
-    /// The public inputs; empty where the list isn't written.
-    pub public: Items<Text>,
-    pub template: Text,
-    pub arguments: Items<Expr>,
-}
+pub type Main = marked::Main<()>;
 
-#[cycle(statements)]
-#[derive(Drop)]
-pub struct Block {
-    pub statements: Items<Statement>,
-}
+pub type Block = marked::Block<(), ()>;
 
-#[cycle(statements)]
-#[derive(Drop)]
-pub enum Statement {
-    Block(Block),
-    /// `if (condition) chosen`
-    If(Expr, Box<Statement>),
-    /// `if (condition) chosen else other`
-    IfElse(Expr, Box<Statement>, Box<Statement>),
-    /// `while (condition) body`
-    While(Expr, Box<Statement>),
-    /// `for (first; condition; step) body`
-    For(First, Expr, Assign, Box<Statement>),
-    /// `return value;`
-    Return(Expr),
-    /// `assert(condition);`
-    Assert(Expr),
-    /// `log(arguments);`
-    Log(Items<LogArgument>),
-    /// A simple statement and its `;`.
-    Simple(Simple),
-}
+pub type Statement = marked::Statement<(), ()>;
 
-/// What the head of a `for` begins with.
-#[derive(Drop)]
-pub enum First {
-    Vars(Vars),
-    Assign(Assign),
-}
+pub type StatementForm = marked::StatementForm<(), ()>;
 
-#[derive(Drop)]
-pub enum LogArgument {
-    /// What stands between the quotes.
-    Words(Text),
-    Value(Expr),
-}
+pub type First = marked::First<(), ()>;
 
-#[derive(Drop)]
-pub enum Simple {
-    Vars(Vars),
-    Signals(Signals),
-    Components(Components),
-    Assign(Assign),
-    /// `left === right`
-    Constrain(Expr, Expr),
-    /// `value --> place`
-    ArrowRight(Expr, Place),
-    /// `value ==> place`
-    ConstrainRight(Expr, Place),
-}
+pub type FirstForm = marked::FirstForm<()>;
 
-/// `var` and one or more variables.
-#[derive(Drop)]
-pub struct Vars {
-    pub variables: Items<DeclaredVariable>,
-}
+pub type Step = marked::Step<(), ()>;
 
-/// `name[dimension]..`, or `name[dimension].. = value`
-#[derive(Drop)]
-pub struct DeclaredVariable {
-    pub name: Text,
-    pub dimensions: Items<Expr>,
-    pub value: Option<Expr>,
-}
+pub type LogArgument = marked::LogArgument<()>;
 
-/// `signal`, optionally `input` or `output`, and one or more signals.
-#[derive(Drop)]
-pub struct Signals {
-    pub direction: Direction,
-    pub signals: Items<DeclaredSignal>,
-}
+pub type Simple = marked::Simple<()>;
 
-/// What a signal is to its template.
-#[derive(Debug, Clone, Copy, PartialEq, Eq)]
-pub enum Direction {
-    Inner,
-    Input,
-    Output,
-}
+pub type Vars = marked::Vars<()>;
 
-#[derive(Drop)]
-pub struct DeclaredSignal {
-    pub name: Text,
-    pub dimensions: Items<Expr>,
-    pub value: SignalValue,
-}
+pub type DeclaredVariable = marked::DeclaredVariable<()>;
 
-/// What a declared signal is given at once.
-#[derive(Drop)]
-pub enum SignalValue {
-    Nothing,
-    /// `<-- value`
-    Arrow(Expr),
-    /// `<== value`
-    Constrain(Expr),
-}
+pub type Signals = marked::Signals<()>;
 
-#[derive(Drop)]
-pub enum Components {
-    /// `component` and one or more components without a template.
-    Declared(Items<DeclaredComponent>),
-    /// `component name = value`
-    Created(Text, Expr),
-}
+pub type DeclaredSignal = marked::DeclaredSignal<()>;
 
-#[derive(Drop)]
-pub struct DeclaredComponent {
-    pub name: Text,
-    pub dimensions: Items<Expr>,
-}
+pub type SignalValue = marked::SignalValue<()>;
 
-#[derive(Drop)]
-pub enum Assign {
-    /// `place = value`
-    Set(Place, Expr),
-    /// `place += value`, and so for the other operators.
-    Compound(Place, Compound, Expr),
-    /// `place <-- value`
-    ArrowLeft(Place, Expr),
-    /// `place <== value`
-    ConstrainLeft(Place, Expr),
-    /// `place++`
-    Increment(Place),
-    /// `place--`
-    Decrement(Place),
-}
+pub type Components = marked::Components<()>;
 
-/// The operator of a symbol such as `+=`.
-#[derive(Debug, Clone, Copy, PartialEq, Eq)]
-pub enum Compound {
-    Pow,
-    ShiftLeft,
-    ShiftRight,
-    Add,
-    Sub,
-    Mul,
-    Div,
-    Quotient,
-    Remainder,
-    And,
-    Or,
-    Xor,
-}
+pub type DeclaredComponent = marked::DeclaredComponent<()>;
 
-/// What an expression reads or an assignment writes: `name[index].member`, with any number of indices and
-/// members.
-#[cycle(expressions)]
-#[derive(Drop)]
-pub struct Place {
-    pub name: Text,
-    pub accessors: Items<Accessor>,
-}
+pub type Assign = marked::Assign<()>;
 
-#[cycle(expressions)]
-#[derive(Drop)]
-pub enum Accessor {
-    /// `[index]`
-    Index(Expr),
-    /// `.member`
-    Member(Text),
-}
+pub type Target = marked::Target<()>;
 
-/// An expression, with its parentheses.
-#[cycle(expressions)]
-#[derive(Drop)]
-pub enum Expr {
-    /// A number as it is written, before any reduction.
-    Number(u128),
-    Place(Place),
-    /// `name(arguments)`, and whether the word `parallel` stands before it.
-    Call(bool, Text, Items<Expr>),
-    /// `(inner)`
-    Parentheses(Box<Expr>),
-    /// `[elements]`
-    Array(Items<Expr>),
-    Unary(Unary, Box<Expr>),
-    Binary(Binary, Box<Expr>, Box<Expr>),
-    /// `condition ? chosen : other`
-    Choice(Box<Expr>, Box<Expr>, Box<Expr>),
-}
+pub type Slot = marked::Slot<()>;
 
-/// An operator before its operand.
-#[derive(Debug, Clone, Copy, PartialEq, Eq)]
-pub enum Unary {
-    /// `-`
-    Negate,
-    /// `!`
-    Not,
-    /// `~`
-    Complement,
-}
+pub type Source = marked::Source<()>;
 
-/// An operator between two operands.
-#[derive(Debug, Clone, Copy, PartialEq, Eq)]
-pub enum Binary {
-    /// `**`
-    Pow,
-    Mul,
-    Div,
-    /// `\`
-    Quotient,
-    /// `%`
-    Remainder,
-    Add,
-    Sub,
-    ShiftLeft,
-    ShiftRight,
-    BitAnd,
-    BitXor,
-    BitOr,
-    Equal,
-    NotEqual,
-    Less,
-    LessEqual,
-    Greater,
-    GreaterEqual,
-    /// `&&`
-    And,
-    /// `||`
-    Or,
-}
+pub type Place = marked::Place<()>;
+
+pub type Accessor = marked::Accessor<()>;
+
+pub type Anonymous = marked::Anonymous<()>;
+
+pub type Inputs = marked::Inputs<()>;
+
+pub type NamedInput = marked::NamedInput<()>;
+
+pub type Expr = marked::Expr<()>;

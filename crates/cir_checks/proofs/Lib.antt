@@ -1,4 +1,7 @@
-pub mod Scoped
+pub mod Finding
 pub mod Seen
-pub mod Turns
 pub mod Mains
+pub mod Tables
+pub mod Used
+pub mod UsedStatements
+pub mod UsedPrograms

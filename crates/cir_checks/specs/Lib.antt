@@ -1,8 +1,7 @@
-pub use Rattle.cir_duplicates.specs.Faults
-pub use Rattle.cir_duplicates.specs.Duplicates
-pub use Rattle.cir_duplicates.specs.Names
-pub use Rattle.cir_duplicates.specs.Tables
-pub mod Scopes
+pub mod Faults
+pub mod Heads
+pub mod Answers
 pub mod Uses
+pub mod Statements
 pub mod Checks
-pub mod Blocks
+pub mod Checked

@@ -1,210 +1,180 @@
 //! The faults of expressions.
 ghost use Rattle.std.specs.Prelude.{◌≡◌};
-ghost use Rattle.std.specs.Result.{result_err};
-ghost use Rattle.cir_ast.specs.Placed.{seen, seen_exprs, as_accessors};
-ghost use Rattle.cir_duplicates.specs.Tables.{defined_in};
-ghost use Rattle.cir_checks.specs.Blocks.{scope_in};
-ghost use Rattle.cir_checks.specs.Uses.{unless, members, undeclared, undefined, read_fault, value_call_fault, component_call_fault, value_fault, values_fault, accessors_fault, component_fault, is_call};
+ghost use Rattle.cir_ast.specs.Tree.{bare, bare_exprs, bare_inputs, bare_anonymous, as_accessors};
+ghost use Rattle.cir_ast.specs.Tree.{as_named, arguments_of};
+ghost use Rattle.cir_checks.specs.Faults.{no_names};
+ghost use Rattle.cir_checks.specs.Uses.{inputs_count, inputs_in, value_fault, nameless_fault};
+ghost use Rattle.cir_checks.specs.Uses.{values_fault, accessors_fault, inputs_fault, named_fault};
+ghost use Rattle.cir_checks.specs.Uses.{whole_fault, component_fault, is_call};
+ghost use Rattle.cir_checks.specs.Answers.{Finds, table_in, callee_in};
 
-use crate::scopes::{Scope, Thing};
+use crate::calls::{members, read_fault, unless};
+use crate::name_set::NameSet;
+use crate::positions::Room;
+use crate::stop::Stop;
+use crate::table::{Callee, Table};
 use cir_ast::Kind;
-use cir_ast::program::{Accessor, Expr};
-use cir_duplicates::{Defined, Definitions};
+use cir_ast::program::{Accessor, Anonymous, Expr, Inputs, NamedInput};
 
-/// A fault where this doesn't hold.
-pub(crate) fn unless(holds: bool, kind: Kind) -> Result<(), Kind>
-    ensures { result_err result ≡ unless holds kind }
+#[tactic(auto, using(crate::proofs::Seen::seen_counts))]
+fn inputs_count(inputs: &Inputs) -> usize
+    ensures { result ≡ inputs_count (bare_inputs inputs.now) }
 {
-    if holds { Ok(()) } else { Err(kind) }
-}
-
-/// How many members stand behind a name.
-pub(crate) fn members(accessors: &[Accessor]) -> usize
-    ensures { result ≡ members (as_accessors accessors.now) }
-{
-    let mut members = 0;
-    for accessor in accessors {
-        if let Accessor::Member(_) = accessor {
-            members += 1;
-        }
-    }
-    members
-}
-
-/// Why a name that isn't declared may not be read or written.
-pub(crate) fn undeclared(name: &[u8], definitions: &Definitions<'_>) -> Kind
-    ensures { result ≡ undeclared (defined_in definitions.now) name.now }
-{
-    match definitions.get(name) {
-        Some(_) => Kind::WrongKind,
-        None => Kind::UnknownName,
+    match inputs {
+        Inputs::Listed(values) => values.len(),
+        Inputs::Named(inputs) => inputs.len(),
     }
 }
 
-/// Why a name that isn't defined may not be called.
-fn undefined(name: &[u8], scope: &Scope<'_>) -> Kind
-    ensures { result ≡ undefined (scope_in scope.now) name.now }
+/// Whether an expression is a call, of a template as far as it is known.
+pub(crate) fn is_call(expression: &Expr) -> bool
+    ensures { result ≡ is_call (bare expression.now) }
 {
-    match scope.get(name) {
-        Some(_) => Kind::WrongKind,
-        None => Kind::UnknownName,
-    }
-}
-
-/// The fault of a name that is read with these indices and members.
-fn read_fault(
-    name: &[u8],
-    accessors: &[Accessor],
-    definitions: &Definitions<'_>,
-    scope: &Scope<'_>,
-) -> Result<(), Kind>
-    ensures { result_err result ≡ read_fault (defined_in definitions.now) name.now (scope_in scope.now name.now) (as_accessors accessors.now) }
-{
-    match scope.get(name) {
-        None => Err(undeclared(name, definitions)),
-        Some(Thing::Variable) => unless(members(accessors) == 0, Kind::WrongKind),
-        Some(Thing::Signal(_)) => unless(members(accessors) == 0, Kind::WrongKind),
-        Some(Thing::Component) => unless(members(accessors) == 1, Kind::WrongKind),
-    }
-}
-
-/// The fault of a call for its value, at the called name.
-fn value_call_fault(
-    name: &[u8],
-    count: usize,
-    definitions: &Definitions<'_>,
-    scope: &Scope<'_>,
-) -> Result<(), Kind>
-    ensures { result_err result ≡ value_call_fault (scope_in scope.now) name.now count (defined_in definitions.now name.now) }
-{
-    match definitions.get(name) {
-        None => Err(undefined(name, scope)),
-        Some(Defined::Function(function)) => {
-            unless(count == function.parameters.len(), Kind::Arity)
-        }
-        Some(Defined::Template(template)) => {
-            unless(count == template.parameters.len(), Kind::Arity)?;
-            Err(Kind::WrongKind)
-        }
-    }
-}
-
-/// The fault of a call that creates a component, at the called name.
-pub(crate) fn component_call_fault(
-    name: &[u8],
-    count: usize,
-    definitions: &Definitions<'_>,
-    scope: &Scope<'_>,
-) -> Result<(), Kind>
-    ensures { result_err result ≡ component_call_fault (scope_in scope.now) name.now count (defined_in definitions.now name.now) }
-{
-    match definitions.get(name) {
-        None => Err(undefined(name, scope)),
-        Some(Defined::Template(template)) => {
-            unless(count == template.parameters.len(), Kind::Arity)
-        }
-        Some(Defined::Function(function)) => {
-            unless(count == function.parameters.len(), Kind::Arity)?;
-            Err(Kind::WrongKind)
-        }
-    }
-}
-
-/// The first fault of an expression that is used for its value.
-#[cycle(values)]
-#[tactic(auto, using(crate::proofs::Seen::seen_lists))]
-pub(crate) fn value_fault(
-    e: &Expr,
-    definitions: &Definitions<'_>,
-    scope: &Scope<'_>,
-) -> Result<(), Kind>
-    ensures { result_err result ≡ value_fault (defined_in definitions.now) (scope_in scope.now) (seen e.now) }
-{
-    match e {
-        Expr::Number(_) => Ok(()),
-        Expr::Place(place) => {
-            let accessors = place.accessors.as_slice();
-            read_fault(place.name.as_slice(), accessors, definitions, scope)?;
-            accessors_fault(accessors, definitions, scope)
-        }
-        Expr::Call(_, name, arguments) => {
-            value_call_fault(name.as_slice(), arguments.len(), definitions, scope)?;
-            values_fault(arguments.as_slice(), definitions, scope)
-        }
-        Expr::Parentheses(inner) => value_fault(inner, definitions, scope),
-        Expr::Array(elements) => values_fault(elements.as_slice(), definitions, scope),
-        Expr::Unary(_, operand) => value_fault(operand, definitions, scope),
-        Expr::Binary(_, left, right) => {
-            value_fault(left, definitions, scope)?;
-            value_fault(right, definitions, scope)
-        }
-        Expr::Choice(condition, chosen, other) => {
-            value_fault(condition, definitions, scope)?;
-            value_fault(chosen, definitions, scope)?;
-            value_fault(other, definitions, scope)
-        }
-    }
-}
-
-/// The first fault of expressions that are used for their values, in turn.
-#[cycle(values)]
-pub(crate) fn values_fault(
-    es: &[Expr],
-    definitions: &Definitions<'_>,
-    scope: &Scope<'_>,
-) -> Result<(), Kind>
-    ensures { result_err result ≡ values_fault (defined_in definitions.now) (scope_in scope.now) (seen_exprs es.now) }
-{
-    for e in es {
-        value_fault(e, definitions, scope)?;
-    }
-    Ok(())
-}
-
-/// The first fault of the indices behind a name.
-#[cycle(values)]
-pub(crate) fn accessors_fault(
-    accessors: &[Accessor],
-    definitions: &Definitions<'_>,
-    scope: &Scope<'_>,
-) -> Result<(), Kind>
-    ensures { result_err result ≡ accessors_fault (defined_in definitions.now) (scope_in scope.now) (as_accessors accessors.now) }
-{
-    for accessor in accessors {
-        match accessor {
-            Accessor::Index(index) => value_fault(index, definitions, scope)?,
-            Accessor::Member(_) => {}
-        }
-    }
-    Ok(())
-}
-
-/// The first fault of an expression that creates a component.
-#[tactic(auto, using(crate::proofs::Seen::seen_lists))]
-pub(crate) fn component_fault(
-    e: &Expr,
-    definitions: &Definitions<'_>,
-    scope: &Scope<'_>,
-) -> Result<(), Kind>
-    ensures { result_err result ≡ component_fault (defined_in definitions.now) (scope_in scope.now) (seen e.now) }
-{
-    match e {
-        Expr::Call(_, name, arguments) => {
-            component_call_fault(name.as_slice(), arguments.len(), definitions, scope)?;
-            values_fault(arguments.as_slice(), definitions, scope)
-        }
-        Expr::Parentheses(inner) => component_fault(inner, definitions, scope),
-        _ => Err(Kind::WrongKind),
-    }
-}
-
-/// Whether an expression is a call.
-pub(crate) fn is_call(e: &Expr) -> bool
-    ensures { result ≡ is_call (seen e.now) }
-{
-    match e {
-        Expr::Call(_, _, _) => true,
+    match expression {
+        Expr::Call(_, _, _, _) => true,
+        Expr::Anonymous(_) => true,
         Expr::Parentheses(inner) => is_call(inner),
         _ => false,
+    }
+}
+
+#[tactic(auto, using(crate::proofs::Seen::seen_lists))]
+impl Table<'_> {
+    #[cycle(values)]
+    pub(crate) fn value(&self, room: Room, expression: &Expr) -> Result<(), Stop<Kind>>
+        ensures { Finds result (value_fault (table_in self.now) room (bare expression.now)) }
+    {
+        match expression {
+            Expr::Number(_) => Ok(()),
+            Expr::Place(place) => {
+                read_fault(place.meant, members(place.accessors.as_slice()))?;
+                self.indices(room, place.accessors.as_slice())
+            }
+            Expr::Call(_, _, meant, arguments) => {
+                self.callee(*meant).value_call(arguments.len())?;
+                self.values(room.inward(), arguments.as_slice())
+            }
+            Expr::Anonymous(anonymous) => self.anonymous(room, false, anonymous),
+            Expr::Parentheses(inner) => self.value(room, inner),
+            Expr::Array(elements) => self.values(room, elements.as_slice()),
+            Expr::Unary(_, operand) => self.value(room, operand),
+            Expr::Binary(operator, left, right) => {
+                self.value(room, left)?;
+                self.value(room.on_the_right(*operator), right)
+            }
+            Expr::Choice(condition, chosen, other) => {
+                self.value(room, condition)?;
+                self.value(room.inward(), chosen)?;
+                self.value(room.inward(), other)
+            }
+        }
+    }
+
+    /// An anonymous component, which may have any number of outputs where it is the whole value.
+    #[cycle(values)]
+    pub(crate) fn anonymous(
+        &self,
+        room: Room,
+        whole: bool,
+        anonymous: &Anonymous,
+    ) -> Result<(), Stop<Kind>>
+        ensures { Finds result
+            (nameless_fault (table_in self.now) room whole anonymous.now.meant
+            (arguments_of (bare_anonymous anonymous.now)) (bare_inputs anonymous.now.inputs)) }
+    {
+        let callee = self.callee(anonymous.meant);
+        let arguments = anonymous.arguments.as_slice();
+        callee.anonymous(
+            room,
+            whole,
+            arguments.len(),
+            inputs_count(&anonymous.inputs),
+        )?;
+        self.values(room.inward(), arguments)?;
+        self.inputs(&callee, room, &anonymous.inputs)
+    }
+
+    #[cycle(values)]
+    pub(crate) fn values(&self, room: Room, values: &[Expr]) -> Result<(), Stop<Kind>>
+        ensures { Finds result (values_fault (table_in self.now) room (bare_exprs values.now)) }
+    {
+        for value in values {
+            self.value(room, value)?;
+        }
+        Ok(())
+    }
+
+    /// The indices behind a name.
+    #[cycle(values)]
+    pub(crate) fn indices(&self, room: Room, accessors: &[Accessor]) -> Result<(), Stop<Kind>>
+        ensures { Finds result
+            (accessors_fault (table_in self.now) room (as_accessors accessors.now)) }
+    {
+        for accessor in accessors {
+            if let Accessor::Index(index) = accessor {
+                self.value(room.inward(), index)?;
+            }
+        }
+        Ok(())
+    }
+
+    #[cycle(values)]
+    fn inputs(&self, callee: &Callee<'_, '_>, room: Room, inputs: &Inputs) -> Result<(), Stop<Kind>>
+        ensures { Finds result
+            (inputs_fault (table_in self.now) (callee_in callee.now) room
+            (bare_inputs inputs.now)) }
+    {
+        match inputs {
+            Inputs::Listed(values) => self.values(room, values.as_slice()),
+            Inputs::Named(inputs) => self.named(callee, room, inputs.as_slice()),
+        }
+    }
+
+    #[cycle(values)]
+    fn named(
+        &self,
+        callee: &Callee<'_, '_>,
+        room: Room,
+        inputs: &[NamedInput],
+    ) -> Result<(), Stop<Kind>>
+        ensures { Finds result
+            (named_fault (table_in self.now) (inputs_in (callee_in callee.now)) no_names room
+            (as_named inputs.now)) }
+    {
+        let mut earlier = NameSet::new(self.alloc);
+        for input in inputs {
+            let name = input.name.as_slice();
+            unless(callee.has_input(name), Kind::UnknownName)?;
+            unless(!earlier.contains(name), Kind::Arity)?;
+            self.value(room, &input.value)?;
+            earlier.insert(name)?;
+        }
+        Ok(())
+    }
+
+    /// A value of which an anonymous component may be the whole.
+    pub(crate) fn whole(&self, room: Room, expression: &Expr) -> Result<(), Stop<Kind>>
+        ensures { Finds result (whole_fault (table_in self.now) room (bare expression.now)) }
+    {
+        match expression {
+            Expr::Anonymous(anonymous) => self.anonymous(room, true, anonymous),
+            Expr::Parentheses(inner) => self.whole(room, inner),
+            _ => self.value(room, expression),
+        }
+    }
+
+    /// An expression that creates a component.
+    pub(crate) fn created(&self, room: Room, expression: &Expr) -> Result<(), Stop<Kind>>
+        ensures { Finds result (component_fault (table_in self.now) room (bare expression.now)) }
+    {
+        match expression {
+            Expr::Call(_, _, meant, arguments) => {
+                self.callee(*meant).component_call(arguments.len())?;
+                self.values(room.inward(), arguments.as_slice())
+            }
+            Expr::Anonymous(anonymous) => self.anonymous(room, false, anonymous),
+            Expr::Parentheses(inner) => self.created(room, inner),
+            _ => Err(Stop::At(Kind::WrongKind)),
+        }
     }
 }

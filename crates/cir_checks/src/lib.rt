@@ -1,15 +1,19 @@
-//! The names of a program's definitions: the first that is defined or declared twice, unknown, or used wrongly.
+//! The first fault of a program's names.
 #![tactic(auto)]
 
 mod assignments;
-mod checks;
+mod calls;
+mod checking;
 mod declarations;
 mod definitions;
 mod expressions;
+pub mod laws;
+mod name_set;
 mod positions;
-mod scopes;
-mod simple;
 mod statements;
+mod stop;
+mod table;
+mod tuples;
 
-pub use checks::first_fault;
-pub use cir_duplicates::Found;
+pub use checking::checks;
+pub use stop::{Fault, Found, Stop};

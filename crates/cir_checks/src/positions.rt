@@ -1,109 +1,184 @@
-//! Where statements stand, and which may not stand there.
+//! Where statements and expressions stand, and which may not stand there.
 ghost use Rattle.std.specs.Prelude.{◌≡◌};
-ghost use Rattle.std.specs.Result.{result_err};
-ghost use Rattle.cir_checks.specs.Blocks.{seen_position};
-ghost use Rattle.cir_checks.specs.Uses.{inside, in_loop, only_in_template, only_in_function, log_fault, declaration_fault, signal_place_fault};
+ghost use Rattle.cir_checks.specs.Answers.{Finds};
+ghost use Rattle.cir_checks.specs.Uses.{inward, on_the_right, room_fault};
+ghost use Rattle.cir_checks.specs.Statements.{inside, in_loop, value_room, other_room};
+ghost use Rattle.cir_checks.specs.Statements.{only_in_template, only_in_function, log_fault};
+ghost use Rattle.cir_checks.specs.Statements.{declaration_fault, signal_place_fault};
 
-use cir_ast::program::Direction;
+use crate::stop::Stop;
+use cir_ast::program::{Binary, Direction};
 use cir_ast::{Form, Kind};
 
-/// In a function or in a template; and there in its outermost block, in an inner one, or in a loop.
+/// Whether an anonymous component may stand where an expression stands.
 #[derive(Clone, Copy)]
-pub(crate) enum Position {
-    Function,
-    Outermost,
-    Inner,
-    Loop,
+pub enum Room {
+    /// In the value of a signal, a side of `===` and an input of another one.
+    Allowed,
+    /// Elsewhere in a template.
+    Misplaced,
+    /// In a function, and in the arguments of main.
+    Barred,
 }
 
-const DECLARATION_PLACE: Kind = Kind::NotInProfile {
+const ANONYMOUS_PLACE: Kind = Kind::NotInProfile {
+    form: Form::AnonymousPlace,
+};
+
+pub(crate) const DECLARATION_PLACE: Kind = Kind::NotInProfile {
     form: Form::DeclarationPlace,
 };
+
+const LOG_PLACE: Kind = Kind::NotInProfile {
+    form: Form::LogPlace,
+};
+
+impl Room {
+    /// In an index, a dimension or an argument, right of `&&` and `||`, and in the branches of
+    /// `?:`.
+    pub(crate) fn inward(self) -> Room
+        ensures { result ≡ inward self }
+    {
+        match self {
+            Room::Allowed => Room::Misplaced,
+            Room::Misplaced => Room::Misplaced,
+            Room::Barred => Room::Barred,
+        }
+    }
+
+    pub(crate) fn on_the_right(self, operator: Binary) -> Room
+        ensures { result ≡ on_the_right operator self }
+    {
+        match operator {
+            Binary::And => self.inward(),
+            Binary::Or => self.inward(),
+            _ => self,
+        }
+    }
+
+    pub(crate) fn fault(self) -> Result<(), Stop<Kind>>
+        ensures { Finds result (room_fault self) }
+    {
+        match self {
+            Room::Allowed => Ok(()),
+            Room::Misplaced => Err(Stop::At(ANONYMOUS_PLACE)),
+            Room::Barred => Err(Stop::At(Kind::WrongKind)),
+        }
+    }
+}
+
+/// Where a statement stands: in a function or in a template; and there in its outermost block, in
+/// an inner one, or in a loop.
+#[derive(Clone, Copy)]
+pub enum Position {
+    InFunction,
+    Outermost,
+    Inner,
+    Looped,
+}
 
 impl Position {
     /// One block further in.
     pub(crate) fn inside(self) -> Position
-        ensures { seen_position result ≡ inside (seen_position self) }
+        ensures { result ≡ inside self }
     {
         match self {
+            Position::InFunction => Position::InFunction,
             Position::Outermost => Position::Inner,
-            Position::Function => Position::Function,
             Position::Inner => Position::Inner,
-            Position::Loop => Position::Loop,
+            Position::Looped => Position::Looped,
         }
     }
 
-    /// In a loop that stands here.
     pub(crate) fn in_loop(self) -> Position
-        ensures { seen_position result ≡ in_loop (seen_position self) }
+        ensures { result ≡ in_loop self }
     {
         match self {
-            Position::Function => Position::Function,
-            Position::Outermost => Position::Loop,
-            Position::Inner => Position::Loop,
-            Position::Loop => Position::Loop,
+            Position::InFunction => Position::InFunction,
+            Position::Outermost => Position::Looped,
+            Position::Inner => Position::Looped,
+            Position::Looped => Position::Looped,
         }
     }
 
-    pub(crate) fn only_in_template(self) -> Result<(), Kind>
-        ensures { result_err result ≡ only_in_template (seen_position self) }
+    /// In the value of a signal, and in a side of `===`.
+    pub(crate) fn value_room(self) -> Room
+        ensures { result ≡ value_room self }
     {
         match self {
-            Position::Function => Err(Kind::WrongKind),
+            Position::InFunction => Room::Barred,
+            Position::Outermost => Room::Allowed,
+            Position::Inner => Room::Allowed,
+            Position::Looped => Room::Allowed,
+        }
+    }
+
+    pub(crate) fn other_room(self) -> Room
+        ensures { result ≡ other_room self }
+    {
+        match self {
+            Position::InFunction => Room::Barred,
+            Position::Outermost => Room::Misplaced,
+            Position::Inner => Room::Misplaced,
+            Position::Looped => Room::Misplaced,
+        }
+    }
+
+    pub(crate) fn only_in_template(self) -> Result<(), Stop<Kind>>
+        ensures { Finds result (only_in_template self) }
+    {
+        match self {
+            Position::InFunction => Err(Stop::At(Kind::WrongKind)),
             Position::Outermost => Ok(()),
             Position::Inner => Ok(()),
-            Position::Loop => Ok(()),
+            Position::Looped => Ok(()),
         }
     }
 
-    pub(crate) fn only_in_function(self) -> Result<(), Kind>
-        ensures { result_err result ≡ only_in_function (seen_position self) }
+    pub(crate) fn only_in_function(self) -> Result<(), Stop<Kind>>
+        ensures { Finds result (only_in_function self) }
     {
         match self {
-            Position::Function => Ok(()),
-            Position::Outermost => Err(Kind::WrongKind),
-            Position::Inner => Err(Kind::WrongKind),
-            Position::Loop => Err(Kind::WrongKind),
+            Position::InFunction => Ok(()),
+            Position::Outermost => Err(Stop::At(Kind::WrongKind)),
+            Position::Inner => Err(Stop::At(Kind::WrongKind)),
+            Position::Looped => Err(Stop::At(Kind::WrongKind)),
         }
     }
 
-    /// The fault of a `log` here.
-    pub(crate) fn log(self) -> Result<(), Kind>
-        ensures { result_err result ≡ log_fault (seen_position self) }
+    pub(crate) fn may_log(self) -> Result<(), Stop<Kind>>
+        ensures { Finds result (log_fault self) }
     {
         match self {
-            Position::Function => Err(Kind::NotInProfile {
-                form: Form::LogPlace,
-            }),
+            Position::InFunction => Err(Stop::At(LOG_PLACE)),
             Position::Outermost => Ok(()),
             Position::Inner => Ok(()),
-            Position::Loop => Ok(()),
+            Position::Looped => Ok(()),
         }
     }
 
-    /// The fault of a declaration of components or inner signals here.
-    pub(crate) fn declaration(self) -> Result<(), Kind>
-        ensures { result_err result ≡ declaration_fault (seen_position self) }
+    /// Whether components and inner signals may be declared there.
+    pub(crate) fn may_declare(self) -> Result<(), Stop<Kind>>
+        ensures { Finds result (declaration_fault self) }
     {
         match self {
-            Position::Function => Err(Kind::WrongKind),
-            Position::Loop => Err(DECLARATION_PLACE),
+            Position::InFunction => Err(Stop::At(Kind::WrongKind)),
             Position::Outermost => Ok(()),
             Position::Inner => Ok(()),
+            Position::Looped => Err(Stop::At(DECLARATION_PLACE)),
         }
     }
 
-    /// The fault of a declaration of signals here.
-    pub(crate) fn signals(self, direction: Direction) -> Result<(), Kind>
-        ensures { result_err result ≡ signal_place_fault (seen_position self) direction }
+    pub(crate) fn may_declare_signal(self, direction: Direction) -> Result<(), Stop<Kind>>
+        ensures { Finds result (signal_place_fault self direction) }
     {
         match (self, direction) {
-            (Position::Inner, Direction::Input) => Err(DECLARATION_PLACE),
-            (Position::Inner, Direction::Output) => Err(DECLARATION_PLACE),
+            (Position::Inner, Direction::Input) => Err(Stop::At(DECLARATION_PLACE)),
+            (Position::Inner, Direction::Output) => Err(Stop::At(DECLARATION_PLACE)),
             (Position::Inner, Direction::Inner) => Ok(()),
-            (Position::Function, _) => self.declaration(),
-            (Position::Outermost, _) => self.declaration(),
-            (Position::Loop, _) => self.declaration(),
+            (Position::InFunction, _) => self.may_declare(),
+            (Position::Outermost, _) => self.may_declare(),
+            (Position::Looped, _) => self.may_declare(),
         }
     }
 }

@@ -1,368 +1,148 @@
-//! The faults of statements, in the order of their tokens.
-ghost use Rattle.std.specs.Prelude.{◌≡◌, map, IfOk, OnOk};
-ghost use Rattle.std.specs.Result.{result_err};
-ghost use Rattle.cir_ast.specs.Placed.{seen, seen_argument, seen_simple, seen_first, seen_step, seen_statement, seen_block};
-ghost use Rattle.cir_duplicates.specs.Faults.{first_of, at, Leaves};
-ghost use Rattle.cir_duplicates.specs.Tables.{defined_in, seen_spot, seen_fault};
-ghost use Rattle.cir_checks.specs.Scopes.{after_first, after_simple, after_statement};
-ghost use Rattle.cir_checks.specs.Blocks.{Restores, scope_in, outer_in, seen_position};
-ghost use Rattle.cir_checks.specs.Uses.{value_fault, assign_fault, arguments_fault, log_fault, only_in_function, simple_fault, first_fault, statement_fault, statements_fault};
+//! The faults of statements.
+ghost use Rattle.std.specs.Prelude.{map};
+ghost use Rattle.cir_ast.specs.Tree.{bare_argument, bare_simple, bare_first, bare_statement};
+ghost use Rattle.cir_ast.specs.Tree.{bare_block, as_statements};
+ghost use Rattle.cir_ast.specs.declared.marked.Simple.TheVariants.{Components as SimpleComponents};
+ghost use Rattle.cir_checks.specs.Statements.{arguments_fault, simple_fault, head_fault};
+ghost use Rattle.cir_checks.specs.Statements.{statement_fault, statements_fault};
+ghost use Rattle.cir_checks.specs.Answers.{Finds, table_in};
 
-use crate::assignments::assign_fault;
-use crate::declarations::variables_fault;
-use crate::expressions::value_fault;
 use crate::positions::Position;
-use crate::scopes::{Scope, Thing};
-use crate::simple::simple_fault;
+use crate::stop::{Fault, Stop, at};
+use crate::table::Table;
 use cir_ast::Kind;
 use cir_ast::program::{
-    Block, Components, Expr, First, FirstForm, LogArgument, Simple, Statement, StatementForm, Step,
+    Block, Components, FirstForm, LogArgument, Simple, Statement, StatementForm,
 };
-use cir_duplicates::{Definitions, Fault, Spot, placed, spot_of};
-use items::Items;
-use std::alloc::{AllocError, Global};
 
-/// The first fault of the arguments of a `log`.
-fn arguments_fault(
-    arguments: &[LogArgument],
-    definitions: &Definitions<'_>,
-    scope: &Scope<'_>,
-) -> Result<(), Kind>
-    ensures { result_err result ≡ arguments_fault (defined_in definitions.now) (scope_in scope.now) (map seen_argument arguments.now) }
-{
-    for argument in arguments {
-        match argument {
-            LogArgument::Words(_) => {}
-            LogArgument::Value(e) => value_fault(e, definitions, scope)?,
+impl Table<'_> {
+    fn arguments(&self, position: Position, arguments: &[LogArgument]) -> Result<(), Stop<Kind>>
+        ensures { Finds result
+            (arguments_fault (table_in self.now) position (map bare_argument arguments.now)) }
+    {
+        for argument in arguments {
+            if let LogArgument::Value(value) = argument {
+                self.value(position.other_room(), value)?;
+            }
+        }
+        Ok(())
+    }
+
+    fn declared_components(
+        &self,
+        position: Position,
+        components: &Components,
+    ) -> Result<(), Stop<Kind>>
+        ensures { Finds result
+            (simple_fault (table_in self.now) position
+            (bare_simple (SimpleComponents components.now))) }
+    {
+        position.may_declare()?;
+        match components {
+            Components::Declared(components) => { self.components(position, components.as_slice()) }
+            Components::Created(_, _, value) => self.created(position.other_room(), value),
         }
     }
-    Ok(())
-}
 
-/// The first fault of a `log`.
-fn logged_fault(
-    spot: Spot,
-    arguments: &Items<LogArgument>,
-    position: Position,
-    definitions: &Definitions<'_>,
-    scope: &Scope<'_>,
-) -> Option<Fault>
-    ensures { seen_fault result ≡ at (seen_spot spot) (first_of (log_fault (seen_position position)) (arguments_fault (defined_in definitions.now) (scope_in scope.now) (map seen_argument arguments.now))) }
-{
-    if let Err(kind) = position.log() {
-        return Some(Fault { kind, spot });
-    }
-    let arguments = arguments.as_slice();
-    placed(spot, arguments_fault(arguments, definitions, scope).err())
-}
-
-/// The first fault of a `return`.
-fn return_fault(
-    spot: Spot,
-    e: &Expr,
-    position: Position,
-    definitions: &Definitions<'_>,
-    scope: &Scope<'_>,
-) -> Option<Fault>
-    ensures { seen_fault result ≡ at (seen_spot spot) (first_of (only_in_function (seen_position position)) (value_fault (defined_in definitions.now) (scope_in scope.now) (seen e.now))) }
-{
-    if let Err(kind) = position.only_in_function() {
-        return Some(Fault { kind, spot });
-    }
-    placed(spot, value_fault(e, definitions, scope).err())
-}
-
-/// The first fault of a simple statement at this place; where there is none, the names that it declares are
-/// in scope.
-fn ended_fault<'p>(
-    spot: Spot,
-    simple: &'p Simple,
-    position: Position,
-    definitions: &Definitions<'p>,
-    scope: &mut Scope<'p>,
-) -> Result<Option<Fault>, AllocError>
-    ensures fault { IfOk result (λ fault. seen_fault fault ≡ at (seen_spot spot) (simple_fault (defined_in definitions.now) (seen_position position) (scope_in scope.old) (seen_simple simple.now))) }
-    ensures scope { IfOk result (λ fault. Leaves (seen_fault fault) (scope_in scope.new) (after_simple (scope_in scope.old) (seen_simple simple.now))) }
-    ensures outer { OnOk result (outer_in scope.new ≡ outer_in scope.old) }
-{
-    let kind = simple_fault(simple, position, definitions, scope)?;
-    Ok(placed(spot, kind))
-}
-
-/// The first fault of what a `for` begins with; where there is none, what it declares is in scope.
-fn first_fault<'p>(
-    first: &'p First,
-    definitions: &Definitions<'p>,
-    scope: &mut Scope<'p>,
-) -> Result<Option<Fault>, AllocError>
-    ensures fault { IfOk result (λ fault. seen_fault fault ≡ first_fault (defined_in definitions.now) (scope_in scope.old) (seen_first first.now)) }
-    ensures scope { IfOk result (λ fault. Leaves (seen_fault fault) (scope_in scope.new) (after_first (scope_in scope.old) (seen_first first.now))) }
-    ensures outer { OnOk result (outer_in scope.new ≡ outer_in scope.old) }
-{
-    let spot = Spot {
-        line: first.line,
-        column: first.column,
-    };
-    match &first.form {
-        FirstForm::Vars(vars) => {
-            let kind = variables_fault(vars.variables.as_slice(), definitions, scope)?;
-            Ok(placed(spot, kind))
-        }
-        FirstForm::Assign(assign) => {
-            Ok(placed(spot, assign_fault(assign, definitions, scope).err()))
+    fn simple(&self, position: Position, simple: &Simple) -> Result<(), Stop<Kind>>
+        ensures { Finds result
+            (simple_fault (table_in self.now) position (bare_simple simple.now)) }
+    {
+        match simple {
+            Simple::Vars(vars) => self.variables(position, vars.variables.as_slice()),
+            Simple::Signals(signals) => {
+                position.may_declare_signal(signals.direction)?;
+                self.signals(position, signals.direction, signals.signals.as_slice())
+            }
+            Simple::Components(components) => self.declared_components(position, components),
+            Simple::Assign(assign) => self.assign(position, assign),
+            Simple::Constrain(left, right) => {
+                position.only_in_template()?;
+                self.value(position.value_room(), left)?;
+                self.value(position.value_room(), right)
+            }
+            Simple::Right(value, _, place) => {
+                self.value(position.value_room(), value)?;
+                self.arrow_place(position, place)
+            }
+            Simple::TargetLeft(target, _, source) => {
+                position.only_in_template()?;
+                self.tuple(target, source)?;
+                self.target(position, target)?;
+                self.source(position, target, source)
+            }
+            Simple::TargetRight(source, _, target) => {
+                position.only_in_template()?;
+                self.tuple(target, source)?;
+                self.source(position, target, source)?;
+                self.target(position, target)
+            }
+            Simple::Anonymous(anonymous) => {
+                position.only_in_template()?;
+                self.anonymous(position.value_room(), true, anonymous)
+            }
         }
     }
-}
 
-/// The first fault in the head of a `for`, before its step. What the head declares is then in scope.
-fn head_fault<'p>(
-    spot: Spot,
-    first: &'p First,
-    condition: &Expr,
-    definitions: &Definitions<'p>,
-    scope: &mut Scope<'p>,
-) -> Result<Option<Fault>, AllocError>
-    ensures fault { IfOk result (λ fault. seen_fault fault ≡ first_of (first_fault (defined_in definitions.now) (scope_in scope.old) (seen_first first.now)) (at (seen_spot spot) (value_fault (defined_in definitions.now) (after_first (scope_in scope.old) (seen_first first.now)) (seen condition.now)))) }
-    ensures scope { IfOk result (λ fault. Leaves (seen_fault fault) (scope_in scope.new) (after_first (scope_in scope.old) (seen_first first.now))) }
-    ensures outer { OnOk result (outer_in scope.new ≡ outer_in scope.old) }
-{
-    if let Some(fault) = first_fault(first, definitions, scope)? {
-        return Ok(Some(fault));
-    }
-    Ok(placed(spot, value_fault(condition, definitions, scope).err()))
-}
-
-/// Declares the names that a simple statement declares.
-fn declare_simple<'p>(simple: &'p Simple, scope: &mut Scope<'p>) -> Result<(), AllocError>
-    ensures scope { OnOk result (scope_in scope.new ≡ after_simple (scope_in scope.old) (seen_simple simple.now)) }
-    ensures outer { OnOk result (outer_in scope.new ≡ outer_in scope.old) }
-{
-    match simple {
-        Simple::Vars(vars) => scope.declare_all(vars.variables.as_slice(), Thing::Variable),
-        Simple::Signals(signals) => scope.declare_all(
-            signals.signals.as_slice(),
-            Thing::Signal(signals.direction),
-        ),
-        Simple::Components(components) => declare_components(components, scope),
-        Simple::Assign(_) => Ok(()),
-        Simple::Constrain(_, _) => Ok(()),
-        Simple::ArrowRight(_, _) => Ok(()),
-        Simple::ConstrainRight(_, _) => Ok(()),
-    }
-}
-
-/// Declares the names of components.
-fn declare_components<'p>(
-    components: &'p Components,
-    scope: &mut Scope<'p>,
-) -> Result<(), AllocError>
-    ensures scope { OnOk result (scope_in scope.new ≡ after_simple (scope_in scope.old) (seen_simple (Simple.Components components.now))) }
-    ensures outer { OnOk result (outer_in scope.new ≡ outer_in scope.old) }
-{
-    match components {
-        Components::Declared(components) => {
-            scope.declare_all(components.as_slice(), Thing::Component)
-        }
-        Components::Created(name, _) => scope.declare(name.as_slice(), Thing::Component),
-    }
-}
-
-/// Declares the names that a statement declares in its block.
-fn declare_statement<'p>(statement: &'p Statement, scope: &mut Scope<'p>) -> Result<(), AllocError>
-    ensures scope { OnOk result (scope_in scope.new ≡ after_statement (scope_in scope.old) (seen_statement statement.now)) }
-    ensures outer { OnOk result (outer_in scope.new ≡ outer_in scope.old) }
-{
-    match &statement.form {
-        StatementForm::Simple(simple) => declare_simple(simple, scope),
-        StatementForm::Block(_) => Ok(()),
-        StatementForm::If(_, _) => Ok(()),
-        StatementForm::IfElse(_, _, _) => Ok(()),
-        StatementForm::While(_, _) => Ok(()),
-        StatementForm::For(_, _, _, _) => Ok(()),
-        StatementForm::Return(_) => Ok(()),
-        StatementForm::Assert(_) => Ok(()),
-        StatementForm::Log(_) => Ok(()),
-    }
-}
-
-/// The first fault of what a `for` ends each turn with. It sees what the body declares if that is no block.
-fn step_fault<'p>(
-    step: &Step,
-    body: &'p Statement,
-    alloc: Global,
-    definitions: &Definitions<'p>,
-    scope: &mut Scope<'p>,
-) -> Result<Option<Fault>, AllocError>
-    ensures fault { IfOk result (λ fault. seen_fault fault ≡ at (seen_step step.now).spot (assign_fault (defined_in definitions.now) (after_statement (scope_in scope.old) (seen_statement body.now)) (seen_step step.now).assign)) }
-    ensures scope { OnOk result (Restores scope.old scope.new) }
-{
-    let spot = Spot {
-        line: step.line,
-        column: step.column,
-    };
-    scope.open(alloc)?;
-    declare_statement(body, scope)?;
-    let kind = assign_fault(&step.assign, definitions, scope).err();
-    scope.close();
-    Ok(placed(spot, kind))
-}
-
-/// The first fault of a statement; where there is none, the names that it declares are in scope.
-#[cycle(statements)]
-pub(crate) fn statement_fault<'p>(
-    statement: &'p Statement,
-    position: Position,
-    alloc: Global,
-    definitions: &Definitions<'p>,
-    scope: &mut Scope<'p>,
-) -> Result<Option<Fault>, AllocError>
-    ensures fault { IfOk result (λ fault. seen_fault fault ≡ statement_fault (defined_in definitions.now) (seen_position position) (scope_in scope.old) (seen_statement statement.now)) }
-    ensures scope { IfOk result (λ fault. Leaves (seen_fault fault) (scope_in scope.new) (after_statement (scope_in scope.old) (seen_statement statement.now))) }
-    ensures outer { OnOk result (outer_in scope.new ≡ outer_in scope.old) }
-{
-    let spot = spot_of(statement);
-    let inner = position.inside();
-    let looped = position.in_loop();
-    match &statement.form {
-        StatementForm::Block(block) => block_fault(block, inner, alloc, definitions, scope),
-        StatementForm::If(condition, chosen) => {
-            guarded_fault(chosen, spot, condition, inner, alloc, definitions, scope)
-        }
-        StatementForm::IfElse(condition, chosen, other) => {
-            let first = guarded_fault(chosen, spot, condition, inner, alloc, definitions, scope)?;
-            other_fault(first, other, inner, alloc, definitions, scope)
-        }
-        StatementForm::While(condition, body) => {
-            guarded_fault(body, spot, condition, looped, alloc, definitions, scope)
-        }
-        StatementForm::For(first, condition, step, body) => {
-            scope.open(alloc)?;
-            let head = head_fault(spot, first, condition, definitions, scope)?;
-            let found = turn_fault(body, step, head, looped, alloc, definitions, scope)?;
-            scope.close();
-            Ok(found)
-        }
-        StatementForm::Return(e) => Ok(return_fault(spot, e, position, definitions, scope)),
-        StatementForm::Assert(e) => Ok(placed(spot, value_fault(e, definitions, scope).err())),
-        StatementForm::Log(logged) => Ok(logged_fault(spot, logged, position, definitions, scope)),
-        StatementForm::Simple(simple) => ended_fault(spot, simple, position, definitions, scope),
-    }
-}
-
-/// The first fault of a condition and of the statement that it guards.
-#[cycle(statements)]
-fn guarded_fault<'p>(
-    inner: &'p Statement,
-    spot: Spot,
-    condition: &Expr,
-    position: Position,
-    alloc: Global,
-    definitions: &Definitions<'p>,
-    scope: &mut Scope<'p>,
-) -> Result<Option<Fault>, AllocError>
-    ensures fault { IfOk result (λ fault. seen_fault fault ≡ first_of (at (seen_spot spot) (value_fault (defined_in definitions.now) (scope_in scope.old) (seen condition.now))) (statement_fault (defined_in definitions.now) (seen_position position) (scope_in scope.old) (seen_statement inner.now))) }
-    ensures scope { OnOk result (Restores scope.old scope.new) }
-{
-    if let Err(kind) = value_fault(condition, definitions, scope) {
-        return Ok(Some(Fault { kind, spot }));
-    }
-    branch_fault(inner, position, alloc, definitions, scope)
-}
-
-/// The first fault of an `if` that has this one before its other branch, or none there.
-#[cycle(statements)]
-fn other_fault<'p>(
-    first: Option<Fault>,
-    other: &'p Statement,
-    position: Position,
-    alloc: Global,
-    definitions: &Definitions<'p>,
-    scope: &mut Scope<'p>,
-) -> Result<Option<Fault>, AllocError>
-    ensures fault { IfOk result (λ fault. seen_fault fault ≡ first_of (seen_fault first) (statement_fault (defined_in definitions.now) (seen_position position) (scope_in scope.old) (seen_statement other.now))) }
-    ensures scope { OnOk result (Restores scope.old scope.new) }
-{
-    if let Some(fault) = first {
-        return Ok(Some(fault));
-    }
-    branch_fault(other, position, alloc, definitions, scope)
-}
-
-/// The first fault of a `for` that has this one in its head, or none there.
-#[cycle(statements)]
-fn turn_fault<'p>(
-    body: &'p Statement,
-    step: &Step,
-    head: Option<Fault>,
-    position: Position,
-    alloc: Global,
-    definitions: &Definitions<'p>,
-    scope: &mut Scope<'p>,
-) -> Result<Option<Fault>, AllocError>
-    ensures fault { IfOk result (λ fault. seen_fault fault ≡ first_of (seen_fault head) (first_of (at (seen_step step.now).spot (assign_fault (defined_in definitions.now) (after_statement (scope_in scope.old) (seen_statement body.now)) (seen_step step.now).assign)) (statement_fault (defined_in definitions.now) (seen_position position) (scope_in scope.old) (seen_statement body.now)))) }
-    ensures scope { OnOk result (Restores scope.old scope.new) }
-{
-    if let Some(fault) = head {
-        return Ok(Some(fault));
-    }
-    if let Some(fault) = step_fault(step, body, alloc, definitions, scope)? {
-        return Ok(Some(fault));
-    }
-    branch_fault(body, position, alloc, definitions, scope)
-}
-
-/// The first fault of a statement that is a branch or the body of a loop, and so a block of its own.
-#[cycle(statements)]
-fn branch_fault<'p>(
-    statement: &'p Statement,
-    position: Position,
-    alloc: Global,
-    definitions: &Definitions<'p>,
-    scope: &mut Scope<'p>,
-) -> Result<Option<Fault>, AllocError>
-    ensures fault { IfOk result (λ fault. seen_fault fault ≡ statement_fault (defined_in definitions.now) (seen_position position) (scope_in scope.old) (seen_statement statement.now)) }
-    ensures scope { OnOk result (Restores scope.old scope.new) }
-{
-    scope.open(alloc)?;
-    let found = statement_fault(statement, position, alloc, definitions, scope)?;
-    scope.close();
-    Ok(found)
-}
-
-/// The first fault of a block.
-#[cycle(statements)]
-fn block_fault<'p>(
-    block: &'p Block,
-    position: Position,
-    alloc: Global,
-    definitions: &Definitions<'p>,
-    scope: &mut Scope<'p>,
-) -> Result<Option<Fault>, AllocError>
-    ensures fault { IfOk result (λ fault. seen_fault fault ≡ statements_fault (defined_in definitions.now) (seen_position position) (scope_in scope.old) (seen_block block.now)) }
-    ensures scope { OnOk result (Restores scope.old scope.new) }
-{
-    scope.open(alloc)?;
-    let found = statements_fault(block, position, alloc, definitions, scope)?;
-    scope.close();
-    Ok(found)
-}
-
-/// The first fault of a block's statements, which declare their names in this scope.
-#[cycle(statements)]
-pub(crate) fn statements_fault<'p>(
-    block: &'p Block,
-    position: Position,
-    alloc: Global,
-    definitions: &Definitions<'p>,
-    scope: &mut Scope<'p>,
-) -> Result<Option<Fault>, AllocError>
-    ensures fault { IfOk result (λ fault. seen_fault fault ≡ statements_fault (defined_in definitions.now) (seen_position position) (scope_in scope.old) (seen_block block.now)) }
-    ensures outer { OnOk result (outer_in scope.new ≡ outer_in scope.old) }
-{
-    for statement in block.statements.as_slice() {
-        if let Some(fault) = statement_fault(statement, position, alloc, definitions, scope)? {
-            return Ok(Some(fault));
+    fn head(&self, position: Position, first: &FirstForm) -> Result<(), Stop<Kind>>
+        ensures { Finds result (head_fault (table_in self.now) position (bare_first first.now)) }
+    {
+        match first {
+            FirstForm::Vars(vars) => self.variables(position, vars.variables.as_slice()),
+            FirstForm::Assign(assign) => self.assign(position, assign),
         }
     }
-    Ok(None)
+
+    #[cycle(statements)]
+    fn statement(&self, position: Position, statement: &Statement) -> Result<(), Stop<Fault>>
+        ensures { Finds result
+            (statement_fault (table_in self.now) position (bare_statement statement.now)) }
+    {
+        let spot = statement.spot;
+        let room = position.other_room();
+        match &statement.form {
+            StatementForm::Block(block) => self.block(position.inside(), block),
+            StatementForm::If(condition, chosen) => {
+                at(spot, self.value(room, condition))?;
+                self.statement(position.inside(), chosen)
+            }
+            StatementForm::IfElse(condition, chosen, other) => {
+                at(spot, self.value(room, condition))?;
+                self.statement(position.inside(), chosen)?;
+                self.statement(position.inside(), other)
+            }
+            StatementForm::While(condition, body) => {
+                at(spot, self.value(room, condition))?;
+                self.statement(position.in_loop(), body)
+            }
+            StatementForm::For(first, condition, step, body) => {
+                at(first.spot, self.head(position, &first.form))?;
+                at(spot, self.value(room, condition))?;
+                at(step.spot, self.assign(position, &step.assign))?;
+                self.statement(position.in_loop(), body)
+            }
+            StatementForm::Return(value) => {
+                at(spot, position.only_in_function())?;
+                at(spot, self.value(room, value))
+            }
+            StatementForm::Assert(condition) => at(spot, self.value(room, condition)),
+            StatementForm::Log(arguments) => {
+                at(spot, position.may_log())?;
+                at(spot, self.arguments(position, arguments.as_slice()))
+            }
+            StatementForm::Simple(simple) => at(spot, self.simple(position, simple)),
+        }
+    }
+
+    /// The first fault of a block's statements.
+    #[cycle(statements)]
+    pub(crate) fn block(&self, position: Position, block: &Block) -> Result<(), Stop<Fault>>
+        ensures { Finds result
+            (statements_fault (table_in self.now) position (bare_block block.now)) }
+    {
+        for statement in block.statements.as_slice() {
+            self.statement(position, statement)?;
+        }
+        Ok(())
+    }
 }

@@ -6,7 +6,7 @@ use Rattle.gold_field.specs.declared.form.Term.{Term}
 use Rattle.gold_field.specs.declared.form.Constraint.{Constraint}
 use Rattle.gold_field.specs.Form.{ConstraintBelow}
 use Rattle.iden_files.specs.File.{IsFile, InLimits, term_count}
-use Rattle.cir_ast.specs.declared.plain_program.Program.{Program as PlainProgram}
+use Rattle.cir_ast.specs.Program.{Program}
 use Rattle.cir_lc.specs.Normal.{constant_of, kept_of}
 use Rattle.cir_lc.specs.Sparse.{IsNormalForm}
 use Rattle.cir_meaning.specs.Source.{Equation, IsConstraintOf, IsSource}
@@ -18,7 +18,7 @@ use Rattle.cir_simplify.specs.Answer.{IsOverWires, Simplifies}
 use Rattle.cir_simplify.specs.Index.{IsGood}
 use Rattle.cir_simplify.specs.Turn.{Simplified, simplified}
 use Rattle.cir_simplify.specs.Wires.{is_kept, is_left, keeps_all, kept_below, wire_of, renamed_in}
-use Rattle.cir_simplify.proofs.Turning.{few}
+use Rattle.cir_simplify.proofs.Holes.{few}
 use Rattle.cir_simplify.proofs.Wiring.{wire_less}
 use Rattle.cir_compile.specs.Written.{rules_of, file_of}
 use Rattle.cir_compile.proofs.Simplified.{Fine, stays_fine, same_terms, list_below, left_is_kept, or_left, or_right}
@@ -46,7 +46,7 @@ source_good n (e ∷ es) [] s = absurd s
 source_good n (e ∷ es) (k ∷ ks) s = All-cons (IsGood n) k ks (good_of n e k s.0)
     (source_good n es ks s.1)
 
-pub circuit_good : (p : PlainProgram) (c : Circuit) → Instantiates p (Ok c)
+pub circuit_good : (p : Program) (c : Circuit) → Instantiates p (Ok c)
     → All (IsGood (c.signals + 1)) c.constraints
 circuit_good p c (m, h, is) =
     let same : 1 + m.signals ≡ c.signals + 1 = omega (arith, is.signals) in

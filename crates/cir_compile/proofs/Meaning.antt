@@ -9,8 +9,7 @@ use Rattle.gold_field.specs.declared.form.Constraint.{Constraint}
 use Rattle.gold_field.specs.declared.gold.TheConstants.{P}
 use Rattle.iden_files.specs.File.{File}
 use Rattle.out_io.specs.Contents.{Contents}
-use Rattle.cir_ast.specs.declared.plain_program.Program.{Program as PlainProgram}
-use Rattle.cir_ast.specs.declared.program.Program.{Program}
+use Rattle.cir_ast.specs.Program.{Program}
 use Rattle.cir_lc.specs.Number.{Assignment}
 use Rattle.out_io.specs.Calls.{Told}
 use Rattle.cir_sources.specs.declared.fault.LoadFault.{LoadFault}
@@ -26,7 +25,7 @@ use Rattle.cir_simplify.specs.Keeps.{HoldAll, WiresKeepSolutions}
 use Rattle.cir_simplify.specs.Turn.{Simplified, simplified}
 use Rattle.cir_simplify.specs.Wires.{is_kept, kept_below, wire_of}
 use Rattle.cir_simplify.proofs.Over.{over}
-use Rattle.cir_simplify.proofs.Turning.{few, many}
+use Rattle.cir_simplify.proofs.Holes.{few, many}
 use Rattle.cir_compile.specs.declared.fault.CompileFault.{CompileFault}
 use Rattle.cir_compile.specs.declared.fault.CompileFault.TheVariants as fault
 use Rattle.cir_compile.specs.Compiled.{Task, Compiles, Writes, IsWritten, IsCompiled, IsRefused}
@@ -153,7 +152,7 @@ by_labels keeps n f list some below labels wires known w values = (forth, back)
         whole : Assignment
         whole = two_parts n found.0 (λ k. wire_values (wire_of keeps k)) small some
 
-pub means : (p : PlainProgram) (level : Level) (c : Circuit) (simple : Simple) (end : Simplified)
+pub means : (p : Program) (level : Level) (c : Circuit) (simple : Simple) (end : Simplified)
     → All (IsGood (c.signals + 1)) c.constraints
     → All (ConstraintBelow (1 + c.signals)) c.constraints
     → simplified (rules_of level c) c.constraints ≡ Ok end

@@ -2,20 +2,17 @@
 use Rattle.std.specs.Prelude.{◌≡◌, ℕ, List, [], ◌∷◌, Option, Some, None, Result, Ok, Err, ⊤, ◌⊎◌, slice_get, unwrap_or, codes}
 use Rattle.out_io.specs.Contents.{Contents}
 use Rattle.iden_files.specs.File.{File}
-use Rattle.cir_ast.specs.declared.program.Program.{Program}
-use Rattle.cir_ast.specs.declared.plain_program.Program.{Program as PlainProgram}
-use Rattle.cir_ast.specs.declared.plain_program.Main.{Main}
+use Rattle.cir_ast.specs.Program.{Program, Main}
+use Rattle.cir_ast.specs.Spot.{start}
 use Rattle.cir_ast.specs.declared.refusal.Refusal.{Refusal}
 use Rattle.cir_ast.specs.declared.refusal.Kind.{Kind}
 use Rattle.cir_ast.specs.declared.refusal.Kind.TheVariants.{NotInProfile, Limit}
 use Rattle.cir_ast.specs.declared.refusal.Which.TheVariants.{Terms}
 use Rattle.cir_ast.specs.declared.refusal.Form.TheVariants.{Unbuilt}
-use Rattle.cir_ast.specs.Placed.{seen_program}
 use Rattle.out_io.specs.Calls.{Told}
 use Rattle.cir_names.specs.Loading.{IsLoaded, IsLoadFault}
 use Rattle.cir_subset.specs.declared.site.Site.{Site}
 use Rattle.cir_subset.specs.Unbuilt.{first_unbuilt}
-use Rattle.cir_subset.specs.Whole.{whole_of}
 use Rattle.cir_inst.specs.declared.circuit.Circuit.{Circuit}
 use Rattle.cir_inst.specs.declared.circuit.InstFault.TheVariants.{Refused as NotInstantiated}
 use Rattle.cir_inst.specs.Compiled.{Instantiates}
@@ -27,21 +24,15 @@ use Rattle.cir_compile.specs.declared.fault.CompileFault.{CompileFault}
 use Rattle.cir_compile.specs.declared.fault.CompileFault.TheVariants as fault
 use Rattle.cir_compile.specs.Written.{rules_of, file_of, Means}
 
--- the plain program is the whole one, all of whose forms are built
-pub record IsBuilt (program : Program) (plain : PlainProgram) : Type 0 where
-  pub same : whole_of plain ≡ seen_program program
-  pub built : first_unbuilt (seen_program program) ≡ None
-
--- the program is a plain one, whose circuit, simplified at the level, is written as the file
+-- all forms of the program are built, and its circuit, simplified at the level, is written as the file
 pub record IsWritten (program : Program) (level : Level) (f : File) : Type 0 where
-  pub plain : PlainProgram
-  pub built : IsBuilt program plain
+  pub built : first_unbuilt program ≡ None
   pub circuit : Circuit
-  pub instantiated : Instantiates plain (Ok circuit)
+  pub instantiated : Instantiates program (Ok circuit)
   pub simple : Simple
   pub simplified : Simplifies (rules_of level circuit) circuit.constraints (Ok simple)
   pub file : f ≡ file_of circuit simple
-  pub means : Means plain f
+  pub means : Means program f
 
 -- a refusal at a place among the program's files, with the path of an instance
 abbrev pub refusal_of : List (List ℕ) → Site → Kind → List ℕ → Refusal
@@ -49,8 +40,8 @@ refusal_of files site kind path = record {
   kind = kind;
   place = record {
     file = unwrap_or (slice_get files site.file) [];
-    line = site.line;
-    column = site.column;
+    line = site.spot.line;
+    column = site.spot.column;
     path = path;
   };
 }
@@ -62,34 +53,32 @@ unbuilt_at program site = refusal_of program.files site (NotInProfile Unbuilt) (
 -- the program has a form that isn't built, at the first of them
 pub record IsUnbuilt (program : Program) (r : Refusal) : Type 0 where
   pub site : Site
-  pub first : first_unbuilt (seen_program program) ≡ Some site
+  pub first : first_unbuilt program ≡ Some site
   pub refusal : r ≡ unbuilt_at program site
 
--- the program is a plain one, and its meaning refuses it
+-- all forms of the program are built, and its meaning refuses it
 pub record IsMeaningless (program : Program) (r : Refusal) : Type 0 where
-  pub plain : PlainProgram
-  pub built : IsBuilt program plain
-  pub instantiated : Instantiates plain (Err (NotInstantiated r))
+  pub built : first_unbuilt program ≡ None
+  pub instantiated : Instantiates program (Err (NotInstantiated r))
 
 -- where the statement of the main component stands; a program with a circuit has just one
 abbrev pub main_site : List Main → Site
-main_site [] = record { file = 0; line = 1; column = 1 }
-main_site (main ∷ mains) = record { file = main.file; line = main.line; column = main.column }
+main_site [] = record { file = 0; spot = start }
+main_site (main ∷ mains) = record { file = main.file; spot = main.spot }
 
 -- too many terms are refused at the statement of the main component, with their count
-abbrev pub terms_refusal : PlainProgram → ℕ → Refusal
-terms_refusal plain count =
-    refusal_of plain.files (main_site plain.mains) (Limit Terms count) (codes "main")
+abbrev pub terms_refusal : Program → ℕ → Refusal
+terms_refusal program count =
+    refusal_of program.files (main_site program.mains) (Limit Terms count) (codes "main")
 
--- the program is a plain one, and simplification at the level comes to too many terms
+-- all forms of the program are built, and simplification at the level comes to too many terms
 pub record IsTooLarge (program : Program) (level : Level) (r : Refusal) : Type 0 where
-  pub plain : PlainProgram
-  pub built : IsBuilt program plain
+  pub built : first_unbuilt program ≡ None
   pub circuit : Circuit
-  pub instantiated : Instantiates plain (Ok circuit)
+  pub instantiated : Instantiates program (Ok circuit)
   pub count : ℕ
   pub terms : simplified (rules_of level circuit) circuit.constraints ≡ Err count
-  pub refusal : r ≡ terms_refusal plain count
+  pub refusal : r ≡ terms_refusal program count
 
 -- why a program that is loaded is refused
 abbrev pub IsUnwritten : Program → Level → Refusal → Type 0

@@ -3,7 +3,7 @@ use Rattle.std.specs.Prelude.{◌≡◌, ◌↔◌, ℕ, ◌+◌, ◌<◌, List,
 use Rattle.gold_field.specs.Form.{Holds}
 use Rattle.gold_field.specs.declared.gold.TheConstants.{P}
 use Rattle.iden_files.specs.File.{File}
-use Rattle.cir_ast.specs.declared.plain_program.Program.{Program}
+use Rattle.cir_ast.specs.Program.{Program}
 use Rattle.cir_lc.specs.Number.{Assignment}
 use Rattle.cir_inst.specs.declared.circuit.Circuit.{Circuit}
 use Rattle.cir_inst.specs.Meaning.Program.{Satisfies}

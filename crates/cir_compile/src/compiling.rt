@@ -1,19 +1,20 @@
-ghost use Rattle.std.specs.Prelude.{◌≡◌, IfOk};
+ghost use Rattle.std.specs.Prelude.{◌≡◌, IfOk, map};
 ghost use Rattle.std.specs.Option.{option_copied};
 ghost use Rattle.out_io.specs.Faults.{Rose};
 ghost use Rattle.iden_files.specs.File.{InLimits};
 ghost use Rattle.out_io.specs.Calls.{OnlyReads};
+ghost use Rattle.cir_ast.specs.Program.{bare_main, bare_program};
+ghost use Rattle.cir_checks.specs.Checked.{IsChecked};
 ghost use Rattle.cir_compile.specs.Compiled.{Compiles, Writes, main_site, refusal_of};
 
 use crate::fault::CompileFault;
 use crate::file::file_of;
-use cir_ast::plain_program::Main;
-use cir_ast::program::Program;
+use cir_ast::program::{Main, Program, Spot};
 use cir_ast::{Form, Kind, Place, Refusal, Text, Which};
 use cir_inst::instantiate;
 use cir_names::load;
 use cir_simplify::{Level, SimpFault, simplify};
-use cir_subset::{Site, converted, unbuilt};
+use cir_subset::{Site, unbuilt};
 use iden_files::R1cs;
 use out_io::Store;
 use std::alloc::{AllocError, Global};
@@ -45,7 +46,8 @@ pub fn compile<S: Store>(
 
 /// The file of the constraints of a program.
 fn written(alloc: Global, program: Program, level: Level) -> Result<R1cs, CompileFault>
-    ensures writes { Writes program level result }
+    requires { IsChecked (bare_program program) }
+    ensures writes { Writes (bare_program program) level result }
     ensures limits { IfOk result InLimits }
 {
     if let Some(site) = unbuilt(&program) {
@@ -55,8 +57,7 @@ fn written(alloc: Global, program: Program, level: Level) -> Result<R1cs, Compil
         let refusal = refusal_at(alloc, program.files.as_slice(), site, kind, b"-")?;
         return Err(CompileFault::Refused(refusal));
     }
-    let plain = converted(alloc, program)?;
-    let circuit = instantiate(alloc, &plain)?;
+    let circuit = instantiate(alloc, &program)?;
     let list = circuit.constraints.as_slice();
     let own = circuit.outputs + circuit.inputs;
     let simple = match simplify(alloc, list, circuit.signals, own, level) {
@@ -66,8 +67,8 @@ fn written(alloc: Global, program: Program, level: Level) -> Result<R1cs, Compil
                 which: Which::Terms,
                 count,
             };
-            let site = main_site(plain.mains.as_slice());
-            let refusal = refusal_at(alloc, plain.files.as_slice(), site, kind, b"main")?;
+            let site = main_site(program.mains.as_slice());
+            let refusal = refusal_at(alloc, program.files.as_slice(), site, kind, b"main")?;
             return Err(CompileFault::Refused(refusal));
         }
         Err(SimpFault::OutOfMemory) => return Err(CompileFault::OutOfMemory),
@@ -95,8 +96,8 @@ fn refusal_at(
         kind,
         place: Place {
             file,
-            line: site.line,
-            column: site.column,
+            line: site.spot.line,
+            column: site.spot.column,
             path,
         },
     })
@@ -104,18 +105,16 @@ fn refusal_at(
 
 /// Where the statement of the main component stands.
 fn main_site(mains: &[Main]) -> Site
-    ensures { result ≡ main_site mains.now }
+    ensures { result ≡ main_site (map bare_main mains.now) }
 {
     match mains {
         [main, ..] => Site {
             file: main.file,
-            line: main.line,
-            column: main.column,
+            spot: main.spot,
         },
         [] => Site {
             file: 0,
-            line: 1,
-            column: 1,
+            spot: Spot { line: 1, column: 1 },
         },
     }
 }

@@ -3,3 +3,4 @@ pub mod Lists
 pub mod Sound
 pub mod Steps
 pub mod Undo
+pub mod Groups

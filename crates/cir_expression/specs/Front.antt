@@ -1,12 +1,13 @@
 -- What stands at the front of tokens.
-use Rattle.std.specs.Prelude.{ℕ, Bool, false, if◌then◌else◌, List, [], ◌∷◌, Option, Some, None}
+use Rattle.std.specs.Prelude.{ℕ, Bool, true, false, if◌then◌else◌, List, [], ◌∷◌, Option, Some}
+use Rattle.std.specs.Prelude.{None}
 use denote.Enum.Bare.{sameb}
-use Rattle.cir_lexer.specs.declared.token.TokenKind.{TokenKind}
-use Rattle.cir_lexer.specs.declared.token.TokenKind.TheVariants as token
-use Rattle.cir_lexer.specs.declared.token.Reserved.{Reserved}
-use Rattle.cir_lexer.specs.contracts.token.Reserved.{the_type as reserved_type}
-use Rattle.cir_lexer.specs.declared.token.Symbol.{Symbol}
-use Rattle.cir_lexer.specs.contracts.token.Symbol.{the_type as symbol_type}
+use Rattle.cir_token.specs.declared.token.TokenKind.{TokenKind}
+use Rattle.cir_token.specs.declared.token.TokenKind.TheVariants as token
+use Rattle.cir_token.specs.declared.token.Reserved.{Reserved}
+use Rattle.cir_token.specs.contracts.token.Reserved.{the_type as reserved_type}
+use Rattle.cir_token.specs.declared.token.Symbol.{Symbol}
+use Rattle.cir_token.specs.contracts.token.Symbol.{the_type as symbol_type}
 
 abbrev pub Tokens : Type 0
 Tokens = List TokenKind
@@ -30,6 +31,10 @@ begins s _ = false
 abbrev pub begins_word : Reserved → Tokens → Bool
 begins_word w (token.Reserved t ∷ ts) = sameb reserved_type t w
 begins_word w _ = false
+
+abbrev pub begins_underscore : Tokens → Bool
+begins_underscore (token.Underscore ∷ ts) = true
+begins_underscore _ = false
 
 -- what stands behind this symbol or word
 abbrev pub behind : Symbol → Tokens → Option Tokens

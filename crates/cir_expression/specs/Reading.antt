@@ -1,20 +1,27 @@
 -- How an expression is read, as a function of its tokens.
 --
--- A reading takes the tokens that are left, and answers the tree at their front with the tokens behind it. Where
--- a number comes first, it is the height that the tree may have.
-use Rattle.std.specs.Prelude.{ℕ, zero, suc, ◌+◌, nat_le, Bool, true, false, if◌then◌else◌, List, [], ◌∷◌, ◌++◌, length, Option, Some, None}
-use Rattle.cir_lexer.specs.declared.token.TokenKind.TheVariants as token
-use Rattle.cir_lexer.specs.declared.token.Reserved.TheVariants.{Parallel}
-use Rattle.cir_lexer.specs.declared.token.Symbol.{Symbol}
-use Rattle.cir_lexer.specs.declared.token.Symbol.TheVariants as symbol
-use Rattle.cir_ast.specs.declared.tree.Unary.{Unary as UnaryOp}
-use Rattle.cir_ast.specs.declared.tree.Unary.TheVariants as unary
-use Rattle.cir_ast.specs.declared.tree.Binary.{Binary as BinaryOp}
-use Rattle.cir_ast.specs.declared.tree.Binary.TheVariants as binary
-use Rattle.cir_ast.specs.Tree.{Expr, Number, Place, Call, Parentheses, Array, Unary, Binary, Choice, Accessors, done, index, member, as_exprs}
+-- A reading takes the tokens that are left, and answers the tree at their front with the tokens
+-- behind it. Where a number comes first, it is the height that the tree may have.
+use Rattle.std.specs.Prelude.{ℕ, zero, suc, ◌+◌, nat_le, Bool, true, false, if◌then◌else◌, List, []}
+use Rattle.std.specs.Prelude.{◌∷◌, ◌++◌, length, Option, Some, None}
+use Rattle.cir_token.specs.declared.token.TokenKind.TheVariants as token
+use Rattle.cir_token.specs.declared.token.Reserved.TheVariants.{Parallel}
+use Rattle.cir_token.specs.declared.token.Symbol.{Symbol}
+use Rattle.cir_token.specs.declared.token.Symbol.TheVariants as symbol
+use Rattle.cir_ast.specs.declared.operators.Unary.{Unary as UnaryOp}
+use Rattle.cir_ast.specs.declared.operators.Unary.TheVariants as unary
+use Rattle.cir_ast.specs.declared.operators.Binary.{Binary as BinaryOp}
+use Rattle.cir_ast.specs.declared.operators.Binary.TheVariants as binary
+use Rattle.cir_ast.specs.declared.operators.Arrow.{Arrow}
+use Rattle.cir_ast.specs.declared.operators.Arrow.TheVariants as arrows
+use Rattle.cir_ast.specs.Tree.{Number, Place, Call, Anonymous, Parentheses, Array, Unary, Binary}
+use Rattle.cir_ast.specs.Tree.{Choice, done, index, member, Listed, Named, unnamed, named, as_exprs}
+use Rattle.cir_ast.specs.Plain.{PlainExpr as Expr, PlainAccessors as Accessors}
+use Rattle.cir_ast.specs.Plain.{PlainInputs as Inputs, PlainNamedInputs as NamedInputs}
 use Rattle.cir_ast.specs.Shape.{level_of}
 use Rattle.cir_ast.specs.Height.{height_of}
-use Rattle.cir_expression.specs.Front.{Tokens, next, otherwise, tail, begins, begins_word, behind, name_at}
+use Rattle.cir_expression.specs.Front.{Tokens, next, otherwise, tail, begins, begins_underscore}
+use Rattle.cir_expression.specs.Front.{begins_word, behind, name_at}
 
 -- an expression at the front, and the tokens behind it
 abbrev pub Found : Type 0
@@ -59,19 +66,22 @@ binary_at _ = None
 
 -- the operator of this level or a tighter one at the front
 abbrev pub continues : ℕ → Tokens → Option BinaryOp
-continues level ts = next (binary_at ts) (λ op. if nat_le level (level_of op) then Some op else None)
+continues level ts =
+    next (binary_at ts) (λ op. if nat_le level (level_of op) then Some op else None)
 
 abbrev pub within : ℕ → Expr → Option Expr
 within room e = if nat_le (height_of e) room then Some e else None
 
--- so many expressions at most with commas between them, behind those that were read before, and this symbol
-abbrev pub listed_to : Symbol → ℕ → (Tokens → Found) → List Expr → Tokens → Option (List Expr × Tokens)
+-- so many items at most with commas between them, behind those that were read before, and this
+-- symbol
+abbrev pub listed_to : {A : Type 0} → Symbol → ℕ → (Tokens → Option (A × Tokens)) → List A → Tokens
+    → Option (List A × Tokens)
 listed_to close zero read before ts = None
 listed_to close (suc n) read before ts =
-    next (read ts) (λ e.
-    if begins symbol.Comma e.1
-    then listed_to close n read (before ++ e.0 ∷ []) (tail e.1)
-    else next (behind close e.1) (λ rest. Some (before ++ e.0 ∷ [], rest)))
+    next (read ts) (λ x.
+    if begins symbol.Comma x.1
+    then listed_to close n read (before ++ x.0 ∷ []) (tail x.1)
+    else next (behind close x.1) (λ rest. Some (before ++ x.0 ∷ [], rest)))
 
 -- no expression or more, and `)`
 abbrev pub arguments_by : (Tokens → Found) → Tokens → Option (List Expr × Tokens)
@@ -100,35 +110,92 @@ abbrev pub accessors_by : ℕ → (Tokens → Found) → Accessors → Tokens �
 accessors_by zero read before ts = None
 accessors_by (suc n) read before ts =
     if begins symbol.OpenBracket ts
-    then next (read (tail ts)) (λ e. next (behind symbol.CloseBracket e.1) (λ rest. accessors_by n read (with_index before e.0) rest))
+    then next (read (tail ts))
+    (λ e. next (behind symbol.CloseBracket e.1)
+    (λ rest. accessors_by n read (with_index before e.0) rest))
     else (if begins symbol.Dot ts
     then next (name_at (tail ts)) (λ name. accessors_by n read (with_member before name.0) name.1)
     else Some (before, ts))
 
 -- what is read behind a name
 abbrev pub place_by : (Tokens → Found) → List ℕ → Tokens → Option ((List ℕ × Accessors) × Tokens)
-place_by read name ts = next (accessors_by (suc (length ts)) read done ts) (λ found. Some ((name, found.0), found.1))
+place_by read name ts =
+    next (accessors_by (suc (length ts)) read done ts) (λ found. Some ((name, found.0), found.1))
+
+-- the arrow behind an input's name
+abbrev pub arrow_of : Symbol → Option Arrow
+arrow_of symbol.AssignLeft = Some arrows.Assign
+arrow_of symbol.ConstrainLeft = Some arrows.Constrain
+arrow_of _ = None
+
+abbrev pub arrow_at : Tokens → Option Arrow
+arrow_at (token.Symbol s ∷ ts) = arrow_of s
+arrow_at _ = None
+
+-- an input's name and its arrow
+abbrev pub input_at : Tokens → Option ((List ℕ × Arrow) × Tokens)
+input_at ts =
+    next (name_at ts)
+    (λ name. next (arrow_at name.1) (λ arrow. Some ((name.0, arrow), tail name.1)))
+
+-- one more named input
+abbrev pub with_input : NamedInputs → List ℕ → Arrow → Expr → NamedInputs
+with_input unnamed new a e = named new a e unnamed
+with_input (named name b f rest) new a e = named name b f (with_input rest new a e)
+
+-- so many named inputs at most with commas between them, behind those that were read before, and
+-- `)`
+abbrev pub named_to : ℕ → (Tokens → Found) → NamedInputs → Tokens → Option (NamedInputs × Tokens)
+named_to zero read before ts = None
+named_to (suc n) read before ts =
+    next (input_at ts) (λ i.
+    next (read i.1) (λ e.
+    if begins symbol.Comma e.1
+    then named_to n read (with_input before i.0.0 i.0.1 e.0) (tail e.1)
+    else next (behind symbol.CloseParenthesis e.1)
+    (λ rest. Some (with_input before i.0.0 i.0.1 e.0, rest))))
+
+-- the inputs of an anonymous component, and `)`; a name with an arrow is followed by named inputs
+-- alone
+abbrev pub inputs_by : (Tokens → Found) → Tokens → Option (Inputs × Tokens)
+inputs_by read ts =
+    otherwise (input_at ts)
+    (next (arguments_by read ts) (λ found. Some (Listed (as_exprs found.0), found.1)))
+    (λ i. next (named_to (length ts) read unnamed ts) (λ found. Some (Named found.0, found.1)))
+
+-- what is read behind a call's arguments: a `(` makes it an anonymous component
+abbrev pub called_by : (Tokens → Found) → Bool → List ℕ → List Expr → Tokens → Found
+called_by read parallel name arguments ts =
+    if begins symbol.OpenParenthesis ts
+    then next (inputs_by read (tail ts))
+    (λ given. Some (Anonymous parallel name tt (as_exprs arguments) given.0, given.1))
+    else Some (Call parallel name tt (as_exprs arguments), ts)
 
 abbrev pub call_by : (Tokens → Found) → Bool → List ℕ → Tokens → Found
 call_by read parallel name ts =
-    next (behind symbol.OpenParenthesis ts) (λ inner. next (arguments_by read inner) (λ found. Some (Call parallel name (as_exprs found.0), found.1)))
+    next (behind symbol.OpenParenthesis ts)
+    (λ inner. next (arguments_by read inner)
+    (λ found. called_by read parallel name found.0 found.1))
 
--- a call or a place
+-- a call, an anonymous component or a place
 abbrev pub named_by : (Tokens → Found) → List ℕ → Tokens → Found
 named_by read name ts =
     if begins symbol.OpenParenthesis ts
     then call_by read false name ts
-    else next (place_by read name ts) (λ found. Some (Place found.0.0 found.0.1, found.1))
+    else next (place_by read name ts) (λ found. Some (Place found.0.0 tt found.0.1, found.1))
 
--- an operand that begins with a symbol: in parentheses, an array, or behind an operator. The first reading
--- takes a level.
+-- an operand that begins with a symbol: in parentheses, an array, or behind an operator. The first
+-- reading takes a level.
 abbrev pub grouped_by : (ℕ → Tokens → Found) → Tokens → Found
 grouped_by read ts =
     if begins symbol.OpenParenthesis ts
-    then next (read 1 (tail ts)) (λ inner. next (behind symbol.CloseParenthesis inner.1) (λ rest. Some (Parentheses inner.0, rest)))
+    then next (read 1 (tail ts))
+    (λ inner. next (behind symbol.CloseParenthesis inner.1)
+    (λ rest. Some (Parentheses inner.0, rest)))
     else (if begins symbol.OpenBracket ts
     then next (elements_by (read 1) (tail ts)) (λ found. Some (Array (as_exprs found.0), found.1))
-    else next (unary_at ts) (λ op. next (read 12 (tail ts)) (λ inner. Some (Unary op inner.0, inner.1))))
+    else next (unary_at ts)
+    (λ op. next (read 12 (tail ts)) (λ inner. Some (Unary op inner.0, inner.1))))
 
 abbrev pub operand_by : (ℕ → Tokens → Found) → Tokens → Found
 operand_by read (token.Number n ∷ ts) = Some (Number n, ts)
@@ -138,7 +205,8 @@ operand_by read ts =
     then next (name_at (tail ts)) (λ name. call_by (read 1) true name.0 name.1)
     else grouped_by read ts
 
--- the operators of this level and tighter ones behind a left operand, so many at most, with their right operands
+-- the operators of this level and tighter ones behind a left operand, so many at most, with their
+-- right operands
 abbrev pub chain : ℕ → (ℕ → Tokens → Found) → ℕ → ℕ → Expr → Tokens → Found
 chain zero read room level left ts = otherwise (continues level ts) (Some (left, ts)) (λ op. None)
 chain (suc turns) read room level left ts =
@@ -151,7 +219,8 @@ abbrev pub choice : (ℕ → Tokens → Found) → ℕ → ℕ → Expr → Toke
 choice read room level condition ts =
     if nat_le level 1
     then (if begins symbol.Question ts
-    then next (read 1 (tail ts)) (λ chosen. next (behind symbol.Colon chosen.1) (λ rest. next (read 1 rest) (λ other.
+    then next (read 1 (tail ts))
+    (λ chosen. next (behind symbol.Colon chosen.1) (λ rest. next (read 1 rest) (λ other.
     next (within room (Choice condition chosen.0 other.0)) (λ e. Some (e, other.1)))))
     else Some (condition, ts))
     else Some (condition, ts)
@@ -167,7 +236,45 @@ climb (suc room) level ts =
 unfoldable pub expression : ℕ → Tokens → Found
 expression room ts = climb room 1 ts
 
--- what is written: a name, and its indices and members, in which an expression is lower than the place
+-- an expression whose first operand was read: the operators behind it, and what they stand between
+unfoldable pub continued : ℕ → Expr → Tokens → Found
+continued zero left ts = None
+continued (suc room) left ts =
+    next (chain (suc room) (climb room) (suc room) 1 left ts)
+    (λ whole. choice (climb room) (suc room) 1 whole.0 whole.1)
+
+-- an expression, or None for `_`
+abbrev pub element : ℕ → Tokens → Option (Option Expr × Tokens)
+element room ts =
+    if begins_underscore ts then Some (None, tail ts)
+    else next (expression room ts) (λ e. Some (Some e.0, e.1))
+
+-- so many elements at most, behind those that were read before, and `)`
+abbrev pub elements_to : ℕ → ℕ → List (Option Expr) → Tokens → Option (List (Option Expr) × Tokens)
+elements_to n room before ts = listed_to symbol.CloseParenthesis n (element room) before ts
+
+-- what begins with `(`: an expression, or a tuple of two elements or more
+pub data Grouped : Type 0 where
+  Whole : Expr → Grouped
+  Tuple : List (Option Expr) → Grouped
+
+-- one expression in parentheses is the first operand of an expression
+abbrev pub whole : ℕ → Option Expr → Tokens → Found
+whole room None ts = None
+whole room (Some e) ts = next (within room (Parentheses e)) (λ p. continued room p ts)
+
+-- what stands behind `(`
+unfoldable pub group : ℕ → Tokens → Option (Grouped × Tokens)
+group room ts =
+    next (element room ts) (λ x.
+    if begins symbol.Comma x.1
+    then next (elements_to (length (tail x.1)) room (x.0 ∷ []) (tail x.1))
+    (λ xs. Some (Tuple xs.0, xs.1))
+    else next (behind symbol.CloseParenthesis x.1)
+    (λ rest. next (whole room x.0 rest) (λ e. Some (Whole e.0, e.1))))
+
+-- what is written: a name, and its indices and members, in which an expression is lower than the
+-- place
 unfoldable pub place : ℕ → Tokens → Option ((List ℕ × Accessors) × Tokens)
 place zero ts = None
 place (suc room) ts = next (name_at ts) (λ name. place_by (expression room) name.0 name.1)

@@ -1,29 +1,46 @@
-ghost use Rattle.std.specs.Prelude.{◌≡◌, ◌<◌, ◌≤◌, ◌+◌, ◌-◌, ◌^◌, suc, [], length, map, IfOk};
-ghost use Rattle.cir_ast.specs.Tree.{bare};
-ghost use Rattle.cir_lexer.specs.declared.token.Symbol.TheVariants.{CloseBracket, CloseParenthesis};
-ghost use Rattle.cir_expression.specs.Reading.{expression, place, arguments, climb, chain, choice, operand_by, grouped_by, named_by, arguments_by, listed_to, accessors_by};
-ghost use Rattle.cir_ast.specs.Tree.{done};
-ghost use Rattle.cir_expression.specs.Answers.{kinds, Reads, named};
-ghost use Rattle.cir_expression.specs.Measured.{IsMeasured, Measures, Gathers, Follows};
+ghost use Rattle.std.specs.Prelude.{◌≡◌, ◌<◌, ◌≤◌, ◌+◌, ◌-◌, ◌^◌, suc, [], ◌∷◌, length, map, IfOk};
+ghost use Rattle.cir_token.specs.declared.token.Symbol.TheVariants.{CloseBracket, CloseParenthesis};
+ghost use Rattle.cir_expression.specs.Reading.{expression, place, arguments, climb, chain, choice};
+ghost use Rattle.cir_expression.specs.Reading.{operand_by, grouped_by, named_by, arguments_by};
+ghost use Rattle.cir_expression.specs.Reading.{called_by, listed_to, named_to, accessors_by};
+ghost use Rattle.cir_expression.specs.Reading.{element, elements_to, whole, continued, group};
+ghost use Rattle.cir_ast.specs.Tree.{done, unnamed};
+ghost use Rattle.cir_expression.specs.Front.{next};
+ghost use Rattle.cir_expression.specs.Answers.{kinds, Reads, seen, seen_element, seen_group, named};
+ghost use Rattle.cir_expression.specs.Measured.{IsMeasured, IsMeasuredElement, IsLowElement};
+ghost use Rattle.cir_expression.specs.Measured.{seen_reading, Elements, Measures, Gathers, Names};
+ghost use Rattle.cir_expression.specs.Measured.{Follows};
 
 use crate::measured::{
-    Listing, Path, Reading, applied, array, call, chosen, enclosed, joined, place,
+    Listing, Naming, Path, Reading, applied, array, call, chosen, enclosed, joined,
+    listed_component, named_component, place,
 };
 use crate::operators::level_of;
 use crate::reader::{Reader, Stop};
-use cir_ast::tree::{Accessor, Expr, Place};
-use cir_lexer::{Reserved, Symbol, Text, TokenKind};
+use cir_ast::Blank;
+use cir_ast::marked::{Accessor, Expr, NamedInput, Place};
+use cir_token::{Reserved, Symbol, Text, TokenKind};
 use items::Items;
 use std::alloc::Global;
 
-// Below, a call that is given `room` reads what may be that high, and a call that is given `inner` reads a node
-// whose inner expressions may be that high.
+/// What begins with a parenthesis.
+#[derive(Drop)]
+pub enum Grouped<N> {
+    /// An expression that begins with parentheses.
+    Whole(Expr<N>),
+    /// The elements of a tuple, two or more; None is `_`.
+    Tuple(Vec<Option<Expr<N>>>),
+}
+
+// Below, a call that is given `room` reads what may be that high, and a call that is given `inner`
+// reads a node whose inner expressions may be that high.
 impl<'a> Reader<'a> {
     /// An expression that is at most this high.
     #[tactic(auto, unfolding(crate::specs::Reading::expression))]
-    pub fn expression(&mut self, alloc: Global, room: u32) -> Result<Expr, Stop>
+    pub fn expression<N: Blank + Drop>(&mut self, alloc: Global, room: u32) -> Result<Expr<N>, Stop>
         requires { room < 2 ^ 16 }
-        ensures { Reads bare result (kinds self.new.rest.now) (expression room (kinds self.old.rest.now)) }
+        ensures { Reads seen result (kinds self.new.rest.now)
+            (expression room (kinds self.old.rest.now)) }
     {
         let found = self.climb(alloc, room, 1)?;
         Ok(found.tree)
@@ -31,34 +48,138 @@ impl<'a> Reader<'a> {
 
     /// A name with its indices and members, at most this high.
     #[tactic(auto, unfolding(crate::specs::Reading::place, crate::specs::Reading::expression))]
-    pub fn place(&mut self, alloc: Global, room: u32) -> Result<Place, Stop>
+    pub fn place<N: Blank + Drop>(&mut self, alloc: Global, room: u32) -> Result<Place<N>, Stop>
         requires { room < 2 ^ 16 }
-        ensures { Reads named result (kinds self.new.rest.now) (place room (kinds self.old.rest.now)) }
+        ensures { Reads named result (kinds self.new.rest.now)
+            (place room (kinds self.old.rest.now)) }
     {
         if room == 0 {
             return Err(Stop::NoTree);
         }
         let name = self.name(alloc)?;
         let path = self.accessors(alloc, room - 1)?;
-        Ok(Place::of(name, Items::of(path.accessors)))
+        Ok(Place::of(name, N::blank(), Items::of(path.accessors)))
     }
 
     /// No expression or more with commas between them, each at most this high, and `)`.
     #[tactic(auto, unfolding(crate::specs::Reading::arguments, crate::specs::Reading::expression))]
-    pub fn arguments(&mut self, alloc: Global, room: u32) -> Result<Vec<Expr>, Stop>
+    pub fn arguments<N: Blank + Drop>(
+        &mut self,
+        alloc: Global,
+        room: u32,
+    ) -> Result<Vec<Expr<N>>, Stop>
         requires { room < 2 ^ 16 }
-        ensures { Reads (λ v. map bare v.items) result (kinds self.new.rest.now) (arguments room (kinds self.old.rest.now)) }
+        ensures { Reads (λ v. map seen v.items) result (kinds self.new.rest.now)
+            (arguments room (kinds self.old.rest.now)) }
     {
         let found = self.enclosed_list(alloc, room)?;
         Ok(found.items)
     }
 
-    // An expression of at most this height whose operators, but for those in parentheses, are of this
-    // level or a tighter one.
-    #[cycle(expressions)]
-    fn climb(&mut self, alloc: Global, room: u32, level: u32) -> Result<Reading, Stop>
+    /// What stands behind a `(` that begins an expression or a tuple: no more than the `)` of a
+    /// tuple, or the whole expression. Each is at most this high.
+    #[tactic(auto, unfolding(crate::specs::Reading::group))]
+    pub fn group<N: Blank + Drop>(&mut self, alloc: Global, room: u32) -> Result<Grouped<N>, Stop>
         requires { room < 2 ^ 16 }
-        ensures read { Measures result (kinds self.new.rest.now) (climb room level (kinds self.old.rest.now)) }
+        ensures { Reads seen_group result (kinds self.new.rest.now)
+            (group room (kinds self.old.rest.now)) }
+    {
+        let first = self.element(alloc, room)?;
+        if self.begins(Symbol::Comma) {
+            self.skip();
+            let elements = self.elements(alloc, room, tree_of(first))?;
+            return Ok(Grouped::Tuple(elements));
+        }
+        self.behind(Symbol::CloseParenthesis)?;
+        let whole = self.whole(alloc, room, first)?;
+        Ok(Grouped::Whole(whole))
+    }
+
+    // An expression, or None for `_`.
+    #[tactic(auto, unfolding(crate::specs::Reading::expression))]
+    fn element<N: Blank + Drop>(
+        &mut self,
+        alloc: Global,
+        room: u32,
+    ) -> Result<Option<Reading<N>>, Stop>
+        requires { room < 2 ^ 16 }
+        ensures read { Elements result (kinds self.new.rest.now)
+            (element room (kinds self.old.rest.now)) }
+        ensures low { IfOk result (IsLowElement room) }
+    {
+        if self.begins_underscore() {
+            self.skip();
+            return Ok(None);
+        }
+        let found = self.climb(alloc, room, 1)?;
+        Ok(Some(found))
+    }
+
+    // The elements behind the first one, with commas between them, and `)`.
+    fn elements<N: Blank + Drop>(
+        &mut self,
+        alloc: Global,
+        room: u32,
+        first: Option<Expr<N>>,
+    ) -> Result<Vec<Option<Expr<N>>>, Stop>
+        requires { room < 2 ^ 16 }
+        ensures { Reads (λ v. map seen_element v.items) result (kinds self.new.rest.now)
+            (elements_to (length (kinds self.old.rest.now)) room (seen_element first ∷ [])
+            (kinds self.old.rest.now)) }
+    {
+        let mut elements = Vec::new(alloc);
+        elements.push(first)?;
+        for _ in 0..self.rest.len() {
+            let element = self.element(alloc, room)?;
+            elements.push(tree_of(element))?;
+            if self.begins(Symbol::Comma) {
+                self.skip();
+            } else {
+                self.behind(Symbol::CloseParenthesis)?;
+                return Ok(elements);
+            }
+        }
+        Err(Stop::NoTree)
+    }
+
+    // The expression that begins with this one in parentheses.
+    #[tactic(auto, unfolding(crate::specs::Reading::continued))]
+    fn whole<N: Blank + Drop>(
+        &mut self,
+        alloc: Global,
+        room: u32,
+        inner: Option<Reading<N>>,
+    ) -> Result<Expr<N>, Stop>
+        requires room { room < 2 ^ 16 }
+        requires measured { IsMeasuredElement inner }
+        requires low { IsLowElement room inner }
+        ensures { Reads seen result (kinds self.new.rest.now)
+            (whole room (seen_reading inner) (kinds self.old.rest.now)) }
+    {
+        let Some(inner) = inner else {
+            return Err(Stop::NoTree);
+        };
+        if inner.height >= room {
+            return Err(Stop::NoTree);
+        }
+        let left = enclosed(alloc, inner)?;
+        let whole = self.chain(alloc, room - 1, 1, left)?;
+        let found = self.choice(alloc, room - 1, 1, whole)?;
+        Ok(found.tree)
+    }
+
+    // An expression of at most this height whose operators, but for those in parentheses, are of
+    // this level or a tighter one.
+    #[cycle(expressions)]
+    fn climb<N: Blank + Drop>(
+        &mut self,
+        alloc: Global,
+        room: u32,
+        level: u32,
+    ) -> Result<Reading<N>, Stop>
+        requires { room < 2 ^ 16 }
+        ensures read { Measures result (kinds self.new.rest.now)
+            (climb room level (kinds self.old.rest.now)) }
         ensures low { IfOk result (λ r. r.height ≤ room) }
     {
         if room == 0 {
@@ -72,18 +193,19 @@ impl<'a> Reader<'a> {
 
     // The operators behind a left operand, each with its right operand.
     #[cycle(expressions)]
-    fn chain(
+    fn chain<N: Blank + Drop>(
         &mut self,
         alloc: Global,
         inner: u32,
         level: u32,
-        left: Reading,
-    ) -> Result<Reading, Stop>
+        left: Reading<N>,
+    ) -> Result<Reading<N>, Stop>
         requires room { inner + 1 < 2 ^ 16 }
         requires left { IsMeasured left }
         requires left_low { left.height ≤ inner + 1 }
         ensures read { Measures result (kinds self.new.rest.now)
-            (chain (inner + 1) (climb inner) (inner + 1) level (bare left.tree) (kinds self.old.rest.now)) }
+            (chain (inner + 1) (climb inner) (inner + 1) level (seen left.tree)
+            (kinds self.old.rest.now)) }
         ensures low { IfOk result (λ r. r.height ≤ inner + 1) }
     {
         let mut left = left;
@@ -104,18 +226,19 @@ impl<'a> Reader<'a> {
 
     // `?` and what follows it, where one comes and may stand here.
     #[cycle(expressions)]
-    fn choice(
+    fn choice<N: Blank + Drop>(
         &mut self,
         alloc: Global,
         inner: u32,
         level: u32,
-        condition: Reading,
-    ) -> Result<Reading, Stop>
+        condition: Reading<N>,
+    ) -> Result<Reading<N>, Stop>
         requires room { inner + 1 < 2 ^ 16 }
         requires condition { IsMeasured condition }
         requires condition_low { condition.height ≤ inner + 1 }
         ensures read { Measures result (kinds self.new.rest.now)
-            (choice (climb inner) (inner + 1) level (bare condition.tree) (kinds self.old.rest.now)) }
+            (choice (climb inner) (inner + 1) level (seen condition.tree)
+            (kinds self.old.rest.now)) }
         ensures low { IfOk result (λ r. r.height ≤ inner + 1) }
     {
         if level > 1 {
@@ -134,9 +257,10 @@ impl<'a> Reader<'a> {
 
     // A number, a name with what follows it, or what begins with a symbol.
     #[cycle(expressions)]
-    fn operand(&mut self, alloc: Global, inner: u32) -> Result<Reading, Stop>
+    fn operand<N: Blank + Drop>(&mut self, alloc: Global, inner: u32) -> Result<Reading<N>, Stop>
         requires room { inner + 1 < 2 ^ 16 }
-        ensures read { Measures result (kinds self.new.rest.now) (operand_by (climb inner) (kinds self.old.rest.now)) }
+        ensures read { Measures result (kinds self.new.rest.now)
+            (operand_by (climb inner) (kinds self.old.rest.now)) }
         ensures low { IfOk result (λ r. r.height ≤ inner + 1) }
     {
         let Some((token, rest)) = self.rest.split_first() else {
@@ -163,8 +287,8 @@ impl<'a> Reader<'a> {
                 self.rest = rest;
                 let name = self.name(alloc)?;
                 self.behind(Symbol::OpenParenthesis)?;
-                let found = self.enclosed_list(alloc, inner)?;
-                Ok(call(true, name, found))
+                let found = self.call(alloc, inner, true, name)?;
+                Ok(found)
             }
             _ => {
                 let found = self.grouped(alloc, inner)?;
@@ -175,9 +299,10 @@ impl<'a> Reader<'a> {
 
     // An expression in parentheses, an array, or an operator and its operand.
     #[cycle(expressions)]
-    fn grouped(&mut self, alloc: Global, inner: u32) -> Result<Reading, Stop>
+    fn grouped<N: Blank + Drop>(&mut self, alloc: Global, inner: u32) -> Result<Reading<N>, Stop>
         requires room { inner + 1 < 2 ^ 16 }
-        ensures read { Measures result (kinds self.new.rest.now) (grouped_by (climb inner) (kinds self.old.rest.now)) }
+        ensures read { Measures result (kinds self.new.rest.now)
+            (grouped_by (climb inner) (kinds self.old.rest.now)) }
         ensures low { IfOk result (λ r. r.height ≤ inner + 1) }
     {
         if self.begins(Symbol::OpenParenthesis) {
@@ -201,17 +326,82 @@ impl<'a> Reader<'a> {
         Ok(whole)
     }
 
+    // What stands behind `name(`: the arguments of a call, and the inputs that make it an anonymous
+    // component.
+    #[cycle(expressions)]
+    fn call<N: Blank + Drop>(
+        &mut self,
+        alloc: Global,
+        inner: u32,
+        parallel: bool,
+        name: Text,
+    ) -> Result<Reading<N>, Stop>
+        requires room { inner + 1 < 2 ^ 16 }
+        ensures read { Measures result (kinds self.new.rest.now)
+            (next (arguments_by (climb inner 1) (kinds self.old.rest.now))
+            (λ found. called_by (climb inner 1) parallel name found.0 found.1)) }
+        ensures low { IfOk result (λ r. r.height ≤ inner + 1) }
+    {
+        let arguments = self.enclosed_list(alloc, inner)?;
+        if !self.begins(Symbol::OpenParenthesis) {
+            return Ok(call(parallel, name, arguments));
+        }
+        self.skip();
+        if self.begins_input() {
+            let given = self.named_inputs(alloc, inner)?;
+            return Ok(named_component(parallel, name, arguments, given));
+        }
+        let given = self.enclosed_list(alloc, inner)?;
+        Ok(listed_component(parallel, name, arguments, given))
+    }
+
+    // One named input or more with commas between them, and `)`.
+    #[cycle(expressions)]
+    fn named_inputs<N: Blank + Drop>(&mut self, alloc: Global, room: u32) -> Result<Naming<N>, Stop>
+        requires room { room < 2 ^ 16 }
+        ensures read { Names result (kinds self.new.rest.now)
+            (named_to (length (kinds self.old.rest.now)) (climb room 1) unnamed
+            (kinds self.old.rest.now)) }
+        ensures low { IfOk result (λ n. n.height ≤ room) }
+    {
+        let mut inputs = Vec::new(alloc);
+        let mut height = 0;
+        for _ in 0..self.rest.len() {
+            let (name, arrow) = self.input(alloc)?;
+            let item = self.climb(alloc, room, 1)?;
+            height = item.height.max(height);
+            inputs.push(NamedInput {
+                name,
+                arrow,
+                value: item.tree,
+            })?;
+            if self.begins(Symbol::Comma) {
+                self.skip();
+            } else {
+                self.behind(Symbol::CloseParenthesis)?;
+                return Ok(Naming { inputs, height });
+            }
+        }
+        Err(Stop::NoTree)
+    }
+
     // What stands behind a name: the arguments of a call, or the rest of a place.
     #[cycle(expressions)]
-    fn named(&mut self, alloc: Global, inner: u32, name: Text) -> Result<Reading, Stop>
+    fn named<N: Blank + Drop>(
+        &mut self,
+        alloc: Global,
+        inner: u32,
+        name: Text,
+    ) -> Result<Reading<N>, Stop>
         requires room { inner + 1 < 2 ^ 16 }
-        ensures read { Measures result (kinds self.new.rest.now) (named_by (climb inner 1) name (kinds self.old.rest.now)) }
+        ensures read { Measures result (kinds self.new.rest.now)
+            (named_by (climb inner 1) name (kinds self.old.rest.now)) }
         ensures low { IfOk result (λ r. r.height ≤ inner + 1) }
     {
         if self.begins(Symbol::OpenParenthesis) {
             self.skip();
-            let found = self.enclosed_list(alloc, inner)?;
-            return Ok(call(false, name, found));
+            let found = self.call(alloc, inner, false, name)?;
+            return Ok(found);
         }
         let path = self.accessors(alloc, inner)?;
         Ok(place(name, path))
@@ -219,9 +409,14 @@ impl<'a> Reader<'a> {
 
     // No expression or more with commas between them, and `)`.
     #[cycle(expressions)]
-    fn enclosed_list(&mut self, alloc: Global, room: u32) -> Result<Listing, Stop>
+    fn enclosed_list<N: Blank + Drop>(
+        &mut self,
+        alloc: Global,
+        room: u32,
+    ) -> Result<Listing<N>, Stop>
         requires room { room < 2 ^ 16 }
-        ensures read { Gathers result (kinds self.new.rest.now) (arguments_by (climb room 1) (kinds self.old.rest.now)) }
+        ensures read { Gathers result (kinds self.new.rest.now)
+            (arguments_by (climb room 1) (kinds self.old.rest.now)) }
         ensures low { IfOk result (λ l. l.height ≤ room) }
     {
         if self.begins(Symbol::CloseParenthesis) {
@@ -237,10 +432,16 @@ impl<'a> Reader<'a> {
 
     // One expression or more with commas between them, and the symbol that closes the list.
     #[cycle(expressions)]
-    fn list(&mut self, alloc: Global, room: u32, close: Symbol) -> Result<Listing, Stop>
+    fn list<N: Blank + Drop>(
+        &mut self,
+        alloc: Global,
+        room: u32,
+        close: Symbol,
+    ) -> Result<Listing<N>, Stop>
         requires room { room < 2 ^ 16 }
         ensures read { Gathers result (kinds self.new.rest.now)
-            (listed_to close (length (kinds self.old.rest.now)) (climb room 1) [] (kinds self.old.rest.now)) }
+            (listed_to close (length (kinds self.old.rest.now)) (climb room 1) []
+            (kinds self.old.rest.now)) }
         ensures low { IfOk result (λ l. l.height ≤ room) }
     {
         let mut items = Vec::new(alloc);
@@ -261,10 +462,11 @@ impl<'a> Reader<'a> {
 
     // The indices and members behind a name.
     #[cycle(expressions)]
-    fn accessors(&mut self, alloc: Global, room: u32) -> Result<Path, Stop>
+    fn accessors<N: Blank + Drop>(&mut self, alloc: Global, room: u32) -> Result<Path<N>, Stop>
         requires room { room < 2 ^ 16 }
         ensures read { Follows result (kinds self.new.rest.now)
-            (accessors_by (suc (length (kinds self.old.rest.now))) (climb room 1) done (kinds self.old.rest.now)) }
+            (accessors_by (suc (length (kinds self.old.rest.now))) (climb room 1) done
+            (kinds self.old.rest.now)) }
         ensures low { IfOk result (λ p. p.height ≤ room) }
     {
         let mut accessors = Vec::new(alloc);
@@ -285,5 +487,15 @@ impl<'a> Reader<'a> {
             }
         }
         Err(Stop::NoTree)
+    }
+}
+
+// The expression without its height.
+fn tree_of<N: Drop>(reading: Option<Reading<N>>) -> Option<Expr<N>>
+    ensures { seen_element result ≡ seen_reading reading }
+{
+    match reading {
+        Some(found) => Some(found.tree),
+        None => None,
     }
 }

@@ -1,17 +1,19 @@
 //! From tokens to the expressions that print them.
 //!
-//! A [`Reader`] holds the tokens that are left, and each call reads what stands at their front: an expression, a
-//! place, or the arguments of a call, no higher than the room that is given. It answers the tree, and leaves the
-//! tokens behind it. Where there is none such it answers [`Stop::NoTree`], and then its tokens are of no use.
+//! A [`Reader`] holds the tokens that are left, and each call reads what stands at their front: an
+//! expression, a place, the arguments of a call, or what begins with a parenthesis, no higher than
+//! the room that is given. It answers the tree, and leaves the tokens behind it. Where there is
+//! none such it answers [`Stop::NoTree`], and then its tokens are of no use.
 //!
-//! The contracts name the readings of `specs/Reading`, which are functions of the tokens. [`laws`] has what holds
-//! of them: what is read prints the tokens, is shaped as the grammar wants, and is low enough; whatever is so is
-//! read; and tokens have one tree at most.
+//! The contracts name the readings of `specs/Reading`, which are functions of the tokens. [`laws`]
+//! has what holds of them: what is read prints the tokens, is shaped as the grammar wants, and is
+//! low enough; whatever is so is read; and tokens have one tree at most.
 //!
-//! Levels are climbed, and not descended one by one: an operand is read, and then operators as long as they are of
-//! the wanted level or a tighter one, each with its right operand. So whatever is read passes a token at least and
-//! looks at a few beside, and the time is linear in the tokens that are passed, though no clause says so. Calls lie
-//! no deeper than five for each node on the way down.
+//! Levels are climbed, and not descended one by one: an operand is read, and then operators as long
+//! as they are of the wanted level or a tighter one, each with its right operand. So whatever is
+//! read passes a token at least and looks at a few beside, and the time is linear in the tokens
+//! that are passed, though no clause says so. Calls lie no deeper than five for each node on the
+//! way down.
 #![tactic(auto)]
 
 mod expressions;
@@ -20,4 +22,5 @@ mod measured;
 mod operators;
 mod reader;
 
+pub use expressions::Grouped;
 pub use reader::{Reader, Stop};

@@ -1,49 +1,62 @@
 //! Trees with their heights, so that no height is counted twice.
-ghost use Rattle.std.specs.Prelude.{◌≡◌, ◌<◌, ◌≤◌, ◌+◌, ◌^◌, IfOk};
-ghost use Rattle.cir_ast.specs.Tree.{bare, bare_exprs, as_accessors, Parentheses, Unary as UnaryTree, Binary as BinaryTree, Choice, Call, Array, Place as PlaceTree};
+ghost use Rattle.std.specs.Prelude.{◌≡◌, ◌<◌, ◌≤◌, ◌+◌, ◌^◌, max, IfOk};
+ghost use Rattle.cir_ast.specs.Tree.{as_exprs, Parentheses, Unary as UnaryTree};
+ghost use Rattle.cir_ast.specs.Tree.{Binary as BinaryTree, Choice, Call};
+ghost use Rattle.cir_ast.specs.Tree.{Anonymous as AnonymousTree, Array, Listed, Named};
+ghost use Rattle.cir_ast.specs.Tree.{Place as PlaceTree};
 ghost use Rattle.cir_expression.specs.Reading.{within};
-ghost use Rattle.cir_expression.specs.Measured.{IsMeasured, IsMeasuredListing, IsMeasuredPath, Makes};
+ghost use Rattle.cir_expression.specs.Answers.{seen, seen_exprs, seen_accessors, seen_named};
+ghost use Rattle.cir_expression.specs.Measured.{IsMeasured, IsMeasuredListing, IsMeasuredPath};
+ghost use Rattle.cir_expression.specs.Measured.{IsMeasuredNaming, Makes};
 
 use crate::reader::Stop;
-use cir_ast::tree::{Accessor, Binary, Expr, Place, Unary};
-use cir_lexer::Text;
+use cir_ast::Blank;
+use cir_ast::marked::{Accessor, Anonymous, Binary, Expr, Inputs, NamedInput, Place, Unary};
+use cir_token::Text;
 use items::Items;
 use std::alloc::{AllocError, Global};
 
 /// An expression that was read, and its height.
 #[derive(Drop)]
-pub struct Reading {
-    pub tree: Expr,
+pub struct Reading<N> {
+    pub tree: Expr<N>,
     pub height: u32,
 }
 
 /// Expressions that were read, and the height of the highest.
 #[derive(Drop)]
-pub struct Listing {
-    pub items: Vec<Expr>,
+pub struct Listing<N> {
+    pub items: Vec<Expr<N>>,
     pub height: u32,
 }
 
 /// Indices and members that were read, and the height of the highest index.
 #[derive(Drop)]
-pub struct Path {
-    pub accessors: Vec<Accessor>,
+pub struct Path<N> {
+    pub accessors: Vec<Accessor<N>>,
+    pub height: u32,
+}
+
+/// Named inputs that were read, and the height of the highest value.
+#[derive(Drop)]
+pub struct Naming<N> {
+    pub inputs: Vec<NamedInput<N>>,
     pub height: u32,
 }
 
 /// The operation on both sides, unless it is too high.
-pub fn joined(
+pub fn joined<N: Drop>(
     alloc: Global,
     op: Binary,
-    left: Reading,
-    right: Reading,
+    left: Reading<N>,
+    right: Reading<N>,
     room: u32,
-) -> Result<Reading, Stop>
+) -> Result<Reading<N>, Stop>
     requires left { IsMeasured left }
     requires right { IsMeasured right }
     requires left_low { left.height < 2 ^ 17 }
     requires right_low { right.height < 2 ^ 17 }
-    ensures made { Makes result (within room (BinaryTree op (bare left.tree) (bare right.tree))) }
+    ensures made { Makes result (within room (BinaryTree op (seen left.tree) (seen right.tree))) }
     ensures low { IfOk result (λ r. r.height ≤ room) }
 {
     let height = left.height.max(right.height) + 1;
@@ -55,20 +68,21 @@ pub fn joined(
 }
 
 /// The choice between two expressions, unless it is too high.
-pub fn chosen(
+pub fn chosen<N: Drop>(
     alloc: Global,
-    condition: Reading,
-    chosen: Reading,
-    other: Reading,
+    condition: Reading<N>,
+    chosen: Reading<N>,
+    other: Reading<N>,
     room: u32,
-) -> Result<Reading, Stop>
+) -> Result<Reading<N>, Stop>
     requires condition { IsMeasured condition }
     requires chosen { IsMeasured chosen }
     requires other { IsMeasured other }
     requires condition_low { condition.height < 2 ^ 17 }
     requires chosen_low { chosen.height < 2 ^ 17 }
     requires other_low { other.height < 2 ^ 17 }
-    ensures made { Makes result (within room (Choice (bare condition.tree) (bare chosen.tree) (bare other.tree))) }
+    ensures made { Makes result
+        (within room (Choice (seen condition.tree) (seen chosen.tree) (seen other.tree))) }
     ensures low { IfOk result (λ r. r.height ≤ room) }
 {
     let height = condition.height.max(chosen.height.max(other.height)) + 1;
@@ -80,10 +94,10 @@ pub fn chosen(
 }
 
 /// The expression in parentheses.
-pub fn enclosed(alloc: Global, inner: Reading) -> Result<Reading, AllocError>
+pub fn enclosed<N: Drop>(alloc: Global, inner: Reading<N>) -> Result<Reading<N>, AllocError>
     requires measured { IsMeasured inner }
     requires low { inner.height < 2 ^ 17 }
-    ensures tree { IfOk result (λ r. bare r.tree ≡ Parentheses (bare inner.tree)) }
+    ensures tree { IfOk result (λ r. seen r.tree ≡ Parentheses (seen inner.tree)) }
     ensures measured { IfOk result IsMeasured }
     ensures height { IfOk result (λ r. r.height ≡ inner.height + 1) }
 {
@@ -94,10 +108,14 @@ pub fn enclosed(alloc: Global, inner: Reading) -> Result<Reading, AllocError>
 }
 
 /// The operator before its operand.
-pub fn applied(alloc: Global, op: Unary, inner: Reading) -> Result<Reading, AllocError>
+pub fn applied<N: Drop>(
+    alloc: Global,
+    op: Unary,
+    inner: Reading<N>,
+) -> Result<Reading<N>, AllocError>
     requires measured { IsMeasured inner }
     requires low { inner.height < 2 ^ 17 }
-    ensures tree { IfOk result (λ r. bare r.tree ≡ UnaryTree op (bare inner.tree)) }
+    ensures tree { IfOk result (λ r. seen r.tree ≡ UnaryTree op (seen inner.tree)) }
     ensures measured { IfOk result IsMeasured }
     ensures height { IfOk result (λ r. r.height ≡ inner.height + 1) }
 {
@@ -108,10 +126,10 @@ pub fn applied(alloc: Global, op: Unary, inner: Reading) -> Result<Reading, Allo
 }
 
 /// The array of these elements.
-pub fn array(elements: Listing) -> Reading
+pub fn array<N: Drop>(elements: Listing<N>) -> Reading<N>
     requires measured { IsMeasuredListing elements }
     requires low { elements.height < 2 ^ 17 }
-    ensures tree { bare result.tree ≡ Array (bare_exprs elements.items.items) }
+    ensures tree { seen result.tree ≡ Array (seen_exprs elements.items.items) }
     ensures measured { IsMeasured result }
     ensures height { result.height ≡ elements.height + 1 }
 {
@@ -122,41 +140,115 @@ pub fn array(elements: Listing) -> Reading
 }
 
 /// The call with these arguments.
-pub fn call(parallel: bool, name: Text, arguments: Listing) -> Reading
+pub fn call<N: Blank + Drop>(parallel: bool, name: Text, arguments: Listing<N>) -> Reading<N>
     requires measured { IsMeasuredListing arguments }
     requires low { arguments.height < 2 ^ 17 }
-    ensures tree { bare result.tree ≡ Call parallel name (bare_exprs arguments.items.items) }
+    ensures tree { seen result.tree ≡ Call parallel name tt (seen_exprs arguments.items.items) }
     ensures measured { IsMeasured result }
     ensures height { result.height ≡ arguments.height + 1 }
 {
     Reading {
-        tree: Expr::call(parallel, name, Items::of(arguments.items)),
+        tree: Expr::call(parallel, name, N::blank(), Items::of(arguments.items)),
         height: arguments.height + 1,
     }
 }
 
+/// The anonymous component that is given this list.
+pub fn listed_component<N: Blank + Drop>(
+    parallel: bool,
+    name: Text,
+    arguments: Listing<N>,
+    given: Listing<N>,
+) -> Reading<N>
+    requires arguments { IsMeasuredListing arguments }
+    requires given { IsMeasuredListing given }
+    requires arguments_low { arguments.height < 2 ^ 17 }
+    requires given_low { given.height < 2 ^ 17 }
+    ensures tree { seen result.tree
+        ≡ AnonymousTree parallel name tt (seen_exprs arguments.items.items)
+        (Listed (seen_exprs given.items.items)) }
+    ensures measured { IsMeasured result }
+    ensures height { result.height ≡ max arguments.height given.height + 1 }
+{
+    let inputs = Inputs::listed(Items::of(given.items));
+    let arguments_height = arguments.height;
+    let whole = Anonymous::of(
+        parallel,
+        name,
+        N::blank(),
+        Items::of(arguments.items),
+        inputs,
+    );
+    Reading {
+        tree: Expr::Anonymous(whole),
+        height: arguments_height.max(given.height) + 1,
+    }
+}
+
+/// The anonymous component that is given these names.
+pub fn named_component<N: Blank + Drop>(
+    parallel: bool,
+    name: Text,
+    arguments: Listing<N>,
+    given: Naming<N>,
+) -> Reading<N>
+    requires arguments { IsMeasuredListing arguments }
+    requires given { IsMeasuredNaming given }
+    requires arguments_low { arguments.height < 2 ^ 17 }
+    requires given_low { given.height < 2 ^ 17 }
+    ensures tree { seen result.tree
+        ≡ AnonymousTree parallel name tt (seen_exprs arguments.items.items)
+        (Named (seen_named given.inputs.items)) }
+    ensures measured { IsMeasured result }
+    ensures height { result.height ≡ max arguments.height given.height + 1 }
+{
+    let inputs = Inputs::named(Items::of(given.inputs));
+    let arguments_height = arguments.height;
+    let whole = Anonymous::of(
+        parallel,
+        name,
+        N::blank(),
+        Items::of(arguments.items),
+        inputs,
+    );
+    Reading {
+        tree: Expr::Anonymous(whole),
+        height: arguments_height.max(given.height) + 1,
+    }
+}
+
 /// The name with these indices and members.
-pub fn place(name: Text, path: Path) -> Reading
+pub fn place<N: Blank + Drop>(name: Text, path: Path<N>) -> Reading<N>
     requires measured { IsMeasuredPath path }
     requires low { path.height < 2 ^ 17 }
-    ensures tree { bare result.tree ≡ PlaceTree name (as_accessors path.accessors.items) }
+    ensures tree { seen result.tree ≡ PlaceTree name tt (seen_accessors path.accessors.items) }
     ensures measured { IsMeasured result }
     ensures height { result.height ≡ path.height + 1 }
 {
     Reading {
-        tree: Expr::Place(Place::of(name, Items::of(path.accessors))),
+        tree: Expr::Place(Place::of(name, N::blank(), Items::of(path.accessors))),
         height: path.height + 1,
     }
 }
 
-fn operation(alloc: Global, op: Binary, left: Expr, right: Expr) -> Result<Expr, AllocError>
-    ensures { IfOk result (λ e. bare e ≡ BinaryTree op (bare left) (bare right)) }
+fn operation<N: Drop>(
+    alloc: Global,
+    op: Binary,
+    left: Expr<N>,
+    right: Expr<N>,
+) -> Result<Expr<N>, AllocError>
+    ensures { IfOk result (λ e. seen e ≡ BinaryTree op (seen left) (seen right)) }
 {
     Ok(Expr::Binary(op, Box::new(alloc, left)?, Box::new(alloc, right)?))
 }
 
-fn choice(alloc: Global, condition: Expr, chosen: Expr, other: Expr) -> Result<Expr, AllocError>
-    ensures { IfOk result (λ e. bare e ≡ Choice (bare condition) (bare chosen) (bare other)) }
+fn choice<N: Drop>(
+    alloc: Global,
+    condition: Expr<N>,
+    chosen: Expr<N>,
+    other: Expr<N>,
+) -> Result<Expr<N>, AllocError>
+    ensures { IfOk result (λ e. seen e ≡ Choice (seen condition) (seen chosen) (seen other)) }
 {
     Ok(Expr::Choice(
         Box::new(alloc, condition)?,

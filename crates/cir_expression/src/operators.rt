@@ -5,7 +5,7 @@ ghost use Rattle.cir_expression.specs.Answers.{kinds};
 
 use crate::reader::Reader;
 use cir_ast::tree::{Binary, Unary};
-use cir_lexer::{Symbol, TokenKind};
+use cir_token::{Symbol, TokenKind};
 
 impl<'a> Reader<'a> {
     /// The operator before an operand that comes next.

@@ -5,13 +5,15 @@ use Rattle.std.proofs.lemmas.List.Elements.{All-from_recursion}
 use Rattle.gold_field.specs.declared.form.Constraint.{Constraint}
 use Rattle.gold_field.specs.Form.{Holds, ConstraintBelow}
 use Rattle.cir_lc.specs.Number.{Assignment}
-use Rattle.cir_ast.specs.declared.plain_program.Program.{Program}
+use Rattle.cir_ast.specs.declared.program.Meant.{Meant as NameMeant}
+use Rattle.cir_ast.specs.declared.program.Spot.{Spot}
+use Rattle.cir_ast.specs.Tree.{Statements}
+use Rattle.cir_ast.specs.Program.{Program}
 use Rattle.cir_ast.specs.declared.refusal.Refusal.{Refusal}
 use Rattle.cir_inst.specs.declared.circuit.Circuit.{Circuit}
 use Rattle.cir_meaning.specs.Source.{Equation, IsEqualAt, IsDifference, IsSource, all_terms}
 use Rattle.cir_meaning.proofs.Holding.{all_hold}
 use Rattle.cir_meaning.proofs.TermCount.{source_length, terms_are_of}
-use Rattle.cir_ast.specs.declared.plain_program.Template.{Template}
 use Rattle.cir_inst.specs.declared.counts.Counts.{Counts}
 use Rattle.cir_inst.specs.declared.record.Recorder.{Recorder}
 use Rattle.cir_inst.specs.Meaning.Tried.{Tried, next}
@@ -20,14 +22,14 @@ use Rattle.cir_inst.specs.Meaning.Program.{Circuit as Meant, total, executed, ex
 use Rattle.cir_inst.specs.Source.{Executes}
 use Rattle.cir_inst.specs.Compiled.{Compiles, Instantiates, IsWithinLimits, IsFormed}
 
-pub compiled : (t : Template) (C : Counts) (r : Recorder) → C ≡ declared_by t.body.statements → total C ≤ 1048575 → Executes C (Ok r) (executed_by C t)
-    → Compiles (Ok record { outputs = C.outputs; inputs = C.inputs; signals = total C; constraints = r.constraints }) (executed (declared_by t.body.statements) t)
-compiled t C r h few e =
+pub compiled : (file : ℕ) (sts : Statements Spot NameMeant) (C : Counts) (r : Recorder) → C ≡ declared_by sts → total C ≤ 1048575 → Executes C (Ok r) (executed_by C file sts)
+    → Compiles (Ok record { outputs = C.outputs; inputs = C.inputs; signals = total C; constraints = r.constraints }) (executed (declared_by sts) file sts)
+compiled file sts C r h few e =
     let w : World = e.0 in
-    let run : executed C t ≡ Ok record { outputs = C.outputs; inputs = C.inputs; signals = total C; equations = w.equations } =
+    let run : executed C file sts ≡ Ok record { outputs = C.outputs; inputs = C.inputs; signals = total C; equations = w.equations } =
     ap (λ (m : Tried World). next m (λ w. Ok record { outputs = C.outputs; inputs = C.inputs; signals = total C; equations = w.equations })) e.1 in (
       record { outputs = C.outputs; inputs = C.inputs; signals = total C; equations = w.equations },
-      ap (λ (D : Counts). executed D t) (sym h) ∙ run,
+      ap (λ (D : Counts). executed D file sts) (sym h) ∙ run,
       record {
         outputs = refl;
         inputs = refl;

@@ -6,8 +6,9 @@ use Rattle.std.proofs.lemmas.Option.{get_or_from_slice_get, slice_get_within}
 use Rattle.std.proofs.lemmas.List.Elements.{All-set}
 use Rattle.cir_inst.specs.declared.stop.Spot.{Spot}
 use Rattle.cir_inst.specs.declared.scope.Signal.{Signal}
-use Rattle.cir_inst.specs.Meaning.Tried.{next}
-use Rattle.cir_inst.specs.Meaning.Scope.{Scope, found_at, written_to, write_of_name}
+use Rattle.cir_ast.specs.declared.program.Meant.{Meant}
+use Rattle.cir_inst.specs.Meaning.Tried.{next, if_built}
+use Rattle.cir_inst.specs.Meaning.Scope.{Scope, meant_place, written_to, write_of_name}
 use Rattle.cir_inst.specs.Seen.{AreBelow}
 
 abbrev Below : ℕ → Signal → Type 0
@@ -39,13 +40,13 @@ to_signal n spot i s y x t false e l h w =
       size = ap (λ (u : Scope). length u.signals) (sym after) ∙ length-set s.signals i (record y { written = true });
     }
 
-by_signal : (n : ℕ) (spot : Spot) (i : ℕ) (s : Scope) (x : Signal) (t : Scope) (o : Option Signal) → slice_get s.signals i ≡ o → AreBelow n s.signals → next (found_at spot o) (written_to spot i s) ≡ Ok (x, t) → WrittenBelow n s x t
+by_signal : (n : ℕ) (spot : Spot) (i : ℕ) (s : Scope) (x : Signal) (t : Scope) (o : Option Signal) → slice_get s.signals i ≡ o → AreBelow n s.signals → next (if_built spot o) (written_to spot i s) ≡ Ok (x, t) → WrittenBelow n s x t
 by_signal n spot i s x t None e h w = cc
 by_signal n spot i s x t (Some y) e h w = to_signal n spot i s y x t y.written refl (got_below n s.signals i y e h) h w
 
-by_place : (n : ℕ) (spot : Spot) (s : Scope) (x : Signal) (t : Scope) (o : Option ℕ) → AreBelow n s.signals → next (found_at spot o) (λ place. next (found_at spot (slice_get s.signals place)) (written_to spot place s)) ≡ Ok (x, t) → WrittenBelow n s x t
+by_place : (n : ℕ) (spot : Spot) (s : Scope) (x : Signal) (t : Scope) (o : Option ℕ) → AreBelow n s.signals → next (if_built spot o) (λ place. next (if_built spot (slice_get s.signals place)) (written_to spot place s)) ≡ Ok (x, t) → WrittenBelow n s x t
 by_place n spot s x t None h w = cc
 by_place n spot s x t (Some i) h w = by_signal n spot i s x t (slice_get s.signals i) refl h w
 
-pub written_below : (n : ℕ) (spot : Spot) (name : List ℕ) (s : Scope) (x : Signal) (t : Scope) → write_of_name spot name s ≡ Ok (x, t) → AreBelow n s.signals → WrittenBelow n s x t
-written_below n spot name s x t w h = by_place n spot s x t (s.names name) h w
+pub written_below : (n : ℕ) (spot : Spot) (m : Meant) (s : Scope) (x : Signal) (t : Scope) → write_of_name spot m s ≡ Ok (x, t) → AreBelow n s.signals → WrittenBelow n s x t
+written_below n spot m s x t w h = by_place n spot s x t (meant_place m) h w

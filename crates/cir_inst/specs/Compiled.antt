@@ -5,7 +5,7 @@ use Rattle.gold_field.specs.Rises.{RisesFrom}
 use Rattle.gold_field.specs.declared.form.Term.{Term}
 use Rattle.gold_field.specs.declared.gold.TheConstants.{P}
 use Rattle.gold_field.specs.Form.{ConstraintBelow}
-use Rattle.cir_ast.specs.declared.plain_program.Program.{Program}
+use Rattle.cir_ast.specs.Program.{Program}
 use Rattle.cir_inst.specs.declared.circuit.Circuit.{Circuit}
 use Rattle.cir_inst.specs.declared.circuit.InstFault.{InstFault}
 use Rattle.cir_inst.specs.declared.circuit.InstFault.TheVariants.{Refused, OutOfMemory}
@@ -46,9 +46,9 @@ Compiles (Ok c) m = (x : Meant) × (m ≡ Ok x) × IsCircuitOf x c
 Compiles (Err f) m = IsRefusal f m
 
 -- a fault as a user sees it
-abbrev pub Places : Program → List ℕ → Fault → InstFault → Type 0
-Places p path f (Refused r) = (s : Stop) × (f ≡ Stopped s) × (r ≡ refusal_at p path s)
-Places p path f OutOfMemory = Unit {0}
+abbrev pub Places : List (List ℕ) → List ℕ → Fault → InstFault → Type 0
+Places files path f (Refused r) = (s : Stop) × (f ≡ Stopped s) × (r ≡ refusal_at files path s)
+Places files path f OutOfMemory = Unit {0}
 
 -- the answer is the meaning's, or want of memory
 abbrev pub Instantiates : Program → Result Circuit InstFault → Type 0

@@ -1,4 +1,3 @@
-pub mod Names
 pub mod Seen
 pub mod Source
 pub mod Compiled

@@ -4,5 +4,4 @@ pub mod Operator
 pub mod Scope
 pub mod Equation
 pub mod Statement
-pub mod Loading
 pub mod Program

@@ -1,6 +1,8 @@
 -- What a template's execution keeps, statement by statement.
 use Rattle.std.specs.Prelude.{◌≡◌, ℕ, ◌+◌, List, length}
-use Rattle.cir_ast.specs.declared.plain_program.Statement.{Statement}
+use Rattle.cir_ast.specs.declared.program.Spot.{Spot as SourceSpot}
+use Rattle.cir_ast.specs.declared.program.Meant.{Meant}
+use Rattle.cir_ast.specs.Tree.{Statements}
 use Rattle.cir_inst.specs.declared.counts.Counts.{Counts}
 use Rattle.cir_inst.specs.declared.record.Recorder.{Recorder}
 use Rattle.cir_inst.specs.Meaning.Scope.{Scope}
@@ -19,7 +21,7 @@ abbrev pub shifted : Counts → Counts → Counts
 shifted C c = record { outputs = 1 + c.outputs; inputs = 1 + C.outputs + c.inputs; inner = 1 + C.outputs + C.inputs + c.inner }
 
 -- the signals that are created before what is left of a template that declares C
-pub record Numbered (C : Counts) (rest : List Statement) (s : Scope) : Type 0 where
+pub record Numbered (C : Counts) (rest : Statements SourceSpot Meant) (s : Scope) : Type 0 where
   pub counts : Counts
   pub all : counted_all rest counts ≡ C
   pub numbers : numbers_of s ≡ shifted C counts
@@ -27,7 +29,7 @@ pub record Numbered (C : Counts) (rest : List Statement) (s : Scope) : Type 0 wh
   pub below : AreBelow (1 + total C) s.signals
 
 -- what has been executed, and what is left
-pub record Progress (C : Counts) (file : ℕ) (all rest : List Statement) (s : Scope) (r : Recorder) : Type 0 where
+pub record Progress (C : Counts) (file : ℕ) (all rest : Statements SourceSpot Meant) (s : Scope) (r : Recorder) : Type 0 where
   pub equations : List Equation
   pub recorded : IsRecord equations r
   pub runs : run_all r.wires file rest record { scope = s; equations = equations } ≡ run_all r.wires file all (started C)

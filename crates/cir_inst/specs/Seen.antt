@@ -15,11 +15,9 @@ use Rattle.cir_inst.specs.Meaning.Scope.{Scope as Meant}
 use Rattle.cir_meaning.specs.Source.{parts_from}
 use Rattle.cir_lc.specs.declared.quad.Quad.{Quad}
 use Rattle.cir_meaning.specs.Values as M
-use Rattle.cir_inst.specs.Meaning.Loading.{Names}
-use Rattle.cir_inst.specs.Names.{value_in}
 
 abbrev pub seen : Scope → Meant
-seen s = record { names = value_in s.names; signals = s.signals.items; next_output = s.next_output; next_input = s.next_input; next_inner = s.next_inner }
+seen s = record { signals = s.signals.items; next_output = s.next_output; next_input = s.next_input; next_inner = s.next_inner }
 
 abbrev pub meant : Value → M.Value
 meant (Known k) = M.Known k
@@ -56,8 +54,3 @@ Writes (Err f) s m = IsRefusal f m
 abbrev pub meant_parts : Option Quad → Option M.Parts
 meant_parts None = None
 meant_parts (Some q) = Some (parts_from q)
-
--- the names are the meaning's
-abbrev pub NamesBecome : Result (Unit {0}) Fault → Names → Tried Names → Type 0
-NamesBecome (Ok _) names m = m ≡ Ok names
-NamesBecome (Err f) names m = IsRefusal f m

@@ -3,9 +3,9 @@ use Rattle.std.specs.Prelude.{◌≡◌, ℕ, ◌+◌, ◌≤◌, ◌<◌, List,
 use Rattle.std.specs.List.{AllByRecursion}
 use Rattle.cir_inst.specs.declared.record.Recorder.{Recorder}
 use Rattle.cir_inst.specs.declared.stop.Fault.{Fault}
-use Rattle.cir_ast.specs.declared.plain_tree.Simple.TheVariants.{Signals, Assign, Constrain}
-use Rattle.cir_ast.specs.declared.plain_program.StatementForm.{StatementForm}
-use Rattle.cir_ast.specs.declared.plain_program.StatementForm.TheVariants.{Simple}
+use Rattle.cir_ast.specs.declared.program.Spot.{Spot as SourceSpot}
+use Rattle.cir_ast.specs.declared.program.Meant.{Meant}
+use Rattle.cir_ast.specs.Tree.{Simple, Signals, Statement, Ended}
 use Rattle.cir_inst.specs.Meaning.Tried.{Tried}
 use Rattle.cir_inst.specs.Meaning.Scope.{Scope, next_number}
 use Rattle.cir_inst.specs.Meaning.Statement.{World}
@@ -40,10 +40,14 @@ Leads (Ok _) s r m = (es : List Equation) × (m ≡ Ok record { scope = s; equat
 Leads (Err f) s r m = IsRefusal f m
 
 -- the signals that a statement creates have numbers below n
-abbrev pub IsReady : ℕ → StatementForm → Scope → Type 0
-IsReady n (Simple (Signals d)) s = length s.signals + length d.signals ≤ most_signals → next_number d.direction s + length d.signals ≤ n
-IsReady n (Simple (Assign a)) s = Unit {0}
-IsReady n (Simple (Constrain l r)) s = Unit {0}
+abbrev pub IsReadySimple : ℕ → Simple Meant → Scope → Type 0
+IsReadySimple n (Signals direction signals) s =
+    length s.signals + length signals ≤ most_signals → next_number direction s + length signals ≤ n
+IsReadySimple n _ s = Unit {0}
+
+abbrev pub IsReady : ℕ → Statement SourceSpot Meant → Scope → Type 0
+IsReady n (Ended spot simple) s = IsReadySimple n simple s
+IsReady n _ s = Unit {0}
 
 -- nothing changes, or the fault is the meaning's
 abbrev pub Ends : Result (Unit {0}) Fault → World → Tried World → Type 0

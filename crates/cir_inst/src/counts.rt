@@ -1,8 +1,8 @@
-ghost use Rattle.std.specs.Prelude.{◌≡◌, ◌+◌, ◌≤◌};
-ghost use Rattle.cir_inst.specs.Meaning.Program.{total, counted_more, counted_form, declared_by};
+ghost use Rattle.std.specs.Prelude.{◌≡◌, ◌+◌, ◌≤◌, map};
+ghost use Rattle.cir_ast.specs.Tree.{bare_statement, as_statements};
+ghost use Rattle.cir_inst.specs.Meaning.Program.{total, counted_more, counted_statement, declared_by};
 
-use cir_ast::plain_program::{Simple, Statement, StatementForm};
-use cir_ast::plain_tree::Direction;
+use cir_ast::program::{Direction, Simple, Statement, StatementForm};
 
 const MOST_SIGNALS: usize = 1048575;
 
@@ -16,7 +16,7 @@ pub struct Counts {
 
 /// The signals that the statements declare. A declaration that passes the limit doesn't count.
 pub fn count(statements: &[Statement]) -> Counts
-    ensures value { result ≡ declared_by statements.now }
+    ensures value { result ≡ declared_by (as_statements (map bare_statement statements.now)) }
     ensures few { total result ≤ 1048575 }
 {
     let mut counts = Counts {
@@ -25,17 +25,17 @@ pub fn count(statements: &[Statement]) -> Counts
         inner: 0,
     };
     for statement in statements {
-        counts = count_form(&statement.form, counts);
+        counts = count_statement(statement, counts);
     }
     counts
 }
 
-fn count_form(form: &StatementForm, counts: Counts) -> Counts
+fn count_statement(statement: &Statement, counts: Counts) -> Counts
     requires { total counts ≤ 1048575 }
-    ensures value { result ≡ counted_form form.now counts }
+    ensures value { result ≡ counted_statement (bare_statement statement.now) counts }
     ensures few { total result ≤ 1048575 }
 {
-    match form {
+    match &statement.form {
         StatementForm::Simple(Simple::Signals(signals)) => {
             let room = MOST_SIGNALS - (counts.outputs + counts.inputs + counts.inner) as usize;
             let more = signals.signals.len();
@@ -45,8 +45,24 @@ fn count_form(form: &StatementForm, counts: Counts) -> Counts
                 counts
             }
         }
-        StatementForm::Simple(Simple::Assign(_)) => counts,
-        StatementForm::Simple(Simple::Constrain(_, _)) => counts,
+        StatementForm::Simple(
+            Simple::Vars(_)
+            | Simple::Components(_)
+            | Simple::Assign(_)
+            | Simple::Constrain(_, _)
+            | Simple::Right(_, _, _)
+            | Simple::TargetLeft(_, _, _)
+            | Simple::TargetRight(_, _, _)
+            | Simple::Anonymous(_),
+        )
+        | StatementForm::Block(_)
+        | StatementForm::If(_, _)
+        | StatementForm::IfElse(_, _, _)
+        | StatementForm::While(_, _)
+        | StatementForm::For(_, _, _, _)
+        | StatementForm::Return(_)
+        | StatementForm::Assert(_)
+        | StatementForm::Log(_) => counts,
     }
 }
 

@@ -1,12 +1,11 @@
 //! What a program compiles to: the normal constraints of its main component.
 #![tactic(auto)]
 
-mod check;
 mod circuit;
 mod counts;
 mod evaluate;
 mod execute;
-mod names;
+mod main_template;
 mod record;
 mod run;
 mod scope;

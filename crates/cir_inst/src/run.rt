@@ -1,4 +1,5 @@
-ghost use Rattle.std.specs.Prelude.{◌≡◌, ◌+◌, ◌≤◌};
+ghost use Rattle.std.specs.Prelude.{◌≡◌, ◌+◌, ◌≤◌, map};
+ghost use Rattle.cir_ast.specs.Tree.{bare_statement, as_statements};
 ghost use Rattle.cir_inst.specs.Meaning.Program.{total, declared_by, executed_by, started};
 ghost use Rattle.cir_inst.specs.Meaning.Statement.{World, run_all, ended};
 ghost use Rattle.cir_inst.specs.Progress.{Progress};
@@ -7,23 +8,26 @@ ghost use Rattle.cir_inst.specs.Source.{Leads, Ends, Executes};
 
 use crate::counts::Counts;
 use crate::execute::execute;
-use crate::names::Names;
 use crate::record::Recorder;
 use crate::scope::{Scope, Signal};
 use crate::stop::{Fault, Spot, refused};
 use cir_ast::Kind;
-use cir_ast::plain_program::{Statement, Template};
+use cir_ast::program::Statement;
 use items::Items;
 use std::alloc::Global;
 
-/// Executes a template that declares these signals.
-pub fn run_template(alloc: Global, counts: Counts, template: &Template) -> Result<Recorder, Fault>
-    requires counts { counts ≡ declared_by template.now.body.statements }
+/// Executes the statements of a template that declares these signals.
+pub fn run_template(
+    alloc: Global,
+    counts: Counts,
+    file: u32,
+    statements: &[Statement],
+) -> Result<Recorder, Fault>
+    requires counts { counts ≡ declared_by (as_statements (map bare_statement statements.now)) }
     requires few { total counts ≤ 1048575 }
-    ensures { Executes counts result (executed_by counts template.now) }
+    ensures { Executes counts result (executed_by counts file (as_statements (map bare_statement statements.now))) }
 {
     let mut scope = Scope {
-        names: Names::new(alloc),
         signals: Vec::new(alloc),
         next_output: 1,
         next_input: 1 + counts.outputs,
@@ -34,22 +38,24 @@ pub fn run_template(alloc: Global, counts: Counts, template: &Template) -> Resul
         terms: 0,
         wires: 1 + counts.outputs + counts.inputs + counts.inner,
     };
-    let statements = template.body.statements.as_slice();
-    execute_all(alloc, template.file, statements, &mut scope, &mut recorder)?;
-    all_written(template.file, scope.signals.as_slice())?;
+    execute_all(alloc, file, statements, &mut scope, &mut recorder)?;
+    all_written(file, scope.signals.as_slice())?;
     Ok(recorder)
 }
 
-fn execute_all<'p>(
+fn execute_all(
     alloc: Global,
     file: u32,
-    statements: &'p [Statement],
-    scope: &mut Scope<'p>,
+    statements: &[Statement],
+    scope: &mut Scope,
     recorder: &mut Recorder,
 ) -> Result<(), Fault>
-    requires start { Progress (declared_by statements.now) file statements.now statements.now (seen scope.old) recorder.old }
-    requires few { total (declared_by statements.now) ≤ 1048575 }
-    ensures value { Leads result (seen scope.new) recorder.new (run_all recorder.old.wires file statements.now (started (declared_by statements.now))) }
+    requires start { Progress (declared_by (as_statements (map bare_statement statements.now))) file
+        (as_statements (map bare_statement statements.now)) (as_statements (map bare_statement statements.now))
+        (seen scope.old) recorder.old }
+    requires few { total (declared_by (as_statements (map bare_statement statements.now))) ≤ 1048575 }
+    ensures value { Leads result (seen scope.new) recorder.new (run_all recorder.old.wires file (as_statements (map bare_statement statements.now))
+        (started (declared_by (as_statements (map bare_statement statements.now))))) }
     ensures wires { recorder.new.wires ≡ recorder.old.wires }
 {
     for statement in statements {

@@ -1,12 +1,12 @@
-ghost use Rattle.std.specs.Prelude.{◌≡◌, ◌+◌, ◌-◌, ◌<◌, ◌≤◌, ◌^◌, ℕ, Ok, IfOk, OnOk, length, drop, slice_set};
+ghost use Rattle.std.specs.Prelude.{◌≡◌, ◌+◌, ◌-◌, ◌<◌, ◌≤◌, ◌^◌, ℕ, Ok, IfOk, OnOk, length, map, drop, slice_set};
+ghost use Rattle.cir_ast.specs.Tree.{bare_signal};
 ghost use Rattle.cir_inst.specs.Meaning.Scope as sc;
-ghost use Rattle.cir_inst.specs.Seen.{seen, meant, Gives, Writes, IsValueWithin, AreBelow};
+ghost use Rattle.cir_inst.specs.Seen.{seen, meant as value_meant, Gives, Writes, IsValueWithin, AreBelow};
 
-use crate::names::Names;
-use crate::stop::{Fault, Spot, refused};
+use crate::stop::{Fault, Spot, refused, unbuilt};
 use crate::value::{Value, signal_form};
 use cir_ast::Kind;
-use cir_ast::plain_tree::{DeclaredSignal, Direction};
+use cir_ast::program::{DeclaredSignal, Direction, Meant};
 use std::alloc::{AllocError, Global};
 
 /// A declared signal.
@@ -21,9 +21,8 @@ pub struct Signal {
 
 /// The signals of a template, as far as they are declared and written.
 #[derive(Drop)]
-pub struct Scope<'p> {
-    pub names: Names<'p, u32>,
-    /// In order of creation.
+pub struct Scope {
+    /// In order of creation, so that each stands at its number in the definition.
     pub signals: Vec<Signal>,
     pub next_output: u32,
     pub next_input: u32,
@@ -31,35 +30,28 @@ pub struct Scope<'p> {
 }
 
 /// Declares the signals of one statement.
-pub fn declare<'p>(
-    scope: &mut Scope<'p>,
+pub fn declare(
+    scope: &mut Scope,
     direction: Direction,
     spot: Spot,
-    signals: &'p [DeclaredSignal],
+    signals: &[DeclaredSignal],
 ) -> Result<(), AllocError>
     requires room { length scope.old.signals.items + length signals.now ≤ 1048575 }
     requires numbers { sc.next_number direction (seen scope.old) + length signals.now ≤ 2 ^ 30 }
-    ensures { OnOk result (seen scope.new ≡ sc.all_created direction spot signals.now (seen scope.old)) }
+    ensures { OnOk result (seen scope.new ≡ sc.all_created direction spot (map bare_signal signals.now) (seen scope.old)) }
 {
-    for signal in signals {
-        create(scope, direction, spot, signal.name.as_slice())?;
+    for _signal in signals {
+        create(scope, direction, spot)?;
     }
     Ok(())
 }
 
-fn create<'p>(
-    scope: &mut Scope<'p>,
-    direction: Direction,
-    spot: Spot,
-    name: &'p [u8],
-) -> Result<(), AllocError>
+fn create(scope: &mut Scope, direction: Direction, spot: Spot) -> Result<(), AllocError>
     requires room { length scope.old.signals.items < 1048575 }
     requires number { sc.next_number direction (seen scope.old) < 2 ^ 30 }
-    ensures { OnOk result (seen scope.new ≡ sc.created direction spot name.now (seen scope.old)) }
+    ensures { OnOk result (seen scope.new ≡ sc.created direction spot (seen scope.old)) }
 {
-    let place = scope.signals.len() as u32;
     let number = next_number(scope, direction);
-    scope.names.insert(name, place)?;
     scope.signals.push(Signal {
         number,
         line: spot.line,
@@ -70,7 +62,7 @@ fn create<'p>(
     Ok(())
 }
 
-fn next_number(scope: &Scope<'_>, direction: Direction) -> u32
+fn next_number(scope: &Scope, direction: Direction) -> u32
     ensures { result ≡ sc.next_number direction (seen scope.now) }
 {
     match direction {
@@ -90,7 +82,7 @@ fn is_input(direction: Direction) -> bool
     }
 }
 
-fn advance(scope: &mut Scope<'_>, direction: Direction)
+fn advance(scope: &mut Scope, direction: Direction)
     requires { sc.next_number direction (seen scope.old) < 2 ^ 30 }
     ensures { seen scope.new ≡ sc.advanced direction (seen scope.old) }
 {
@@ -102,11 +94,11 @@ fn advance(scope: &mut Scope<'_>, direction: Direction)
 }
 
 /// The value of a signal that is read.
-pub fn read(alloc: Global, spot: Spot, name: &[u8], scope: &Scope<'_>) -> Result<Value, Fault>
-    ensures value { Gives meant result (sc.value_of_name spot name.now (seen scope.now)) }
+pub fn read(alloc: Global, spot: Spot, meant: Meant, scope: &Scope) -> Result<Value, Fault>
+    ensures value { Gives value_meant result (sc.value_of_name spot meant (seen scope.now)) }
     ensures within { (n : ℕ) → AreBelow n scope.now.signals.items → IfOk result (IsValueWithin n) }
 {
-    let place = place_of(spot, name, scope)?;
+    let place = place_of(spot, meant)?;
     let signal = signal_at(spot, place, scope)?;
     if signal.written {
         let f = signal_form(alloc, signal.number)?;
@@ -117,10 +109,10 @@ pub fn read(alloc: Global, spot: Spot, name: &[u8], scope: &Scope<'_>) -> Result
 }
 
 /// Writes a signal, and says which.
-pub fn write(spot: Spot, name: &[u8], scope: &mut Scope<'_>) -> Result<Signal, Fault>
-    ensures value { Writes result (seen scope.new) (sc.write_of_name spot name.now (seen scope.old)) }
+pub fn write(spot: Spot, meant: Meant, scope: &mut Scope) -> Result<Signal, Fault>
+    ensures value { Writes result (seen scope.new) (sc.write_of_name spot meant (seen scope.old)) }
 {
-    let place = place_of(spot, name, scope)?;
+    let place = place_of(spot, meant)?;
     let signal = signal_at(spot, place, scope)?;
     if signal.written {
         Err(refused(spot, Kind::SecondWrite))
@@ -133,22 +125,26 @@ pub fn write(spot: Spot, name: &[u8], scope: &mut Scope<'_>) -> Result<Signal, F
     }
 }
 
-fn place_of(spot: Spot, name: &[u8], scope: &Scope<'_>) -> Result<u32, Fault>
-    ensures { Gives (λ k. k) result (sc.place_of spot name.now (seen scope.now)) }
+fn place_of(spot: Spot, meant: Meant) -> Result<u32, Fault>
+    ensures { Gives (λ k. k) result (sc.place_of spot meant) }
 {
-    match scope.names.get(name) {
-        Some(place) => Ok(place),
-        None => Err(refused(spot, Kind::UnknownName)),
+    match meant {
+        Meant::Signal(_, place) => Ok(place),
+        Meant::Other
+        | Meant::Variable(_)
+        | Meant::Component(_)
+        | Meant::Template(_)
+        | Meant::Function(_) => Err(unbuilt(spot)),
     }
 }
 
-fn signal_at(spot: Spot, place: u32, scope: &Scope<'_>) -> Result<Signal, Fault>
+fn signal_at(spot: Spot, place: u32, scope: &Scope) -> Result<Signal, Fault>
     ensures value { Gives (λ x. x) result (sc.signal_at spot place (seen scope.now)) }
     ensures within { OnOk result (place < length scope.now.signals.items) }
     ensures below { (n : ℕ) → AreBelow n scope.now.signals.items → IfOk result (λ x. x.number < n) }
 {
     match scope.signals.get(place as usize) {
         Some(signal) => Ok(*signal),
-        None => Err(refused(spot, Kind::UnknownName)),
+        None => Err(unbuilt(spot)),
     }
 }

@@ -3,11 +3,9 @@ ghost use Rattle.gold_field.specs.declared.gold.TheConstants.{P};
 ghost use Rattle.cir_lc.specs.Number.{value_of, constant, signal, scaled, negated};
 ghost use Rattle.cir_lc.specs.Terms.{IsWithin};
 ghost use Rattle.cir_lc.specs.Normal.{IsQuadWithin};
-ghost use Rattle.cir_inst.specs.Meaning.Operator.{plain_result};
 ghost use Rattle.cir_meaning.specs.Values.{sum_of, negative_of, product_of, Known as KnownValue, Linear as LinearValue, Quadratic as QuadraticValue};
 ghost use Rattle.cir_inst.specs.Seen.{meant, IsValueWithin};
 
-use cir_ast::plain_tree::Binary;
 use cir_lc::{Quad, add, scale};
 use gold_field::{Gold, Lc, Term};
 use std::alloc::{AllocError, Global};
@@ -22,19 +20,8 @@ pub enum Value {
     Opaque,
 }
 
-/// The value of an operator.
-pub fn apply(alloc: Global, op: Binary, x: Value, y: Value) -> Result<Value, AllocError>
-    ensures value { IfOk result (λ v. meant v ≡ plain_result op (meant x) (meant y)) }
-    ensures within { IfOk result (λ v. (n : ℕ) → 0 < n → IsValueWithin n x → IsValueWithin n y → IsValueWithin n v) }
-{
-    match op {
-        Binary::Add => sum(alloc, x, y),
-        Binary::Sub => difference(alloc, x, y),
-        Binary::Mul => product(alloc, x, y),
-    }
-}
-
-fn sum(alloc: Global, x: Value, y: Value) -> Result<Value, AllocError>
+/// The sum of two values.
+pub fn sum(alloc: Global, x: Value, y: Value) -> Result<Value, AllocError>
     ensures value { IfOk result (λ v. meant v ≡ sum_of (meant x) (meant y)) }
     ensures within { IfOk result (λ v. (n : ℕ) → 0 < n → IsValueWithin n x → IsValueWithin n y → IsValueWithin n v) }
 {
@@ -139,7 +126,7 @@ pub fn difference(alloc: Global, x: Value, y: Value) -> Result<Value, AllocError
     Ok(v)
 }
 
-fn product(alloc: Global, x: Value, y: Value) -> Result<Value, AllocError>
+pub fn product(alloc: Global, x: Value, y: Value) -> Result<Value, AllocError>
     ensures value { IfOk result (λ v. meant v ≡ product_of (meant x) (meant y)) }
     ensures within { IfOk result (λ v. (n : ℕ) → 0 < n → IsValueWithin n x → IsValueWithin n y → IsValueWithin n v) }
 {

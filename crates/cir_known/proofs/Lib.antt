@@ -1,3 +1,4 @@
+pub mod Components
 pub mod Members
-pub mod Placed
-pub mod Rows
+pub mod Rising
+pub mod Lists

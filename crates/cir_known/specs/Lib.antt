@@ -1,2 +1,2 @@
-pub mod Variables
-pub mod Faults
+pub mod Unknown
+pub mod Answers

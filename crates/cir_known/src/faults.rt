@@ -1,10 +1,11 @@
 ghost use Rattle.std.specs.Prelude.{◌≡◌};
-ghost use Rattle.std.specs.Result.{result_err};
-ghost use Rattle.cir_known.specs.Faults.{first_fault, fault_at, head_fault, simple_fault, assign_fault, place_fault};
+ghost use Rattle.cir_ast.specs.Tree.{bare_assign, bare_first, bare_simple, bare_statement, bare_block};
+ghost use Rattle.cir_known.specs.Unknown.{meant_fault, assign_fault, first_fault, simple_fault, fault_of, fault_in};
+ghost use Rattle.cir_known.specs.Answers.{Tells};
 
-use cir_ast::program::{Assign, Block, First, FirstForm, Place, Simple, Statement, StatementForm};
+use cir_ast::program::{Assign, Block, FirstForm, Meant, Simple, Spot, Statement, StatementForm};
 
-/// Why a block may not stand under an unknown condition.
+/// Why statements may not stand under an unknown condition.
 #[derive(Clone, Copy, Debug, PartialEq, Eq)]
 pub enum UnknownFault {
     /// This statement may not stand there.
@@ -15,88 +16,115 @@ pub enum UnknownFault {
     OutOfMemory,
 }
 
-/// Names the first statement, in source order, that may not stand under an unknown condition. What may
-/// stand there: declarations of variables, assignments to variables, `assert`, and `if`, `while`, `for` and
-/// blocks of such statements. The head of a `for` comes before its body.
+/// Names the first statement of a block, in source order, that may not stand under an unknown condition.
+/// What may stand there: declarations of variables, assignments to variables, `assert`, and `if`, `while`,
+/// `for` and blocks of such statements. The head of a `for` comes before its body.
 #[cycle(allowed)]
 pub fn allowed_unknown(block: &Block) -> Result<(), UnknownFault>
-    ensures first { result_err result ≡ first_fault block.now }
-    ensures memory { ¬ (result ≡ Err UnknownFault.OutOfMemory) }
+    ensures { Tells result (fault_in (bare_block block.now)) }
 {
     for statement in block.statements.as_slice() {
-        allowed(statement)?;
+        allowed_statement(statement)?;
     }
     Ok(())
 }
 
+/// The same of one statement.
 #[cycle(allowed)]
-fn allowed(statement: &Statement) -> Result<(), UnknownFault>
-    ensures { result_err result ≡ fault_at statement.now.line statement.now.column statement.now.form }
+pub fn allowed_statement(statement: &Statement) -> Result<(), UnknownFault>
+    ensures { Tells result (fault_of (bare_statement statement.now)) }
 {
-    let line = statement.line;
-    let column = statement.column;
+    let spot = statement.spot;
     match &statement.form {
         StatementForm::Block(block) => allowed_unknown(block),
-        StatementForm::If(_, chosen) => allowed(chosen),
+        StatementForm::If(_, chosen) => allowed_statement(chosen),
         StatementForm::IfElse(_, chosen, other) => {
-            allowed(chosen)?;
-            allowed(other)
+            allowed_statement(chosen)?;
+            allowed_statement(other)
         }
-        StatementForm::While(_, body) => allowed(body),
+        StatementForm::While(_, body) => allowed_statement(body),
         StatementForm::For(first, _, step, body) => {
-            allowed_first(first)?;
-            allowed_assign(step.line, step.column, &step.assign)?;
-            allowed(body)
+            allowed_first(first.spot, &first.form)?;
+            allowed_assign(step.spot, &step.assign)?;
+            allowed_statement(body)
         }
-        StatementForm::Return(_) => Err(UnknownFault::Control { line, column }),
+        StatementForm::Return(_) => Err(UnknownFault::control(spot)),
         StatementForm::Assert(_) => Ok(()),
-        StatementForm::Log(_) => Err(UnknownFault::Log { line, column }),
-        StatementForm::Simple(simple) => allowed_simple(line, column, simple),
+        StatementForm::Log(_) => Err(UnknownFault::log(spot)),
+        StatementForm::Simple(simple) => allowed_simple(spot, simple),
     }
 }
 
-fn allowed_first(first: &First) -> Result<(), UnknownFault>
-    ensures { result_err result ≡ head_fault first.now.line first.now.column first.now.form }
+impl UnknownFault {
+    ghost use Rattle.cir_known.specs.declared.faults.UnknownFault.TheVariants.{Control, Log};
+
+    fn control(spot: Spot) -> UnknownFault
+        ensures { result ≡ Control spot.line spot.column }
+    {
+        UnknownFault::Control {
+            line: spot.line,
+            column: spot.column,
+        }
+    }
+
+    fn log(spot: Spot) -> UnknownFault
+        ensures { result ≡ Log spot.line spot.column }
+    {
+        UnknownFault::Log {
+            line: spot.line,
+            column: spot.column,
+        }
+    }
+}
+
+fn allowed_first(spot: Spot, first: &FirstForm) -> Result<(), UnknownFault>
+    ensures { Tells result (first_fault spot (bare_first first.now)) }
 {
-    match &first.form {
+    match first {
         FirstForm::Vars(_) => Ok(()),
-        FirstForm::Assign(assign) => allowed_assign(first.line, first.column, assign),
+        FirstForm::Assign(assign) => allowed_assign(spot, assign),
     }
 }
 
-fn allowed_simple(line: u32, column: u32, simple: &Simple) -> Result<(), UnknownFault>
-    ensures { result_err result ≡ simple_fault line column simple.now }
+#[tactic(auto, using(crate::proofs::Components::components_fault))]
+fn allowed_simple(spot: Spot, simple: &Simple) -> Result<(), UnknownFault>
+    ensures { Tells result (simple_fault spot (bare_simple simple.now)) }
 {
     match simple {
         Simple::Vars(_) => Ok(()),
-        Simple::Assign(assign) => allowed_assign(line, column, assign),
+        Simple::Assign(assign) => allowed_assign(spot, assign),
         Simple::Signals(_)
         | Simple::Components(_)
         | Simple::Constrain(_, _)
-        | Simple::ArrowRight(_, _)
-        | Simple::ConstrainRight(_, _) => Err(UnknownFault::Control { line, column }),
+        | Simple::Right(_, _, _)
+        | Simple::TargetLeft(_, _, _)
+        | Simple::TargetRight(_, _, _)
+        | Simple::Anonymous(_) => Err(UnknownFault::control(spot)),
     }
 }
 
-fn allowed_assign(line: u32, column: u32, assign: &Assign) -> Result<(), UnknownFault>
-    ensures { result_err result ≡ assign_fault line column assign.now }
+fn allowed_assign(spot: Spot, assign: &Assign) -> Result<(), UnknownFault>
+    ensures { Tells result (assign_fault spot (bare_assign assign.now)) }
 {
     match assign {
         Assign::Set(place, _)
         | Assign::Compound(place, _, _)
         | Assign::Increment(place)
-        | Assign::Decrement(place) => allowed_place(line, column, place),
-        Assign::ArrowLeft(_, _) | Assign::ConstrainLeft(_, _) => {
-            Err(UnknownFault::Control { line, column })
-        }
+        | Assign::Decrement(place) => allowed_meant(spot, place.meant),
+        Assign::Left(_, _, _) => Err(UnknownFault::control(spot)),
     }
 }
 
-fn allowed_place(line: u32, column: u32, place: &Place) -> Result<(), UnknownFault>
-    ensures { result_err result ≡ place_fault line column place.now.variable }
+/// Whether what an assignment writes is a variable.
+fn allowed_meant(spot: Spot, meant: Meant) -> Result<(), UnknownFault>
+    ensures { Tells result (meant_fault spot meant) }
 {
-    match place.variable {
-        Some(_) => Ok(()),
-        None => Err(UnknownFault::Control { line, column }),
+    match meant {
+        Meant::Variable(_) => Ok(()),
+        Meant::Other
+        | Meant::Signal(_, _)
+        | Meant::Component(_)
+        | Meant::Template(_)
+        | Meant::Function(_) => Err(UnknownFault::control(spot)),
     }
 }

@@ -7,5 +7,5 @@
 mod faults;
 mod variables;
 
-pub use faults::{UnknownFault, allowed_unknown};
-pub use variables::assigned;
+pub use faults::{UnknownFault, allowed_statement, allowed_unknown};
+pub use variables::{assigned, assigned_by};

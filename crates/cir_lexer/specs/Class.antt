@@ -2,7 +2,8 @@
 use Rattle.std.specs.Prelude.{ℕ, ◌==◌, if◌then◌else◌}
 use Rattle.cir_lexer.specs.Bytes.{is_blank, is_letter, is_digit, is_mark}
 use Rattle.cir_lexer.specs.declared.class.Class.{Class}
-use Rattle.cir_lexer.specs.declared.class.Class.TheVariants.{Blank, Letter, Mark, Digit, Quote, Other}
+use Rattle.cir_lexer.specs.declared.class.Class.TheVariants.{Blank, Letter, Mark, Digit, Quote}
+use Rattle.cir_lexer.specs.declared.class.Class.TheVariants.{Other}
 
 abbrev pub class_of : ℕ → Class
 class_of c =

@@ -1,9 +1,10 @@
 -- How far what stands at the front of a text reaches.
-use Rattle.std.specs.Prelude.{◌≡◌, ◌≤◌, ◌++◌, length, ℕ, zero, suc, ◌+◌, ◌==◌, Bool, false, not, ◌&&◌, if◌then◌else◌, List, [], ◌∷◌, Option, None, Some}
+use Rattle.std.specs.Prelude.{◌≡◌, ◌≤◌, ◌++◌, length, ℕ, zero, suc, ◌+◌, ◌==◌, Bool, false, not}
+use Rattle.std.specs.Prelude.{◌&&◌, if◌then◌else◌, List, [], ◌∷◌, Option, None, Some}
 use Rattle.std.specs.List.{prefix_len}
 use Rattle.std.specs.Option.{option_map}
-use Rattle.cir_lexer.specs.Spelling.{symbol_bytes}
-use Rattle.cir_lexer.specs.declared.token.Symbol.{Symbol}
+use Rattle.cir_token.specs.Spelling.{symbol_bytes}
+use Rattle.cir_token.specs.declared.token.Symbol.{Symbol}
 use Rattle.cir_lexer.specs.Bytes.{is_mark, is_letter, is_name_byte, is_hexadecimal}
 
 abbrev pub longer : ℕ → ℕ
@@ -48,4 +49,5 @@ close_at (c ∷ cs) = if begins_close (c ∷ cs) then Some 0 else option_map suc
 pub record IsLongestSymbol (text : List ℕ) (symbol : Symbol) : Type 0 where
   pub after : List ℕ
   pub begins : text ≡ symbol_bytes symbol ++ after
-  pub longest : (other : Symbol) (rest : List ℕ) → text ≡ symbol_bytes other ++ rest → length (symbol_bytes other) ≤ length (symbol_bytes symbol)
+  pub longest : (other : Symbol) (rest : List ℕ) → text ≡ symbol_bytes other ++ rest
+      → length (symbol_bytes other) ≤ length (symbol_bytes symbol)

@@ -1,14 +1,15 @@
 -- What one step of the lexer does at the front of a text.
-use Rattle.std.specs.Prelude.{◌≡◌, ℕ, ◌+◌, ◌<◌, ◌≤◌, ◌^◌, Option, take, List, ◌++◌, ⊤, length, drop, Result, Ok, Err}
+use Rattle.std.specs.Prelude.{◌≡◌, ℕ, ◌+◌, ◌<◌, ◌≤◌, ◌^◌, Option, take, List, ◌++◌, ⊤, length, drop}
+use Rattle.std.specs.Prelude.{Result, Ok, Err}
 use Rattle.cir_lexer.specs.Reading.{Piece, IsCut, IsFault, IsGap, NoLonger, tokens_of}
 use Rattle.cir_lexer.specs.Spelling.{IsSpelling}
-use Rattle.cir_lexer.specs.declared.token.TokenKind.TheVariants.{Number}
+use Rattle.cir_token.specs.declared.token.TokenKind.TheVariants.{Number}
 use Rattle.std.specs.Option.{SomeIff}
 use Rattle.cir_lexer.specs.declared.class.Class.{Class}
 use Rattle.cir_lexer.specs.declared.class.Class.TheVariants.{Letter, Mark}
-use Rattle.cir_lexer.specs.declared.token.Token.{Token}
-use Rattle.cir_lexer.specs.declared.token.LexFault.{LexFault}
-use Rattle.cir_lexer.specs.declared.token.LexFault.TheVariants.{At, OutOfMemory}
+use Rattle.cir_token.specs.declared.token.Token.{Token}
+use Rattle.cir_lexer.specs.declared.fault.LexFault.{LexFault}
+use Rattle.cir_lexer.specs.declared.fault.LexFault.TheVariants.{At, OutOfMemory}
 
 -- the first byte of an identifier or of `_`
 abbrev pub IsWordClass : Class → Type 0

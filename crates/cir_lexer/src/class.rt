@@ -1,6 +1,7 @@
 //! Kinds of bytes.
 ghost use Rattle.std.specs.Prelude.{◌≡◌, ◌<◌};
-ghost use Rattle.cir_lexer.specs.Bytes.{is_blank, is_letter, is_digit, is_mark, is_name_byte, is_hexadecimal, digit_value};
+ghost use Rattle.cir_lexer.specs.Bytes.{is_blank, is_letter, is_digit, is_mark, is_name_byte};
+ghost use Rattle.cir_lexer.specs.Bytes.{is_hexadecimal, digit_value};
 ghost use Rattle.cir_lexer.specs.Class.{class_of};
 
 /// What the first byte of a token or a gap can be.

@@ -1,5 +1,6 @@
 //! What stands at the front of a text: a gap, a token, or a fault.
-ghost use Rattle.std.specs.Prelude.{◌≡◌, ℕ, ◌+◌, ◌^◌, ◌<◌, ◌≤◌, ◌∷◌, [], ◌++◌, true, false, length, slice_index, OnOk, IfOk, IfErr, MatchOption};
+ghost use Rattle.std.specs.Prelude.{◌≡◌, ℕ, ◌+◌, ◌^◌, ◌<◌, ◌≤◌, ◌∷◌, [], ◌++◌, true, false, length};
+ghost use Rattle.std.specs.Prelude.{slice_index, OnOk, IfOk, IfErr, MatchOption};
 ghost use Rattle.std.specs.Str.{IsUtf8};
 ghost use Rattle.std.specs.Str.Lossy.{utf8_valid_len};
 ghost use Rattle.cir_lexer.specs.Spelling.{IsSpelling, is_identifier};
@@ -9,12 +10,13 @@ ghost use Rattle.cir_lexer.specs.Lengths.{identifier_len, begins_pair};
 ghost use Rattle.cir_lexer.specs.Steps.{Steps, Skips, IsWordClass, IsNumeralAt};
 
 use crate::class::{Class, class_of};
+use crate::fault::LexFault;
 use crate::scan;
-use crate::token::{LexCause, LexFault, Text, Token, TokenKind};
+use cir_token::{LexCause, Text, Token, TokenKind};
 use std::alloc::{AllocError, AllocFailed, Global};
 
 impl From<AllocError> for LexFault {
-    ghost use Rattle.cir_lexer.specs.declared.token.LexFault.TheVariants.{OutOfMemory};
+    ghost use Rattle.cir_lexer.specs.declared.fault.LexFault.TheVariants.{OutOfMemory};
 
     ghost from_gives = { λ _ fault. fault ≡ OutOfMemory };
 
@@ -24,7 +26,7 @@ impl From<AllocError> for LexFault {
 }
 
 impl<T: Drop> From<AllocFailed<T>> for LexFault {
-    ghost use Rattle.cir_lexer.specs.declared.token.LexFault.TheVariants.{OutOfMemory};
+    ghost use Rattle.cir_lexer.specs.declared.fault.LexFault.TheVariants.{OutOfMemory};
 
     ghost from_gives = { λ _ fault. fault ≡ OutOfMemory };
 
@@ -35,7 +37,9 @@ impl<T: Drop> From<AllocFailed<T>> for LexFault {
 
 /// Adds a token of `len` bytes at this offset.
 fn push(tokens: &mut Vec<Token>, kind: TokenKind, offset: u32, len: u32) -> Result<(), LexFault>
-    ensures ok { OnOk result (tokens.new.items ≡ tokens.old.items ++ record { kind = kind; offset = offset; len = len } ∷ []) }
+    ensures ok { OnOk result
+        (tokens.new.items ≡ tokens.old.items ++ record { kind = kind; offset = offset; len = len }
+        ∷ []) }
     ensures err { IfErr result (λ fault. fault ≡ LexFault.OutOfMemory) }
 {
     tokens.push(Token { kind, offset, len })?;
@@ -44,7 +48,8 @@ fn push(tokens: &mut Vec<Token>, kind: TokenKind, offset: u32, len: u32) -> Resu
 
 /// The first byte that begins no character.
 fn bad_byte(bytes: &[u8]) -> Option<usize>
-    ensures { MatchOption result (IsUtf8 bytes.now) (λ n. (¬ IsUtf8 bytes.now) × (n ≡ utf8_valid_len bytes.now) × (n ≤ length bytes.now)) }
+    ensures { MatchOption result (IsUtf8 bytes.now)
+        (λ n. (¬ IsUtf8 bytes.now) × (n ≡ utf8_valid_len bytes.now) × (n ≤ length bytes.now)) }
 {
     match str::from_utf8(bytes) {
         Ok(_) => None,
@@ -238,7 +243,8 @@ fn comment_or_symbol(text: &[u8], offset: u32, tokens: &mut Vec<Token>) -> Resul
     }
 }
 
-/// Steps over the gap at the front of the text, or adds the token there, and answers how far it went.
+/// Steps over the gap at the front of the text, or adds the token there, and answers how far it
+/// went.
 pub(crate) fn step(
     alloc: Global,
     text: &[u8],

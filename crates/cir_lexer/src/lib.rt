@@ -2,22 +2,21 @@
 #![tactic(auto)]
 
 mod class;
+mod fault;
 mod front;
 mod scan;
-mod spelling;
-mod token;
 
 ghost use Rattle.std.specs.Prelude.{◌≡◌, ◌^◌, ◌≤◌, ℕ, List, Result, length};
 ghost use Rattle.cir_lexer.specs.Reading.{Reads, IsReading};
-ghost use Rattle.cir_lexer.specs.declared.token.Token.{Token as TheToken};
-ghost use Rattle.cir_lexer.specs.declared.token.LexFault.{LexFault as TheFault};
+ghost use Rattle.cir_token.specs.declared.token.Token.{Token as TheToken};
+ghost use Rattle.cir_lexer.specs.declared.fault.LexFault.{LexFault as TheFault};
 
-pub use spelling::{RESERVED_WORDS, SYMBOLS};
+pub use cir_token::{LexCause, RESERVED_WORDS, Reserved, SYMBOLS, Symbol, Text, Token, TokenKind};
+pub use fault::LexFault;
 use std::alloc::Global;
-pub use token::{LexCause, LexFault, Reserved, Symbol, Text, Token, TokenKind};
 
-/// The tokens of a source, or its first fault in the order of bytes: the lexical rules of the Circom 2
-/// documentation, with `_` as a token of its own and numbers below 2^128.
+/// The tokens of a source, or its first fault in the order of bytes: the lexical rules of the
+/// Circom 2 documentation, with `_` as a token of its own and numbers below 2^128.
 pub fn lex(alloc: Global, bytes: &[u8]) -> Result<Vec<Token>, LexFault>
     requires { length bytes.now ≤ 2 ^ 24 }
     ensures { Reads bytes.now result }
@@ -32,5 +31,6 @@ pub fn lex(alloc: Global, bytes: &[u8]) -> Result<Vec<Token>, LexFault>
 
 /// Bytes have one reading: no two lists of tokens, no two faults, and not both tokens and a fault.
 pub fn one_reading()
-    ensures { (bytes : List ℕ) (a b : Result (List TheToken) TheFault) → IsReading bytes a → IsReading bytes b → a ≡ b }
+    ensures { (bytes : List ℕ) (a b : Result (List TheToken) TheFault) → IsReading bytes a
+        → IsReading bytes b → a ≡ b }
 {}

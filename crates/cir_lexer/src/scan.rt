@@ -1,17 +1,20 @@
 //! How far what stands at the front of a text reaches.
-ghost use Rattle.std.specs.Prelude.{◌≡◌, ◌≢◌, ℕ, ◌+◌, ◌<◌, ◌≤◌, ◌^◌, ◌++◌, ◌==◌, nat_eq, List, length, slice_index, IfSome, IfNone};
+ghost use Rattle.std.specs.Prelude.{◌≡◌, ◌≢◌, ℕ, ◌+◌, ◌<◌, ◌≤◌, ◌^◌, ◌++◌, ◌==◌, nat_eq, List};
+ghost use Rattle.std.specs.Prelude.{length, slice_index, IfSome, IfNone};
 ghost use Rattle.std.specs.List.{prefix_len, find, starts_with};
 ghost use Rattle.std.specs.Cmp.Lexicographic.{pointwise};
 ghost use Rattle.std.specs.Option.{SomeIff};
 ghost use Rattle.cir_lexer.specs.Bytes.{is_mark, is_name_byte, is_digit, is_hexadecimal};
-ghost use Rattle.cir_lexer.specs.Lengths.{identifier_len, lettered_len, IsLongestSymbol, is_quotable, is_in_line, begins_pair, begins_hexadecimal, close_at};
-ghost use Rattle.cir_lexer.specs.Spelling.{number_in, reserved_bytes, symbol_bytes};
-ghost use Rattle.cir_lexer.specs.declared.token.Reserved.{Reserved};
-ghost use Rattle.cir_lexer.specs.declared.token.Symbol.{Symbol};
+ghost use Rattle.cir_lexer.specs.Lengths.{identifier_len, lettered_len, IsLongestSymbol};
+ghost use Rattle.cir_lexer.specs.Lengths.{is_quotable, is_in_line, begins_pair, begins_hexadecimal};
+ghost use Rattle.cir_lexer.specs.Lengths.{close_at};
+ghost use Rattle.cir_lexer.specs.Spelling.{number_in};
+ghost use Rattle.cir_token.specs.Spelling.{reserved_bytes, symbol_bytes};
+ghost use Rattle.cir_token.specs.declared.token.Reserved.{Reserved};
+ghost use Rattle.cir_token.specs.declared.token.Symbol.{Symbol};
 
 use crate::class::{digit_value, is_digit, is_hexadecimal, is_letter, is_mark, is_name_byte};
-use crate::spelling::{RESERVED_WORDS, SYMBOLS};
-use crate::token::{Reserved, Symbol};
+use cir_token::{RESERVED_WORDS, Reserved, SYMBOLS, Symbol};
 
 fn marks_len(text: &[u8]) -> usize
     ensures { result ≡ prefix_len is_mark text.now }
@@ -77,7 +80,8 @@ fn quotable_len(text: &[u8]) -> usize
 
 /// The number of bytes before the quote that ends a string, `None` where the line ends before it.
 pub(crate) fn quoted_len(text: &[u8]) -> Option<usize>
-    ensures some { IfSome result (λ n. (n ≡ prefix_len is_quotable text.now) × (slice_index text.now n ≡ 34) × (n < length text.now)) }
+    ensures some { IfSome result (λ n. (n ≡ prefix_len is_quotable text.now)
+        × (slice_index text.now n ≡ 34) × (n < length text.now)) }
     ensures none { IfNone result (slice_index text.now (prefix_len is_quotable text.now) ≢ 34) }
 {
     let len = quotable_len(text);
@@ -150,19 +154,33 @@ pub(crate) fn reserved(name: &[u8]) -> Option<Reserved>
     find_reserved(&RESERVED_WORDS, name)
 }
 
+/// Whether the text begins with these bytes. Most texts differ in the first byte, so that one is
+/// compared before the slices are.
+fn begins_with(text: &[u8], bytes: &[u8]) -> bool
+    requires { 0 < length bytes.now }
+    ensures { result ≡ starts_with nat_eq text.now bytes.now }
+{
+    match (text.first(), bytes.first()) {
+        (Some(first), Some(wanted)) if first == wanted => text.starts_with(bytes),
+        _ => false,
+    }
+}
+
 fn find_symbol(symbols: &[Symbol], text: &[u8]) -> Option<Symbol>
-    ensures { result ≡ find (λ symbol. starts_with nat_eq text.now (symbol_bytes symbol)) symbols.now }
+    ensures { result
+        ≡ find (λ symbol. starts_with nat_eq text.now (symbol_bytes symbol)) symbols.now }
 {
     symbols
         .iter()
         .copied()
-        .find(|symbol| text.starts_with(symbol.spelling()))
+        .find(|symbol| begins_with(text, symbol.spelling()))
 }
 
 /// The longest symbol at the front.
 pub(crate) fn symbol(text: &[u8]) -> Option<Symbol>
     ensures found { IfSome result (λ symbol. IsLongestSymbol text.now symbol) }
-    ensures none { IfNone result ((other : Symbol) (after : List ℕ) → text.now ≢ symbol_bytes other ++ after) }
+    ensures none { IfNone result ((other : Symbol) (after : List ℕ)
+        → text.now ≢ symbol_bytes other ++ after) }
 {
     find_symbol(&SYMBOLS, text)
 }

@@ -6,7 +6,7 @@ use Rattle.gold_field.specs.declared.operators.Op2.TheVariants.{Add, Sub, Mul, D
 use Rattle.gold_field.specs.Operators.{binary_of}
 use Rattle.cir_meaning.specs.declared.class.Class.{Class}
 use Rattle.cir_meaning.specs.declared.class.Class.TheVariants as Class'
-use Rattle.cir_meaning.specs.Classes.{sum_class, product_class, quotient_class, known_class, power_class, power_by, class_by}
+use Rattle.cir_meaning.specs.Classes.{sum_class, product_class, quotient_class, known_class, power_class, power_class_by, class_by}
 use Rattle.cir_meaning.specs.Values.{Value, Known, Linear, Quadratic, Opaque, class_of, sum_of, negative_of, product_of, quotient_of, known_of, known_or_opaque, power_of, divided, known_number, result_of}
 use Rattle.cir_meaning.specs.Values as V
 
@@ -88,7 +88,7 @@ class_cond : (b : Bool) (x y : Value) (c d : Class) → class_of x ≡ c → cla
 class_cond true x y c d h k = h
 class_cond false x y c d h k = k
 
-power_classes_by : (x : Value) (e : ℕ) → class_of (V.power_by x e) ≡ power_by (class_of x) e
+power_classes_by : (x : Value) (e : ℕ) → class_of (V.power_by x e) ≡ power_class_by (class_of x) e
 power_classes_by (Known j) e =
     class_cond (e == 0) _ _ _ _ refl
     (class_cond (e == 1) _ _ _ _ refl (class_cond (e == 2) _ _ _ _ refl refl))

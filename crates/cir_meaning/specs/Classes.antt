@@ -54,13 +54,13 @@ known_class Opaque y = Opaque
 
 -- a power whose exponent is a known number: the powers 0, 1 and 2 of a base that isn't opaque are
 -- 1, the base, and the product of the base with itself
-abbrev pub power_by : Class → ℕ → Class
-power_by Opaque e = Opaque
-power_by x e = if e == 0 then Known
+abbrev pub power_class_by : Class → ℕ → Class
+power_class_by Opaque e = Opaque
+power_class_by x e = if e == 0 then Known
     else (if e == 1 then x else (if e == 2 then product_class x x else known_class x Known))
 
 abbrev pub power_class : Class → Class → Option ℕ → Class
-power_class x Known (Some e) = power_by x e
+power_class x Known (Some e) = power_class_by x e
 power_class x Known None = known_class x Known
 power_class x Linear e = Opaque
 power_class x Quadratic e = Opaque

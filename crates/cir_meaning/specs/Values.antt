@@ -231,7 +231,7 @@ parts_of (Linear f) = Some record { a = constant 0; b = constant 0; c = f }
 parts_of (Quadratic a b c) = Some record { a = a; b = b; c = c }
 parts_of Opaque = None
 
--- a known number, for the exponent of a power
+-- a known number
 abbrev pub known_number : Value → Option ℕ
 known_number (Known k) = Some k
 known_number (Linear f) = None

@@ -1,7 +1,7 @@
 //! Laws over the values of expressions and the constraints of a source, each the contract of a
 //! function that does nothing.
 
-ghost use Rattle.std.specs.Prelude.{◌≡◌, ◌≢◌, ◌↔◌, ◌+◌, ◌<◌, ℕ, Some, List, All, length, sum_by};
+ghost use Rattle.std.specs.Prelude.{◌≡◌, ◌≢◌, ◌↔◌, ◌+◌, ◌<◌, ℕ, Some, Ok, List, All, length, sum_by};
 ghost use Rattle.gold_field.specs.declared.form.Constraint.{Constraint};
 ghost use Rattle.gold_field.specs.declared.operators.Op1.{Op1};
 ghost use Rattle.gold_field.specs.declared.operators.Op2.{Op2};
@@ -13,6 +13,8 @@ ghost use Rattle.cir_meaning.specs.Classes.{class_by, unary_class};
 ghost use Rattle.cir_meaning.specs.Values.{IsValue, Parts, Value, class_of, difference_of, known_number, number_of, parts_of, result_of, unary_result};
 ghost use Rattle.cir_meaning.specs.Values.{Known as KnownValue, Decided, Shaded, Both, and_left, or_left, lazy_result, side_of, chosen};
 ghost use Rattle.cir_meaning.specs.Values.{and_number, or_number, choice_number};
+ghost use Rattle.cir_ast.specs.Program.{Program};
+ghost use Rattle.cir_meaning.specs.Compile.{Circuit, Satisfies, compiled};
 ghost use Rattle.cir_meaning.specs.Source.{Equation, IsDifference, IsEqualAt, IsSource, all_terms};
 
 /// The class of an operator's result is the table's, whatever the numbers are.
@@ -108,4 +110,15 @@ pub fn source_list_holds()
 pub fn terms_are_counted()
     ensures { (n : ℕ) (es : List Equation) (ks : List Constraint) → 0 < n → IsSource n es ks →
         all_terms n es ≡ sum_by (λ k. length k.a + (length k.b + length k.c)) ks }
+{}
+
+/// In a program that compiles, the parts of each equation are left minus right at each assignment.
+pub fn equations_are_differences()
+    ensures { (p : Program) (c : Circuit) → compiled p ≡ Ok c → All IsDifference c.equations }
+{}
+
+/// The assignments that satisfy a program that compiles are those at which its source list holds.
+pub fn list_is_satisfied()
+    ensures { (p : Program) (c : Circuit) (n : ℕ) (ks : List Constraint) (s : Assignment) → compiled p ≡ Ok c →
+        IsSource n c.equations ks → Satisfies p s ↔ All (Holds s.at) ks }
 {}

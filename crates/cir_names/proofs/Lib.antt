@@ -1,3 +1,8 @@
-mod Split
-mod Sources
+pub mod Unnamed
+pub mod Heights
+pub mod Unresolved
+pub mod Lows
+pub mod SoFar
+pub mod Split
 pub mod OneLoading
+pub mod Answering

@@ -1,19 +1,21 @@
 //! What holds of every program's loading, as the contract of a function that does nothing.
 ghost use Rattle.std.specs.Prelude.{◌≡◌, ℕ, List, Option, None};
 ghost use Rattle.out_io.specs.Contents.{Contents};
-ghost use Rattle.cir_ast.specs.declared.program.Program.{Program};
+ghost use Rattle.cir_ast.specs.Program.{Program};
 ghost use Rattle.cir_ast.specs.declared.refusal.Refusal.{Refusal};
-ghost use Rattle.cir_ast.specs.Placed.{seen_program};
 ghost use Rattle.cir_names.specs.Loading.{IsLoaded, IsLoadFault};
 
-/// Over the same files a name has one answer: programs that are loaded show the same, refusals are equal in
-/// kind and place, and there are not both, nor one of them where the first file isn't there.
+/// Over the same files a name has one answer: one program, or one refusal of one kind and place,
+/// and there are not both, nor one of them where the first file isn't there.
 pub fn one_loading()
-    ensures program { (files : Contents) (name : List ℕ) (library : Option (List ℕ)) (p q : Program) →
-        IsLoaded files name library p → IsLoaded files name library q → seen_program p ≡ seen_program q }
-    ensures refusal { (files : Contents) (name : List ℕ) (library : Option (List ℕ)) (r s : Refusal) →
+    ensures program { (files : Contents) (name : List ℕ) (library : Option (List ℕ)) (p q : Program)
+        →
+        IsLoaded files name library p → IsLoaded files name library q → p ≡ q }
+    ensures refusal { (files : Contents) (name : List ℕ) (library : Option (List ℕ)) (r s : Refusal)
+        →
         IsLoadFault files name library r → IsLoadFault files name library s → r ≡ s }
-    ensures either { (files : Contents) (name : List ℕ) (library : Option (List ℕ)) (p : Program) (r : Refusal) →
+    ensures either { (files : Contents) (name : List ℕ) (library : Option (List ℕ)) (p : Program)
+        (r : Refusal) →
         IsLoaded files name library p → IsLoadFault files name library r → ⊥ }
     ensures there { (files : Contents) (name : List ℕ) (library : Option (List ℕ)) (p : Program) →
         files name ≡ None → IsLoaded files name library p → ⊥ }

@@ -1,6 +1,8 @@
-//! From a source file with all that it includes to the program that they define.
+//! From a source file with all that it includes to the program that they define, with its names
+//! resolved and checked.
 #![tactic(auto)]
 
+mod gathering;
 pub mod laws;
 mod loading;
 mod splitting;

@@ -1,117 +1,96 @@
 //! From the files of a store to the program.
-ghost use Rattle.std.specs.Prelude.{◌≡◌, ◌<◌, ◌^◌, ◌++◌, ◌∷◌, [], length, map, IfOk, OnOk};
+ghost use Rattle.std.specs.Prelude.{◌≡◌, map, IfOk};
 ghost use Rattle.std.specs.Option.{option_copied};
-ghost use Rattle.out_io.specs.Faults.{Rose};
-ghost use Rattle.cir_ast.specs.Placed.{seen_definition};
-ghost use Rattle.cir_sources.specs.Includes.{seen, IsRead};
 ghost use Rattle.out_io.specs.Calls.{OnlyReads};
+ghost use Rattle.out_io.specs.Faults.{Rose};
+ghost use Rattle.cir_ast.specs.Program.{bare_program};
+ghost use Rattle.cir_checks.specs.Checked.{IsChecked};
+ghost use Rattle.cir_sources.specs.Includes.{seen};
 ghost use Rattle.cir_sources.specs.Loading.{AreSources};
-ghost use Rattle.cir_names.specs.Programs.{source_definitions, definitions_in, names_of};
-ghost use Rattle.cir_names.specs.Loading.{Loads, seen_found, refusal_of, Checks};
+ghost use Rattle.cir_sources.specs.Steps.{Refuses};
+ghost use Rattle.cir_names.specs.Loading.{Loads, Checks};
+ghost use Rattle.cir_names.specs.Programs.{refusal_of};
 
+use crate::gathering::gather;
 use crate::splitting::program_with;
-use cir_ast::program::{Definition, Program};
-use cir_ast::{Place, Refusal, Text};
-use cir_checks::{Found, first_fault};
-use cir_placing::definitions;
+use cir_ast::program::Program;
+use cir_ast::{Kind, Refusal, Text};
+use cir_checks::{Fault, Found, checks};
+use cir_resolve::{Stop, resolve};
 use cir_sources::{LoadFault, Source, sources};
-use items::Items;
 use out_io::Store;
 use std::alloc::{AllocError, Global};
 
-/// The program of the file with this name and of all files that it includes, beside it or in the folder of
-/// libraries; or its first refusal.
+/// The program of the file with this name and of all files that it includes, beside it or in the
+/// folder of libraries; or its first refusal.
 pub fn load<S: Store>(
     alloc: Global,
     store: &mut S,
     name: &str,
     library: Option<&str>,
 ) -> Result<Program, LoadFault>
-    ensures loads { Loads (S.contents store.old) name.now (option_copied library.entry) (Rose (S.faults store.old) (S.faults store.new)) result }
+    ensures loads { Loads (S.contents store.old) name.now (option_copied library.entry)
+        (Rose (S.faults store.old) (S.faults store.new)) result }
+    ensures checked { IfOk result (λ p. IsChecked (bare_program p)) }
     ensures store { OnlyReads (S.contents store.old) (S.contents store.new)
-        (S.faults store.old) (S.faults store.new) (S.never_fails store.old) (S.never_fails store.new) }
+        (S.faults store.old) (S.faults store.new) (S.never_fails store.old)
+        (S.never_fails store.new) }
 {
     let sources = sources(alloc, store, name, library)?;
     let program = program(alloc, sources)?;
     Ok(program)
 }
 
-/// The names of source files, and their definitions in the order of loading.
-#[derive(Drop)]
-struct Loaded {
-    files: Items<Text>,
-    definitions: Vec<Definition>,
-}
-
-impl Loaded {
-    /// Adds the definitions of one more source.
-    fn add(&mut self, alloc: Global, source: Source) -> Result<(), AllocError>
-        requires read { IsRead (seen source) }
-        requires few { length self.old.files < 2 ^ 16 }
-        ensures files { OnOk result (self.new.files ≡ self.old.files ++ source.name ∷ []) }
-        ensures definitions { OnOk result (map seen_definition self.new.definitions.items
-            ≡ map seen_definition self.old.definitions.items ++ source_definitions (length self.old.files) (seen source)) }
-    {
-        let Source {
-            name,
-            bytes,
-            tokens,
-            file,
-        } = source;
-        let number = self.files.len() as u32;
-        let mut found = definitions(alloc, number, bytes.as_slice(), tokens.as_slice(), file)?;
-        self.definitions.append(&mut found)?;
-        self.files.push(name)
-    }
-}
-
-fn placed(alloc: Global, sources: Vec<Source>) -> Result<Loaded, AllocError>
-    requires { AreSources (map seen sources.items) }
-    ensures files { IfOk result (λ l. l.files ≡ names_of (map seen sources.items)) }
-    ensures definitions { IfOk result (λ l. map seen_definition l.definitions.items ≡ definitions_in 0 (map seen sources.items)) }
-{
-    let mut placed = Loaded {
-        files: Items::new(alloc),
-        definitions: Vec::new(alloc),
-    };
-    for source in sources {
-        placed.add(alloc, source)?;
-    }
-    Ok(placed)
-}
-
 fn program(alloc: Global, sources: Vec<Source>) -> Result<Program, LoadFault>
     requires { AreSources (map seen sources.items) }
-    ensures { Checks (map seen sources.items) result }
+    ensures program { Checks (map seen sources.items) result }
+    ensures checked { IfOk result (λ p. IsChecked (bare_program p)) }
 {
-    let placed = placed(alloc, sources)?;
-    match first_fault(alloc, placed.definitions.as_slice())? {
-        Some(found) => {
-            let refusal = refused(alloc, placed.files.as_slice(), found)?;
-            Err(LoadFault::Refused(refusal))
+    let gathered = gather(alloc, sources)?;
+    let files = gathered.files;
+    match resolve(alloc, gathered.definitions) {
+        Ok(definitions) => match checks(alloc, definitions.as_slice()) {
+            Ok(()) => {
+                let program = program_with(alloc, files, definitions)?;
+                Ok(program)
+            }
+            Err(cir_checks::Stop::At(found)) => Err(refused(alloc, files.as_slice(), found)),
+            Err(cir_checks::Stop::OutOfMemory) => Err(LoadFault::OutOfMemory),
+        },
+        Err(Stop::Twice(place)) => {
+            let fault = Fault {
+                kind: Kind::Duplicate,
+                spot: place.spot,
+            };
+            let file = place.file;
+            Err(refused(alloc, files.as_slice(), Found { file, fault }))
         }
-        None => {
-            let program = program_with(alloc, placed.files, placed.definitions)?;
-            Ok(program)
-        }
+        Err(Stop::OutOfMemory) => Err(LoadFault::OutOfMemory),
     }
 }
 
-/// The refusal in the file of its place among these names.
-fn refused(alloc: Global, names: &[Text], found: Found) -> Result<Refusal, AllocError>
-    ensures { IfOk result (λ r. r ≡ refusal_of names.now (seen_found found)) }
+// The refusal of a fault in the file of its place among these names.
+fn refused(alloc: Global, names: &[Text], found: Found) -> LoadFault
+    ensures { Refuses (λ r. r ≡ refusal_of names.now found) result }
 {
-    let file = match names.get(found.file as usize) {
-        Some(name) => Text::from_slice(alloc, name.as_slice())?,
-        None => Text::new(alloc),
-    };
-    Ok(Refusal {
-        kind: found.kind,
-        place: Place {
-            file,
-            line: found.line,
-            column: found.column,
-            path: Text::from_slice(alloc, b"-")?,
-        },
-    })
+    match refusal_of(alloc, names, found) {
+        Ok(refusal) => LoadFault::Refused(refusal),
+        Err(_) => LoadFault::OutOfMemory,
+    }
+}
+
+fn refusal_of(alloc: Global, names: &[Text], found: Found) -> Result<Refusal, AllocError>
+    ensures { IfOk result (λ r. r ≡ refusal_of names.now found) }
+{
+    let Fault { kind, spot } = found.fault;
+    match names.get(found.file as usize) {
+        Some(name) => {
+            let refusal = Refusal::at(alloc, name.as_slice(), kind, spot)?;
+            Ok(refusal)
+        }
+        None => {
+            let refusal = Refusal::at(alloc, b"", kind, spot)?;
+            Ok(refusal)
+        }
+    }
 }

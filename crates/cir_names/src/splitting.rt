@@ -1,11 +1,13 @@
 //! The program of definitions.
 ghost use Rattle.std.specs.Prelude.{◌≡◌, map, IfOk, OnOk};
-ghost use Rattle.cir_ast.specs.Placed.{seen_definition, seen_program};
+ghost use Rattle.cir_ast.specs.Program.{bare_program};
+ghost use Rattle.cir_resolve.specs.Definitions.{bare_definition};
 ghost use Rattle.cir_names.specs.Splitting.{IsMore};
-ghost use Rattle.cir_names.specs.Programs.{program_with};
+ghost use Rattle.cir_checks.specs.Checks.{program_with};
 
 use cir_ast::Text;
-use cir_ast::program::{Definition, Function, Main, Program, Template};
+use cir_ast::program::{Function, Main, Program, Template};
+use cir_resolve::Definition;
 use items::Items;
 use std::alloc::{AllocError, Global};
 
@@ -20,7 +22,7 @@ struct Kinds {
 impl Kinds {
     /// Adds a definition to those of its kind.
     fn add(&mut self, definition: Definition) -> Result<(), AllocError>
-        ensures { OnOk result (IsMore self.old self.new (seen_definition definition)) }
+        ensures { OnOk result (IsMore self.old self.new (bare_definition definition)) }
     {
         match definition {
             Definition::Template(template) => self.templates.push(template)?,
@@ -37,7 +39,8 @@ pub(crate) fn program_with(
     files: Items<Text>,
     definitions: Vec<Definition>,
 ) -> Result<Program, AllocError>
-    ensures { IfOk result (λ p. seen_program p ≡ program_with files (map seen_definition definitions.items)) }
+    ensures { IfOk result
+        (λ p. bare_program p ≡ program_with files (map bare_definition definitions.items)) }
 {
     let mut kinds = Kinds {
         templates: Vec::new(alloc),

@@ -1,174 +1,245 @@
 -- The turns of reading lists, where a number stands in place of its successor.
-use Rattle.std.proofs.Common.{◌≡◌, ℕ, zero, suc, ◌-◌, ◌<◌, List, [], ◌∷◌, ◌++◌, length, Option, Some, Result, Ok, Err, true, false, refl, ap, ◌∙◌, sym, arith, sub-one, subst}
+use Rattle.std.proofs.Common.{◌≡◌, ℕ, zero, suc, ◌-◌, ◌<◌, List, [], ◌∷◌, ◌++◌, length, Option}
+use Rattle.std.proofs.Common.{Some, None, Result, Ok, Err, true, false, refl, ap, ◌∙◌, sym, arith}
+use Rattle.std.proofs.Common.{sub-one, subst}
 use Rattle.std.specs.Prelude.{IsErrAnd, if◌then◌else◌}
-use Rattle.cir_lexer.specs.declared.token.Symbol.TheVariants.{Comma, OpenBracket, CloseBracket, OpenBrace, CloseBrace}
-use Rattle.cir_lexer.specs.declared.token.Reserved.TheVariants.{If, While, For}
-use Rattle.cir_ast.specs.Tree.{Expr, Statement, Block, as_statements}
+use Rattle.cir_token.specs.declared.token.Symbol.TheVariants.{Comma, Semicolon, OpenBracket}
+use Rattle.cir_token.specs.declared.token.Symbol.TheVariants.{CloseBracket, OpenBrace, CloseBrace}
+use Rattle.cir_token.specs.declared.token.Reserved.TheVariants.{If}
+use Rattle.cir_token.specs.declared.token.Reserved.TheVariants.{Pragma as PragmaWord}
+use Rattle.cir_token.specs.declared.token.Reserved.TheVariants.{Include as IncludeWord}
+use Rattle.cir_ast.specs.Tree.{Include}
+use Rattle.cir_ast.specs.Plain.{PlainExpr as Expr}
 use Rattle.cir_expression.specs.declared.reader.Stop.{Stop}
 use Rattle.cir_expression.specs.declared.reader.Stop.TheVariants.{NoTree, OutOfMemory}
-use Rattle.cir_lexer.specs.declared.token.Token.{Token}
+use Rattle.cir_token.specs.declared.token.Token.{Token}
 use Rattle.std.proofs.lemmas.List.{length-map}
 use Rattle.cir_expression.specs.Reading.{expression}
 use Rattle.cir_expression.specs.Answers.{Stops, Reads, kinds}
 use Rattle.cir_expression.specs.Front.{Tokens, next, tail, begins, begins_word, behind}
-use Rattle.cir_parse.specs.Front.{closed, made, separated_by, separated}
-use Rattle.cir_parse.specs.Reading.{dimensions_by, dimensions, statements_by, rest_by, if_by, while_by, for_by, plain, statement_by, statement}
+use Rattle.cir_parse.specs.Front.{after, closed, made, separated_by, separated, words_at}
+use Rattle.cir_parse.specs.Reading.{dimensions_by, dimensions, statements_by, rest_by, if_by}
+use Rattle.cir_parse.specs.Reading.{statement_by, statement, block, item}
 
 -- a refusal that is handed on
-pub exits : {X Y : Type 0} (view : X → Y) (r : Result X Stop) (stop : Stop) (rest : Tokens) (reading : Option (Y × Tokens)) → IsErrAnd r (λ e. e ≡ stop)
+pub exits : {X Y : Type 0} (view : X → Y) (r : Result X Stop) (stop : Stop) (rest : Tokens)
+    (reading : Option (Y × Tokens)) → IsErrAnd r (λ e. e ≡ stop)
     → Stops stop reading → Reads view r rest reading
 exits view (Ok x) stop rest reading h s = absurd h
 exits view (Err e) stop rest reading h s = subst (λ (x : Stop). Stops x reading) (sym h) s
 
-pub refused_by : {A : Type 0} (stop : Stop) (reading other : Option A) → reading ≡ other → Stops stop other → Stops stop reading
+pub refused_by : {A : Type 0} (stop : Stop) (reading other : Option A) → reading ≡ other
+    → Stops stop other → Stops stop reading
 refused_by NoTree reading other e s = e ∙ s
 refused_by OutOfMemory reading other e s = tt
 
-pub next_is : {A B : Type 0} (o : Option A) (x : A) (go : A → Option B) → o ≡ Some x → next o go ≡ go x
+pub next_is : {A B : Type 0} (o : Option A) (x : A) (go : A → Option B) → o ≡ Some x
+    → next o go ≡ go x
 next_is o x go e = ap (λ (o : Option _). next o go) e
 
-pub next_stops : {A B : Type 0} (stop : Stop) (o : Option A) (go : A → Option B) → Stops stop o → Stops stop (next o go)
+pub next_stops : {A B : Type 0} (stop : Stop) (o : Option A) (go : A → Option B) → Stops stop o
+    → Stops stop (next o go)
 next_stops NoTree o go e = ap (λ (o : Option _). next o go) e
 next_stops OutOfMemory o go e = tt
 
 minus_none : {n : ℕ} → n ≡ n - 0
 minus_none = omega arith
 
-pub begun_list : {A : Type 0} (read : Tokens → Option (A × Tokens)) (ts : List Token) → separated read (kinds ts) ≡ separated_by (length ts - 0) read [] (kinds ts)
+pub begun_list : {A : Type 0} (read : Tokens → Option (A × Tokens)) (ts : List Token)
+    → separated read (kinds ts) ≡ separated_by (length ts - 0) read [] (kinds ts)
 unfolding separated
-begun_list read ts = ap (λ (n : ℕ). separated_by n read [] (kinds ts)) (length-map ts (λ t. t.kind) ∙ minus_none)
+begun_list read ts =
+    ap (λ (n : ℕ). separated_by n read [] (kinds ts)) (length-map ts (λ t. t.kind) ∙ minus_none)
 
-pub begun_dimensions : (room : ℕ) (ts : List Token) → dimensions room (kinds ts) ≡ dimensions_by (length ts - 0) (expression room) [] (kinds ts)
+pub begun_dimensions : (room : ℕ) (ts : List Token)
+    → dimensions room (kinds ts) ≡ dimensions_by (length ts - 0) (expression room) [] (kinds ts)
 unfolding dimensions
-begun_dimensions room ts = ap (λ (n : ℕ). dimensions_by n (expression room) [] (kinds ts)) (length-map ts (λ t. t.kind) ∙ minus_none)
+begun_dimensions room ts =
+    ap (λ (n : ℕ). dimensions_by n (expression room) [] (kinds ts)) (length-map ts (λ t. t.kind)
+    ∙ minus_none)
 
 -- what stands behind an element
-abbrev after_one : {A : Type 0} → ℕ → (Tokens → Option (A × Tokens)) → List A → A × Tokens → Option (List A × Tokens)
-after_one n read before x = if begins Comma x.1 then separated_by n read (before ++ x.0 ∷ []) (tail x.1) else Some (before ++ x.0 ∷ [], x.1)
+abbrev after_one : {A : Type 0} → ℕ → (Tokens → Option (A × Tokens)) → List A → A × Tokens
+    → Option (List A × Tokens)
+after_one n read before x = if begins Comma x.1
+    then separated_by n read (before ++ x.0 ∷ []) (tail x.1) else Some (before ++ x.0 ∷ [], x.1)
 
-separated_is : {A : Type 0} (n : ℕ) (read : Tokens → Option (A × Tokens)) (before : List A) (ts : Tokens) → 0 < n
+separated_is : {A : Type 0} (n : ℕ) (read : Tokens → Option (A × Tokens)) (before : List A)
+    (ts : Tokens) → 0 < n
     → separated_by n read before ts ≡ next (read ts) (after_one (n - 1) read before)
 separated_is zero read before ts h = absurd (omega arith)
 separated_is (suc n) read before ts h = rw sub-one refl
 
-one_is : {A : Type 0} (n : ℕ) (read : Tokens → Option (A × Tokens)) (before : List A) (ts rest : Tokens) (x : A) → 0 < n → read ts ≡ Some (x, rest)
+one_is : {A : Type 0} (n : ℕ) (read : Tokens → Option (A × Tokens)) (before : List A)
+    (ts rest : Tokens) (x : A) → 0 < n → read ts ≡ Some (x, rest)
     → separated_by n read before ts ≡ after_one (n - 1) read before (x, rest)
-one_is n read before ts rest x h e = separated_is n read before ts h ∙ next_is (read ts) (x, rest) (after_one (n - 1) read before) e
+one_is n read before ts rest x h e =
+    separated_is n read before ts h ∙ next_is (read ts) (x, rest) (after_one (n - 1) read before) e
 
-last_is : {A : Type 0} (n : ℕ) (read : Tokens → Option (A × Tokens)) (before : List A) (rest : Tokens) (x : A) → begins Comma rest ≡ false
+last_is : {A : Type 0} (n : ℕ) (read : Tokens → Option (A × Tokens)) (before : List A)
+    (rest : Tokens) (x : A) → begins Comma rest ≡ false
     → after_one n read before (x, rest) ≡ Some (before ++ x ∷ [], rest)
 last_is n read before rest x e = rw e refl
 
-more_is : {A : Type 0} (n : ℕ) (read : Tokens → Option (A × Tokens)) (before : List A) (rest : Tokens) (x : A) → begins Comma rest ≡ true
+more_is : {A : Type 0} (n : ℕ) (read : Tokens → Option (A × Tokens)) (before : List A)
+    (rest : Tokens) (x : A) → begins Comma rest ≡ true
     → after_one n read before (x, rest) ≡ separated_by n read (before ++ x ∷ []) (tail rest)
 more_is n read before rest x e = rw e refl
 
-pub no_element : {A : Type 0} (stop : Stop) (n : ℕ) (read : Tokens → Option (A × Tokens)) (before : List A) (ts : Tokens) (all : Option (List A × Tokens)) → 0 < n
+pub no_element : {A : Type 0} (stop : Stop) (n : ℕ) (read : Tokens → Option (A × Tokens))
+    (before : List A) (ts : Tokens) (all : Option (List A × Tokens)) → 0 < n
     → all ≡ separated_by n read before ts → Stops stop (read ts) → Stops stop all
 no_element stop n read before ts all h e s =
-    refused_by stop all _ (e ∙ separated_is n read before ts h) (next_stops stop (read ts) (after_one (n - 1) read before) s)
+    refused_by stop all _ (e ∙ separated_is n read before ts h)
+    (next_stops stop (read ts) (after_one (n - 1) read before) s)
 
-pub last_element : {A : Type 0} (n : ℕ) (read : Tokens → Option (A × Tokens)) (before : List A) (ts rest : Tokens) (x : A) (all : Option (List A × Tokens)) → 0 < n
-    → all ≡ separated_by n read before ts → read ts ≡ Some (x, rest) → begins Comma rest ≡ false → all ≡ Some (before ++ x ∷ [], rest)
-last_element n read before ts rest x all h e one comma = e ∙ one_is n read before ts rest x h one ∙ last_is (n - 1) read before rest x comma
+pub last_element : {A : Type 0} (n : ℕ) (read : Tokens → Option (A × Tokens)) (before : List A)
+    (ts rest : Tokens) (x : A) (all : Option (List A × Tokens)) → 0 < n
+    → all ≡ separated_by n read before ts → read ts ≡ Some (x, rest) → begins Comma rest ≡ false
+    → all ≡ Some (before ++ x ∷ [], rest)
+last_element n read before ts rest x all h e one comma =
+    e ∙ one_is n read before ts rest x h one ∙ last_is (n - 1) read before rest x comma
 
-pub more_elements : {A : Type 0} (n m : ℕ) (read : Tokens → Option (A × Tokens)) (before : List A) (ts rest : Tokens) (x : A) (all : Option (List A × Tokens)) → 0 < n → n - 1 ≡ m
-    → all ≡ separated_by n read before ts → read ts ≡ Some (x, rest) → begins Comma rest ≡ true → all ≡ separated_by m read (before ++ x ∷ []) (tail rest)
+pub more_elements : {A : Type 0} (n m : ℕ) (read : Tokens → Option (A × Tokens)) (before : List A)
+    (ts rest : Tokens) (x : A) (all : Option (List A × Tokens)) → 0 < n → n - 1 ≡ m
+    → all ≡ separated_by n read before ts → read ts ≡ Some (x, rest) → begins Comma rest ≡ true
+    → all ≡ separated_by m read (before ++ x ∷ []) (tail rest)
 more_elements n m read before ts rest x all h same e one comma =
-    e ∙ one_is n read before ts rest x h one ∙ more_is (n - 1) read before rest x comma ∙ ap (λ (k : ℕ). separated_by k read (before ++ x ∷ []) (tail rest)) same
+    e ∙ one_is n read before ts rest x h one ∙ more_is (n - 1) read before rest x comma
+    ∙ ap (λ (k : ℕ). separated_by k read (before ++ x ∷ []) (tail rest)) same
 
-pub no_dimension : (n : ℕ) (read : Tokens → Option (Expr × Tokens)) (before : List Expr) (ts : Tokens) (all : Option (List Expr × Tokens))
+pub no_element_left : {A : Type 0} (n : ℕ) (read : Tokens → Option (A × Tokens)) (before : List A)
+    (ts : Tokens) → n ≡ 0 → separated_by n read before ts ≡ None
+no_element_left n read before ts h = ap (λ (n : ℕ). separated_by n read before ts) h
+
+pub no_dimension : (n : ℕ) (read : Tokens → Option (Expr × Tokens)) (before : List Expr)
+    (ts : Tokens) (all : Option (List Expr × Tokens))
     → all ≡ dimensions_by n read before ts → begins OpenBracket ts ≡ false → all ≡ Some (before, ts)
 no_dimension zero read before ts all e none = e
 no_dimension (suc n) read before ts all e none = e ∙ rw none refl
 
-dimension_is : (n : ℕ) (read : Tokens → Option (Expr × Tokens)) (before : List Expr) (ts : Tokens) → 0 < n → begins OpenBracket ts ≡ true
-    → dimensions_by n read before ts ≡ next (closed CloseBracket (read (tail ts))) (λ e. dimensions_by (n - 1) read (before ++ e.0 ∷ []) e.1)
+dimension_is : (n : ℕ) (read : Tokens → Option (Expr × Tokens)) (before : List Expr) (ts : Tokens)
+    → 0 < n → begins OpenBracket ts ≡ true
+    → dimensions_by n read before ts
+    ≡ next (closed CloseBracket (read (tail ts)))
+    (λ e. dimensions_by (n - 1) read (before ++ e.0 ∷ []) e.1)
 dimension_is zero read before ts h e = absurd (omega arith)
 dimension_is (suc n) read before ts h e = rw (e, sub-one) refl
 
-closed_is : {A : Type 0} (found : Option (A × Tokens)) (x : A) (rest after : Tokens) → found ≡ Some (x, rest) → behind CloseBracket rest ≡ Some after
+closed_is : {A : Type 0} (found : Option (A × Tokens)) (x : A) (rest after : Tokens)
+    → found ≡ Some (x, rest) → behind CloseBracket rest ≡ Some after
     → closed CloseBracket found ≡ Some (x, after)
 closed_is found x rest after e b = rw (e, b) refl
 
-closed_stops : {A : Type 0} (stop : Stop) (found : Option (A × Tokens)) (x : A) (rest : Tokens) → found ≡ Some (x, rest) → Stops stop (behind CloseBracket rest)
+closed_stops : {A : Type 0} (stop : Stop) (found : Option (A × Tokens)) (x : A) (rest : Tokens)
+    → found ≡ Some (x, rest) → Stops stop (behind CloseBracket rest)
     → Stops stop (closed CloseBracket found)
 closed_stops NoTree found x rest e b = rw (e, b) refl
 closed_stops OutOfMemory found x rest e b = tt
 
-pub unread_dimension : (stop : Stop) (n : ℕ) (read : Tokens → Option (Expr × Tokens)) (before : List Expr) (ts : Tokens) (all : Option (List Expr × Tokens)) → 0 < n
-    → all ≡ dimensions_by n read before ts → begins OpenBracket ts ≡ true → Stops stop (read (tail ts)) → Stops stop all
+pub unread_dimension : (stop : Stop) (n : ℕ) (read : Tokens → Option (Expr × Tokens))
+    (before : List Expr) (ts : Tokens) (all : Option (List Expr × Tokens)) → 0 < n
+    → all ≡ dimensions_by n read before ts → begins OpenBracket ts ≡ true
+    → Stops stop (read (tail ts)) → Stops stop all
 unread_dimension stop n read before ts all h e opens s =
     refused_by stop all _ (e ∙ dimension_is n read before ts h opens)
-    (next_stops stop (closed CloseBracket (read (tail ts))) (λ e. dimensions_by (n - 1) read (before ++ e.0 ∷ []) e.1)
-    (next_stops stop (read (tail ts)) (λ x. next (behind CloseBracket x.1) (λ rest. Some (x.0, rest))) s))
+    (next_stops stop (closed CloseBracket (read (tail ts)))
+    (λ e. dimensions_by (n - 1) read (before ++ e.0 ∷ []) e.1)
+    (next_stops stop (read (tail ts))
+    (λ x. next (behind CloseBracket x.1) (λ rest. Some (x.0, rest))) s))
 
-pub open_dimension : (stop : Stop) (n : ℕ) (read : Tokens → Option (Expr × Tokens)) (before : List Expr) (ts rest : Tokens) (x : Expr) (all : Option (List Expr × Tokens)) → 0 < n
-    → all ≡ dimensions_by n read before ts → begins OpenBracket ts ≡ true → read (tail ts) ≡ Some (x, rest) → Stops stop (behind CloseBracket rest) → Stops stop all
+pub open_dimension : (stop : Stop) (n : ℕ) (read : Tokens → Option (Expr × Tokens))
+    (before : List Expr) (ts rest : Tokens) (x : Expr) (all : Option (List Expr × Tokens)) → 0 < n
+    → all ≡ dimensions_by n read before ts → begins OpenBracket ts ≡ true
+    → read (tail ts) ≡ Some (x, rest) → Stops stop (behind CloseBracket rest) → Stops stop all
 open_dimension stop n read before ts rest x all h e opens one s =
     refused_by stop all _ (e ∙ dimension_is n read before ts h opens)
-    (next_stops stop (closed CloseBracket (read (tail ts))) (λ e. dimensions_by (n - 1) read (before ++ e.0 ∷ []) e.1) (closed_stops stop (read (tail ts)) x rest one s))
+    (next_stops stop (closed CloseBracket (read (tail ts)))
+    (λ e. dimensions_by (n - 1) read (before ++ e.0 ∷ []) e.1)
+    (closed_stops stop (read (tail ts)) x rest one s))
 
-pub one_dimension : (n m : ℕ) (read : Tokens → Option (Expr × Tokens)) (before : List Expr) (ts rest after : Tokens) (x : Expr) (all : Option (List Expr × Tokens)) → 0 < n → n - 1 ≡ m
-    → all ≡ dimensions_by n read before ts → begins OpenBracket ts ≡ true → read (tail ts) ≡ Some (x, rest) → behind CloseBracket rest ≡ Some after
+pub one_dimension : (n m : ℕ) (read : Tokens → Option (Expr × Tokens)) (before : List Expr)
+    (ts rest after : Tokens) (x : Expr) (all : Option (List Expr × Tokens)) → 0 < n → n - 1 ≡ m
+    → all ≡ dimensions_by n read before ts → begins OpenBracket ts ≡ true
+    → read (tail ts) ≡ Some (x, rest) → behind CloseBracket rest ≡ Some after
     → all ≡ dimensions_by m read (before ++ x ∷ []) after
 one_dimension n m read before ts rest after x all h same e opens one close =
     e ∙ dimension_is n read before ts h opens
-    ∙ next_is (closed CloseBracket (read (tail ts))) (x, after) (λ e. dimensions_by (n - 1) read (before ++ e.0 ∷ []) e.1) (closed_is (read (tail ts)) x rest after one close)
+    ∙ next_is (closed CloseBracket (read (tail ts))) (x, after)
+    (λ e. dimensions_by (n - 1) read (before ++ e.0 ∷ []) e.1)
+    (closed_is (read (tail ts)) x rest after one close)
     ∙ ap (λ (k : ℕ). dimensions_by k read (before ++ x ∷ []) after) same
 
-statements_is : (n : ℕ) (read : Tokens → Option (Statement × Tokens)) (before : List Statement) (ts : Tokens) → 0 < n
-    → statements_by n read before ts ≡ (if begins CloseBrace ts then Some (before, tail ts) else next (read ts) (λ s. statements_by (n - 1) read (before ++ s.0 ∷ []) s.1))
+statements_is : {A : Type 0} (n : ℕ) (read : Tokens → Option (A × Tokens)) (before : List A)
+    (ts : Tokens) → 0 < n
+    → statements_by n read before ts
+    ≡ (if begins CloseBrace ts then Some (before, tail ts)
+    else next (read ts) (λ s. statements_by (n - 1) read (before ++ s.0 ∷ []) s.1))
 statements_is zero read before ts h = absurd (omega arith)
 statements_is (suc n) read before ts h = rw sub-one refl
 
-inner_is : (n : ℕ) (read : Tokens → Option (Statement × Tokens)) (before : List Statement) (ts : Tokens) → 0 < n → begins CloseBrace ts ≡ false
-    → statements_by n read before ts ≡ next (read ts) (λ s. statements_by (n - 1) read (before ++ s.0 ∷ []) s.1)
+inner_is : {A : Type 0} (n : ℕ) (read : Tokens → Option (A × Tokens)) (before : List A)
+    (ts : Tokens) → 0 < n → begins CloseBrace ts ≡ false
+    → statements_by n read before ts
+    ≡ next (read ts) (λ s. statements_by (n - 1) read (before ++ s.0 ∷ []) s.1)
 inner_is n read before ts h e = statements_is n read before ts h ∙ rw e refl
 
-pub no_more_statements : (n : ℕ) (read : Tokens → Option (Statement × Tokens)) (before : List Statement) (ts : Tokens) (all : Option (List Statement × Tokens)) → 0 < n
-    → all ≡ statements_by n read before ts → begins CloseBrace ts ≡ true → all ≡ Some (before, tail ts)
-no_more_statements n read before ts all h e close = e ∙ statements_is n read before ts h ∙ rw close refl
+pub no_more_statements : {A : Type 0} (n : ℕ) (read : Tokens → Option (A × Tokens))
+    (before : List A) (ts : Tokens) (all : Option (List A × Tokens)) → 0 < n
+    → all ≡ statements_by n read before ts → begins CloseBrace ts ≡ true
+    → all ≡ Some (before, tail ts)
+no_more_statements n read before ts all h e close =
+    e ∙ statements_is n read before ts h ∙ rw close refl
 
-pub no_statement : (stop : Stop) (n : ℕ) (read : Tokens → Option (Statement × Tokens)) (before : List Statement) (ts : Tokens) (all : Option (List Statement × Tokens)) → 0 < n
-    → all ≡ statements_by n read before ts → begins CloseBrace ts ≡ false → Stops stop (read ts) → Stops stop all
+pub no_statement : {A : Type 0} (stop : Stop) (n : ℕ) (read : Tokens → Option (A × Tokens))
+    (before : List A) (ts : Tokens) (all : Option (List A × Tokens)) → 0 < n
+    → all ≡ statements_by n read before ts → begins CloseBrace ts ≡ false → Stops stop (read ts)
+    → Stops stop all
 no_statement stop n read before ts all h e close s =
-    refused_by stop all _ (e ∙ inner_is n read before ts h close) (next_stops stop (read ts) (λ s. statements_by (n - 1) read (before ++ s.0 ∷ []) s.1) s)
+    refused_by stop all _ (e ∙ inner_is n read before ts h close)
+    (next_stops stop (read ts) (λ s. statements_by (n - 1) read (before ++ s.0 ∷ []) s.1) s)
 
-pub one_statement : (n m : ℕ) (read : Tokens → Option (Statement × Tokens)) (before : List Statement) (ts rest : Tokens) (s : Statement) (all : Option (List Statement × Tokens)) → 0 < n → n - 1 ≡ m
-    → all ≡ statements_by n read before ts → begins CloseBrace ts ≡ false → read ts ≡ Some (s, rest) → all ≡ statements_by m read (before ++ s ∷ []) rest
+pub one_statement : {A : Type 0} (n m : ℕ) (read : Tokens → Option (A × Tokens)) (before : List A)
+    (ts rest : Tokens) (s : A) (all : Option (List A × Tokens)) → 0 < n → n - 1 ≡ m
+    → all ≡ statements_by n read before ts → begins CloseBrace ts ≡ false → read ts ≡ Some (s, rest)
+    → all ≡ statements_by m read (before ++ s ∷ []) rest
 one_statement n m read before ts rest s all h same e close one =
-    e ∙ inner_is n read before ts h close ∙ next_is (read ts) (s, rest) (λ s. statements_by (n - 1) read (before ++ s.0 ∷ []) s.1) one
+    e ∙ inner_is n read before ts h close
+    ∙ next_is (read ts) (s, rest) (λ s. statements_by (n - 1) read (before ++ s.0 ∷ []) s.1) one
     ∙ ap (λ (k : ℕ). statements_by k read (before ++ s ∷ []) rest) same
 
-pub begun_block : (read : Tokens → Option (Statement × Tokens)) (ts : List Token) → rest_by read (kinds ts) ≡ statements_by (length ts - 0) read [] (kinds ts)
-begun_block read ts = ap (λ (n : ℕ). statements_by n read [] (kinds ts)) (length-map ts (λ t. t.kind) ∙ minus_none)
+pub no_statement_left : {A : Type 0} (n : ℕ) (read : Tokens → Option (A × Tokens)) (before : List A)
+    (ts : Tokens) → n ≡ 0 → statements_by n read before ts ≡ None
+no_statement_left n read before ts h = ap (λ (n : ℕ). statements_by n read before ts) h
+
+pub begun_block : {A : Type 0} (read : Tokens → Option (A × Tokens)) (ts : List Token)
+    → rest_by read (kinds ts) ≡ statements_by (length ts - 0) read [] (kinds ts)
+begun_block read ts =
+    ap (λ (n : ℕ). statements_by n read [] (kinds ts)) (length-map ts (λ t. t.kind) ∙ minus_none)
 
 -- a statement, where a number stands in place of its successor
-statement_is : (room : ℕ) (ts : Tokens) → 0 < room → statement room ts ≡ statement_by (room - 1) (statement (room - 1)) ts
+statement_is : (S : Type 0) (mark : Tokens → S) (room : ℕ) (ts : Tokens) → 0 < room
+    → statement mark room ts ≡ statement_by mark (room - 1) (statement mark (room - 1)) ts
 unfolding statement
-statement_is zero ts h = absurd (omega arith)
-statement_is (suc room) ts h = rw sub-one refl
+statement_is S mark zero ts h = absurd (omega arith)
+statement_is S mark (suc room) ts h = rw sub-one refl
 
-pub block_is : (room : ℕ) (ts : Tokens) → 0 < room → begins OpenBrace ts ≡ true → statement room ts ≡ made (λ ss. Block (as_statements ss)) (rest_by (statement (room - 1)) (tail ts))
-block_is room ts h e = statement_is room ts h ∙ rw e refl
+pub if_is : (S : Type 0) (mark : Tokens → S) (room : ℕ) (ts : Tokens) → 0 < room
+    → begins OpenBrace ts ≡ false → begins_word If ts ≡ true
+    → statement mark room ts ≡ if_by (mark ts) (room - 1) (statement mark (room - 1)) (tail ts)
+if_is S mark room ts h a b = statement_is S mark room ts h ∙ rw (a, b) refl
 
-pub if_is : (room : ℕ) (ts : Tokens) → 0 < room → begins OpenBrace ts ≡ false → begins_word If ts ≡ true → statement room ts ≡ if_by (room - 1) (statement (room - 1)) (tail ts)
-if_is room ts h a b = statement_is room ts h ∙ rw (a, b) refl
+-- a block of a definition
+pub opened_block : (S : Type 0) (mark : Tokens → S) (room : ℕ) (ts : Tokens) → 0 < room
+    → block mark room ts ≡ after OpenBrace (rest_by (statement mark (room - 1))) ts
+unfolding block
+opened_block S mark zero ts h = absurd (omega arith)
+opened_block S mark (suc room) ts h = rw sub-one refl
 
-pub while_is : (room : ℕ) (ts : Tokens) → 0 < room → begins OpenBrace ts ≡ false → begins_word If ts ≡ false → begins_word While ts ≡ true
-    → statement room ts ≡ while_by (room - 1) (statement (room - 1)) (tail ts)
-while_is room ts h a b c = statement_is room ts h ∙ rw (a, b, c) refl
-
-pub for_is : (room : ℕ) (ts : Tokens) → 0 < room → begins OpenBrace ts ≡ false → begins_word If ts ≡ false → begins_word While ts ≡ false → begins_word For ts ≡ true
-    → statement room ts ≡ for_by (room - 1) (statement (room - 1)) (tail ts)
-for_is room ts h a b c d = statement_is room ts h ∙ rw (a, b, c, d) refl
-
-pub plain_is : (room : ℕ) (ts : Tokens) → 0 < room → begins OpenBrace ts ≡ false → begins_word If ts ≡ false → begins_word While ts ≡ false → begins_word For ts ≡ false
-    → statement room ts ≡ plain (room - 1) ts
-plain_is room ts h a b c d = statement_is room ts h ∙ rw (a, b, c, d) refl
-
--- what is read is the same by an equal reading
-pub reads_same : {X Y : Type 0} (view : X → Y) (r : Result X Stop) (rest : Tokens) (reading other : Option (Y × Tokens)) → reading ≡ other → Reads view r rest other → Reads view r rest reading
-reads_same view (Ok x) rest reading other e h = e ∙ h
-reads_same view (Err stop) rest reading other e h = refused_by stop reading other e h
+-- an include
+pub include_is : (S : Type 0) (mark : Tokens → S) (room : ℕ) (ts : Tokens) → 0 < room
+    → begins_word PragmaWord ts ≡ false → begins_word IncludeWord ts ≡ true
+    → item mark room ts ≡ made (Include (mark ts)) (closed Semicolon (words_at (tail ts)))
+unfolding item
+include_is S mark zero ts h a b = absurd (omega arith)
+include_is S mark (suc room) ts h a b = rw (a, b) refl

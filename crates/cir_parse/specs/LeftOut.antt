@@ -1,9 +1,9 @@
 -- Forms that aren't in the language's profile, as they stand in the tokens.
 use Rattle.std.specs.Prelude.{ℕ, ◌+◌, if◌then◌else◌, ◌∷◌, [], List, Option, Some, None, codes}
 use Rattle.std.specs.Str.{bytes_eq}
-use Rattle.cir_lexer.specs.declared.token.TokenKind.TheVariants as token
-use Rattle.cir_lexer.specs.declared.token.Reserved.TheVariants as word
-use Rattle.cir_lexer.specs.declared.token.Symbol.TheVariants as symbol
+use Rattle.cir_token.specs.declared.token.TokenKind.TheVariants as token
+use Rattle.cir_token.specs.declared.token.Reserved.TheVariants as word
+use Rattle.cir_token.specs.declared.token.Symbol.TheVariants as symbol
 use Rattle.cir_ast.specs.declared.refusal.Form.{Form}
 use Rattle.cir_ast.specs.declared.refusal.Form.TheVariants.{Bus, CustomTemplate, Tag}
 use Rattle.cir_expression.specs.Front.{Tokens, tail, begins, begins_word}
@@ -15,14 +15,15 @@ custom_at word _ = None
 
 -- what stands behind `input` or `output`, where one of them comes
 abbrev pub behind_direction : Tokens → Tokens
-behind_direction ts = if begins_word word.Input ts then tail ts else (if begins_word word.Output ts then tail ts else ts)
+behind_direction ts = if begins_word word.Input ts then tail ts
+    else (if begins_word word.Output ts then tail ts else ts)
 
 -- behind `signal`, its tags
 abbrev pub tag_at : Tokens → Option Form
 tag_at ts = if begins symbol.OpenBrace (behind_direction ts) then Some Tag else None
 
--- the form that begins at the front: the word `bus`, `template custom`, `pragma custom_templates`, or a
--- signal's tags
+-- the form that begins at the front: the word `bus`, `template custom`, `pragma custom_templates`,
+-- or a signal's tags
 abbrev pub left_out_at : Tokens → Option Form
 left_out_at (token.Reserved word.Bus ∷ ts) = Some Bus
 left_out_at (token.Reserved word.Template ∷ ts) = custom_at (codes "custom") ts

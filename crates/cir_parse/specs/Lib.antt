@@ -1,5 +1,8 @@
+pub mod Limits
 pub mod Front
 pub mod Reading
+pub mod Marking
+pub mod Marks
 pub mod Answers
 pub mod LeftOut
 pub mod Contract

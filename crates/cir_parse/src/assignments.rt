@@ -1,14 +1,18 @@
 //! Assignments and the other simple statements, as functions that read on.
 ghost use Rattle.std.specs.Prelude.{◌≡◌, ◌<◌, ◌^◌};
-ghost use Rattle.cir_ast.specs.Tree.{bare, bare_assign, bare_simple, place_accessors};
-ghost use Rattle.cir_expression.specs.Answers.{kinds, Reads};
-ghost use Rattle.cir_parse.specs.Reading.{compound_of, compound_at, operation, assignment, assign, place_of, equation, simple};
-ghost use Rattle.cir_parse.specs.Answers.{IsPlaceOf};
+ghost use Rattle.cir_ast.specs.Tree.{place_accessors};
+ghost use Rattle.cir_ast.specs.Plain.{plain_accessors};
+ghost use Rattle.cir_expression.specs.Answers.{kinds, Reads, seen};
+ghost use Rattle.cir_parse.specs.Reading.{compound_of, compound_at, operation, assignment, assign};
+ghost use Rattle.cir_parse.specs.Reading.{leftwards, rightwards, equation, written, simple};
+ghost use Rattle.cir_parse.specs.Answers.{seen_assign, seen_simple};
 
 use crate::declarations::{components, signals, variables};
-use cir_ast::tree::{Assign, Compound, Expr, Place, Simple, Vars};
+use crate::targets::{discarded, grouped, right_arrow, target};
+use cir_ast::Blank;
+use cir_ast::marked::{Arrow, Assign, Compound, Expr, Place, Simple, Source, Vars};
 use cir_expression::{Reader, Stop};
-use cir_lexer::{Reserved, Symbol, TokenKind};
+use cir_token::{Reserved, Symbol, TokenKind};
 use items::Items;
 use std::alloc::Global;
 
@@ -47,10 +51,16 @@ fn compound(reader: &Reader) -> Option<Compound>
 
 // What writes this place by a symbol that stands for an operation.
 #[tactic(auto, unfolding(crate::specs::Reading::operation))]
-fn operation(alloc: Global, reader: &mut Reader, room: u32, place: Place) -> Result<Assign, Stop>
+fn operation<N: Blank + Drop>(
+    alloc: Global,
+    reader: &mut Reader,
+    room: u32,
+    place: Place<N>,
+) -> Result<Assign<N>, Stop>
     requires { room < 2 ^ 16 }
-    ensures { Reads bare_assign result (kinds reader.new.rest.now)
-        (operation room place.name (place_accessors place) (kinds reader.old.rest.now)) }
+    ensures { Reads seen_assign result (kinds reader.new.rest.now)
+        (operation room place.name (plain_accessors (place_accessors place))
+        (kinds reader.old.rest.now)) }
 {
     if reader.begins(Symbol::PlusPlus) {
         reader.skip();
@@ -70,79 +80,152 @@ fn operation(alloc: Global, reader: &mut Reader, room: u32, place: Place) -> Res
 
 // What stands behind a written place.
 #[tactic(auto, unfolding(crate::specs::Reading::assignment))]
-fn assignment(alloc: Global, reader: &mut Reader, room: u32, place: Place) -> Result<Assign, Stop>
+fn assignment<N: Blank + Drop>(
+    alloc: Global,
+    reader: &mut Reader,
+    room: u32,
+    place: Place<N>,
+) -> Result<Assign<N>, Stop>
     requires { room < 2 ^ 16 }
-    ensures { Reads bare_assign result (kinds reader.new.rest.now)
-        (assignment room place.name (place_accessors place) (kinds reader.old.rest.now)) }
+    ensures { Reads seen_assign result (kinds reader.new.rest.now)
+        (assignment room place.name (plain_accessors (place_accessors place))
+        (kinds reader.old.rest.now)) }
 {
     if reader.begins(Symbol::Equal) {
         reader.skip();
         let value = reader.expression(alloc, room)?;
-        Ok(Assign::Set(place, value))
-    } else if reader.begins(Symbol::AssignLeft) {
-        reader.skip();
-        let value = reader.expression(alloc, room)?;
-        Ok(Assign::ArrowLeft(place, value))
-    } else if reader.begins(Symbol::ConstrainLeft) {
-        reader.skip();
-        let value = reader.expression(alloc, room)?;
-        Ok(Assign::ConstrainLeft(place, value))
-    } else {
-        operation(alloc, reader, room, place)
+        return Ok(Assign::Set(place, value));
     }
+    let Some(arrow) = reader.arrow() else {
+        let found = operation(alloc, reader, room, place)?;
+        return Ok(found);
+    };
+    reader.skip();
+    let value = reader.expression(alloc, room)?;
+    Ok(Assign::Left(place, arrow, value))
 }
 
 /// An assignment to a place.
 #[tactic(auto, unfolding(crate::specs::Reading::assign))]
-pub fn assign(alloc: Global, reader: &mut Reader, room: u32) -> Result<Assign, Stop>
+pub fn assign<N: Blank + Drop>(
+    alloc: Global,
+    reader: &mut Reader,
+    room: u32,
+) -> Result<Assign<N>, Stop>
     requires { room < 2 ^ 16 }
-    ensures { Reads bare_assign result (kinds reader.new.rest.now) (assign room (kinds reader.old.rest.now)) }
+    ensures { Reads seen_assign result (kinds reader.new.rest.now)
+        (assign room (kinds reader.old.rest.now)) }
 {
     let place = reader.place(alloc, room)?;
     let assign = assignment(alloc, reader, room, place)?;
     Ok(assign)
 }
 
-// What an assignment may write.
-fn place_of(left: Expr) -> Result<Place, Stop>
-    ensures { IsPlaceOf (place_of (bare left)) result }
+// What begins with an expression and goes on with no arrow to the right and no `===`.
+#[tactic(auto, unfolding(crate::specs::Reading::leftwards))]
+fn leftwards<N: Blank + Drop>(
+    alloc: Global,
+    reader: &mut Reader,
+    room: u32,
+    left: Expr<N>,
+) -> Result<Simple<N>, Stop>
+    requires { room < 2 ^ 16 }
+    ensures { Reads seen_simple result (kinds reader.new.rest.now)
+        (leftwards room (seen left) (kinds reader.old.rest.now)) }
 {
     match left {
-        Expr::Place(place) => Ok(place),
+        Expr::Place(place) => {
+            let assign = assignment(alloc, reader, room, place)?;
+            Ok(Simple::Assign(assign))
+        }
+        Expr::Anonymous(component) => Ok(Simple::Anonymous(component)),
         _ => Err(Stop::NoTree),
     }
 }
 
-// What stands behind the first expression of a statement.
-#[tactic(auto, unfolding(crate::specs::Reading::equation))]
-fn equation(alloc: Global, reader: &mut Reader, room: u32, left: Expr) -> Result<Simple, Stop>
+// Where a value goes: to a place or to a target.
+#[tactic(auto, unfolding(crate::specs::Reading::rightwards))]
+fn rightwards<N: Blank + Drop>(
+    alloc: Global,
+    reader: &mut Reader,
+    room: u32,
+    value: Expr<N>,
+    arrow: Arrow,
+) -> Result<Simple<N>, Stop>
     requires { room < 2 ^ 16 }
-    ensures { Reads bare_simple result (kinds reader.new.rest.now) (equation room (bare left) (kinds reader.old.rest.now)) }
+    ensures { Reads seen_simple result (kinds reader.new.rest.now)
+        (rightwards room (seen value) arrow (kinds reader.old.rest.now)) }
+{
+    if reader.begins_underscore() || reader.begins(Symbol::OpenParenthesis) {
+        let target = target(alloc, reader, room)?;
+        return Ok(Simple::TargetRight(Source::One(value), arrow, target));
+    }
+    let place = reader.place(alloc, room)?;
+    Ok(Simple::Right(value, arrow, place))
+}
+
+/// What stands behind the first expression of a statement.
+#[tactic(auto, unfolding(crate::specs::Reading::equation))]
+pub fn equation<N: Blank + Drop>(
+    alloc: Global,
+    reader: &mut Reader,
+    room: u32,
+    left: Expr<N>,
+) -> Result<Simple<N>, Stop>
+    requires { room < 2 ^ 16 }
+    ensures { Reads seen_simple result (kinds reader.new.rest.now)
+        (equation room (seen left) (kinds reader.old.rest.now)) }
 {
     if reader.begins(Symbol::Constrain) {
         reader.skip();
         let right = reader.expression(alloc, room)?;
-        Ok(Simple::Constrain(left, right))
-    } else if reader.begins(Symbol::AssignRight) {
-        reader.skip();
-        let place = reader.place(alloc, room)?;
-        Ok(Simple::ArrowRight(left, place))
-    } else if reader.begins(Symbol::ConstrainRight) {
-        reader.skip();
-        let place = reader.place(alloc, room)?;
-        Ok(Simple::ConstrainRight(left, place))
-    } else {
-        let place = place_of(left)?;
-        let assign = assignment(alloc, reader, room, place)?;
-        Ok(Simple::Assign(assign))
+        return Ok(Simple::Constrain(left, right));
     }
+    let Some(arrow) = right_arrow(reader) else {
+        let found = leftwards(alloc, reader, room, left)?;
+        return Ok(found);
+    };
+    reader.skip();
+    let found = rightwards(alloc, reader, room, left, arrow)?;
+    Ok(found)
+}
+
+// A simple statement that begins with no word of its own.
+#[tactic(auto, unfolding(crate::specs::Reading::written))]
+fn written<N: Blank + Drop>(
+    alloc: Global,
+    reader: &mut Reader,
+    room: u32,
+) -> Result<Simple<N>, Stop>
+    requires { room < 2 ^ 16 }
+    ensures { Reads seen_simple result (kinds reader.new.rest.now)
+        (written room (kinds reader.old.rest.now)) }
+{
+    if reader.begins_underscore() {
+        reader.skip();
+        let found = discarded(alloc, reader, room)?;
+        return Ok(found);
+    }
+    if reader.begins(Symbol::OpenParenthesis) {
+        reader.skip();
+        let found = grouped(alloc, reader, room)?;
+        return Ok(found);
+    }
+    let left = reader.expression(alloc, room)?;
+    let found = equation(alloc, reader, room, left)?;
+    Ok(found)
 }
 
 /// A simple statement, without its `;`.
 #[tactic(auto, unfolding(crate::specs::Reading::simple))]
-pub fn simple(alloc: Global, reader: &mut Reader, room: u32) -> Result<Simple, Stop>
+pub fn simple<N: Blank + Drop>(
+    alloc: Global,
+    reader: &mut Reader,
+    room: u32,
+) -> Result<Simple<N>, Stop>
     requires { room < 2 ^ 16 }
-    ensures { Reads bare_simple result (kinds reader.new.rest.now) (simple room (kinds reader.old.rest.now)) }
+    ensures { Reads seen_simple result (kinds reader.new.rest.now)
+        (simple room (kinds reader.old.rest.now)) }
 {
     if reader.begins_word(Reserved::Var) {
         reader.skip();
@@ -159,8 +242,7 @@ pub fn simple(alloc: Global, reader: &mut Reader, room: u32) -> Result<Simple, S
         let found = components(alloc, reader, room)?;
         Ok(found)
     } else {
-        let left = reader.expression(alloc, room)?;
-        let found = equation(alloc, reader, room, left)?;
+        let found = written(alloc, reader, room)?;
         Ok(found)
     }
 }

@@ -1,25 +1,28 @@
 //! Declarations, as functions that read on.
 ghost use Rattle.std.specs.Prelude.{◌<◌, ◌^◌, [], length, map};
-ghost use Rattle.cir_ast.specs.Tree.{bare, bare_value, bare_variable, bare_signal_value, bare_signal, bare_component, bare_simple};
 ghost use Rattle.cir_expression.specs.Front.{name_at};
 ghost use Rattle.cir_expression.specs.Reading.{expression};
-ghost use Rattle.cir_expression.specs.Answers.{kinds, Reads};
+ghost use Rattle.cir_expression.specs.Answers.{kinds, Reads, seen};
+ghost use Rattle.cir_parse.specs.Answers.{seen_value, seen_variable, seen_signal_value};
+ghost use Rattle.cir_parse.specs.Answers.{seen_signal, seen_component, seen_simple};
 ghost use Rattle.cir_parse.specs.Front.{separated, separated_by};
-ghost use Rattle.cir_parse.specs.Reading.{dimensions, dimensions_by, value, variable, signal_value, signal, component, signals, components};
+ghost use Rattle.cir_parse.specs.Reading.{dimensions, dimensions_by, value, variable, signal_value};
+ghost use Rattle.cir_parse.specs.Reading.{signal, component, signals, components};
 
-use cir_ast::Text;
-use cir_ast::tree::{
+use cir_ast::marked::{
     Components, DeclaredComponent, DeclaredSignal, DeclaredVariable, Direction, Expr, SignalValue,
     Signals, Simple,
 };
+use cir_ast::{Blank, Text};
 use cir_expression::{Reader, Stop};
-use cir_lexer::{Reserved, Symbol};
+use cir_token::{Reserved, Symbol};
 use items::Items;
 use std::alloc::Global;
 
 /// One name or more, with commas between them.
 pub fn names(alloc: Global, reader: &mut Reader) -> Result<Vec<Text>, Stop>
-    ensures { Reads (λ v. v.items) result (kinds reader.new.rest.now) (separated name_at (kinds reader.old.rest.now)) }
+    ensures { Reads (λ v. v.items) result (kinds reader.new.rest.now)
+        (separated name_at (kinds reader.old.rest.now)) }
 {
     let mut names = Vec::new(alloc);
     for _ in 0..reader.rest.len() {
@@ -34,9 +37,14 @@ pub fn names(alloc: Global, reader: &mut Reader) -> Result<Vec<Text>, Stop>
 }
 
 // Expressions, each in brackets.
-fn dimensions(alloc: Global, reader: &mut Reader, room: u32) -> Result<Vec<Expr>, Stop>
+fn dimensions<N: Blank + Drop>(
+    alloc: Global,
+    reader: &mut Reader,
+    room: u32,
+) -> Result<Vec<Expr<N>>, Stop>
     requires { room < 2 ^ 16 }
-    ensures { Reads (λ v. map bare v.items) result (kinds reader.new.rest.now) (dimensions room (kinds reader.old.rest.now)) }
+    ensures { Reads (λ v. map seen v.items) result (kinds reader.new.rest.now)
+        (dimensions room (kinds reader.old.rest.now)) }
 {
     let mut dimensions = Vec::new(alloc);
     for _ in 0..reader.rest.len() {
@@ -52,9 +60,14 @@ fn dimensions(alloc: Global, reader: &mut Reader, room: u32) -> Result<Vec<Expr>
 }
 
 // `=` and what a variable is given, or nothing.
-fn value(alloc: Global, reader: &mut Reader, room: u32) -> Result<Option<Expr>, Stop>
+fn value<N: Blank + Drop>(
+    alloc: Global,
+    reader: &mut Reader,
+    room: u32,
+) -> Result<Option<Expr<N>>, Stop>
     requires { room < 2 ^ 16 }
-    ensures { Reads bare_value result (kinds reader.new.rest.now) (value room (kinds reader.old.rest.now)) }
+    ensures { Reads seen_value result (kinds reader.new.rest.now)
+        (value room (kinds reader.old.rest.now)) }
 {
     if !reader.begins(Symbol::Equal) {
         return Ok(None);
@@ -65,28 +78,34 @@ fn value(alloc: Global, reader: &mut Reader, room: u32) -> Result<Option<Expr>, 
 }
 
 #[tactic(auto, unfolding(crate::specs::Reading::variable))]
-fn variable(alloc: Global, reader: &mut Reader, room: u32) -> Result<DeclaredVariable, Stop>
+fn variable<N: Blank + Drop>(
+    alloc: Global,
+    reader: &mut Reader,
+    room: u32,
+) -> Result<DeclaredVariable<N>, Stop>
     requires { room < 2 ^ 16 }
-    ensures { Reads bare_variable result (kinds reader.new.rest.now) (variable room (kinds reader.old.rest.now)) }
+    ensures { Reads seen_variable result (kinds reader.new.rest.now)
+        (variable room (kinds reader.old.rest.now)) }
 {
     let name = reader.name(alloc)?;
     let dimensions = dimensions(alloc, reader, room)?;
     let value = value(alloc, reader, room)?;
     Ok(DeclaredVariable {
         name,
+        meant: N::blank(),
         dimensions: Items::of(dimensions),
         value,
     })
 }
 
 /// One variable or more, with commas between them.
-pub fn variables(
+pub fn variables<N: Blank + Drop>(
     alloc: Global,
     reader: &mut Reader,
     room: u32,
-) -> Result<Vec<DeclaredVariable>, Stop>
+) -> Result<Vec<DeclaredVariable<N>>, Stop>
     requires { room < 2 ^ 16 }
-    ensures { Reads (λ v. map bare_variable v.items) result (kinds reader.new.rest.now)
+    ensures { Reads (λ v. map seen_variable v.items) result (kinds reader.new.rest.now)
         (separated (variable room) (kinds reader.old.rest.now)) }
 {
     let mut variables = Vec::new(alloc);
@@ -101,42 +120,52 @@ pub fn variables(
     Err(Stop::NoTree)
 }
 
-fn signal_value(alloc: Global, reader: &mut Reader, room: u32) -> Result<SignalValue, Stop>
+fn signal_value<N: Blank + Drop>(
+    alloc: Global,
+    reader: &mut Reader,
+    room: u32,
+) -> Result<SignalValue<N>, Stop>
     requires { room < 2 ^ 16 }
-    ensures { Reads bare_signal_value result (kinds reader.new.rest.now) (signal_value room (kinds reader.old.rest.now)) }
+    ensures { Reads seen_signal_value result (kinds reader.new.rest.now)
+        (signal_value room (kinds reader.old.rest.now)) }
 {
-    if reader.begins(Symbol::AssignLeft) {
-        reader.skip();
-        let value = reader.expression(alloc, room)?;
-        Ok(SignalValue::Arrow(value))
-    } else if reader.begins(Symbol::ConstrainLeft) {
-        reader.skip();
-        let value = reader.expression(alloc, room)?;
-        Ok(SignalValue::Constrain(value))
-    } else {
-        Ok(SignalValue::Nothing)
-    }
+    let Some(arrow) = reader.arrow() else {
+        return Ok(SignalValue::Nothing);
+    };
+    reader.skip();
+    let value = reader.expression(alloc, room)?;
+    Ok(SignalValue::Given(arrow, value))
 }
 
 #[tactic(auto, unfolding(crate::specs::Reading::signal))]
-fn signal(alloc: Global, reader: &mut Reader, room: u32) -> Result<DeclaredSignal, Stop>
+fn signal<N: Blank + Drop>(
+    alloc: Global,
+    reader: &mut Reader,
+    room: u32,
+) -> Result<DeclaredSignal<N>, Stop>
     requires { room < 2 ^ 16 }
-    ensures { Reads bare_signal result (kinds reader.new.rest.now) (signal room (kinds reader.old.rest.now)) }
+    ensures { Reads seen_signal result (kinds reader.new.rest.now)
+        (signal room (kinds reader.old.rest.now)) }
 {
     let name = reader.name(alloc)?;
     let dimensions = dimensions(alloc, reader, room)?;
     let value = signal_value(alloc, reader, room)?;
     Ok(DeclaredSignal {
         name,
+        meant: N::blank(),
         dimensions: Items::of(dimensions),
         value,
     })
 }
 
 // One signal or more, with commas between them.
-fn signal_list(alloc: Global, reader: &mut Reader, room: u32) -> Result<Vec<DeclaredSignal>, Stop>
+fn signal_list<N: Blank + Drop>(
+    alloc: Global,
+    reader: &mut Reader,
+    room: u32,
+) -> Result<Vec<DeclaredSignal<N>>, Stop>
     requires { room < 2 ^ 16 }
-    ensures { Reads (λ v. map bare_signal v.items) result (kinds reader.new.rest.now)
+    ensures { Reads (λ v. map seen_signal v.items) result (kinds reader.new.rest.now)
         (separated (signal room) (kinds reader.old.rest.now)) }
 {
     let mut signals = Vec::new(alloc);
@@ -153,9 +182,14 @@ fn signal_list(alloc: Global, reader: &mut Reader, room: u32) -> Result<Vec<Decl
 
 /// What stands behind `signal`.
 #[tactic(auto, unfolding(crate::specs::Reading::signals))]
-pub fn signals(alloc: Global, reader: &mut Reader, room: u32) -> Result<Simple, Stop>
+pub fn signals<N: Blank + Drop>(
+    alloc: Global,
+    reader: &mut Reader,
+    room: u32,
+) -> Result<Simple<N>, Stop>
     requires { room < 2 ^ 16 }
-    ensures { Reads bare_simple result (kinds reader.new.rest.now) (signals room (kinds reader.old.rest.now)) }
+    ensures { Reads seen_simple result (kinds reader.new.rest.now)
+        (signals room (kinds reader.old.rest.now)) }
 {
     let direction = if reader.begins_word(Reserved::Input) {
         reader.skip();
@@ -174,26 +208,32 @@ pub fn signals(alloc: Global, reader: &mut Reader, room: u32) -> Result<Simple, 
 }
 
 #[tactic(auto, unfolding(crate::specs::Reading::component))]
-fn component(alloc: Global, reader: &mut Reader, room: u32) -> Result<DeclaredComponent, Stop>
+fn component<N: Blank + Drop>(
+    alloc: Global,
+    reader: &mut Reader,
+    room: u32,
+) -> Result<DeclaredComponent<N>, Stop>
     requires { room < 2 ^ 16 }
-    ensures { Reads bare_component result (kinds reader.new.rest.now) (component room (kinds reader.old.rest.now)) }
+    ensures { Reads seen_component result (kinds reader.new.rest.now)
+        (component room (kinds reader.old.rest.now)) }
 {
     let name = reader.name(alloc)?;
     let dimensions = dimensions(alloc, reader, room)?;
     Ok(DeclaredComponent {
         name,
+        meant: N::blank(),
         dimensions: Items::of(dimensions),
     })
 }
 
 // One component or more without a template, with commas between them.
-fn component_list(
+fn component_list<N: Blank + Drop>(
     alloc: Global,
     reader: &mut Reader,
     room: u32,
-) -> Result<Vec<DeclaredComponent>, Stop>
+) -> Result<Vec<DeclaredComponent<N>>, Stop>
     requires { room < 2 ^ 16 }
-    ensures { Reads (λ v. map bare_component v.items) result (kinds reader.new.rest.now)
+    ensures { Reads (λ v. map seen_component v.items) result (kinds reader.new.rest.now)
         (separated (component room) (kinds reader.old.rest.now)) }
 {
     let mut components = Vec::new(alloc);
@@ -210,9 +250,14 @@ fn component_list(
 
 /// What stands behind `component`.
 #[tactic(auto, unfolding(crate::specs::Reading::components))]
-pub fn components(alloc: Global, reader: &mut Reader, room: u32) -> Result<Simple, Stop>
+pub fn components<N: Blank + Drop>(
+    alloc: Global,
+    reader: &mut Reader,
+    room: u32,
+) -> Result<Simple<N>, Stop>
     requires { room < 2 ^ 16 }
-    ensures { Reads bare_simple result (kinds reader.new.rest.now) (components room (kinds reader.old.rest.now)) }
+    ensures { Reads seen_simple result (kinds reader.new.rest.now)
+        (components room (kinds reader.old.rest.now)) }
 {
     let mut ahead = *reader;
     let name = ahead.name(alloc)?;
@@ -220,7 +265,7 @@ pub fn components(alloc: Global, reader: &mut Reader, room: u32) -> Result<Simpl
         ahead.skip();
         let value = ahead.expression(alloc, room)?;
         *reader = ahead;
-        return Ok(Simple::Components(Components::Created(name, value)));
+        return Ok(Simple::Components(Components::Created(name, N::blank(), value)));
     }
     let components = component_list(alloc, reader, room)?;
     Ok(Simple::Components(Components::Declared(Items::of(components))))

@@ -1,23 +1,30 @@
 //! Items, as functions that read on.
 ghost use Rattle.std.specs.Prelude.{◌<◌, ◌^◌};
-ghost use Rattle.cir_lexer.specs.declared.token.Symbol.TheVariants.{Equal, Semicolon, OpenBracket, CloseBracket};
-ghost use Rattle.cir_ast.specs.Tree.{bare_item, Include as IncludeTree};
+ghost use Rattle.cir_token.specs.declared.token.Symbol.TheVariants.{Equal, Semicolon, OpenBracket};
+ghost use Rattle.cir_token.specs.declared.token.Symbol.TheVariants.{CloseBracket};
+ghost use Rattle.cir_ast.specs.Tree.{Include as IncludeTree};
 ghost use Rattle.cir_expression.specs.Front.{name_at};
-ghost use Rattle.cir_expression.specs.Answers.{kinds, Reads, Passes};
+ghost use Rattle.cir_expression.specs.Answers.{kinds, Reads, Takes, Passes};
+ghost use Rattle.cir_parse.specs.Answers.{seen_item};
 ghost use Rattle.cir_parse.specs.Front.{after, closed, made, separated, number_at, words_at};
-ghost use Rattle.cir_parse.specs.Reading.{parameters, language_at, pragma, template, function, public_names, instance, main, item};
+ghost use Rattle.cir_parse.specs.Reading.{parameters, language_at, pragma, template, function};
+ghost use Rattle.cir_parse.specs.Reading.{public_names, instance, main, item};
 
 use crate::declarations::names;
+use crate::marks::Marks;
 use crate::statements::{block, words};
-use cir_ast::Text;
-use cir_ast::tree::{Block, Definition, Function, Include, Item, Main, Pragma, Template};
+use cir_ast::marked::{
+    Block, Definition, Function, Include, Item, ItemForm, Main, Pragma, Template,
+};
+use cir_ast::{Blank, Text};
 use cir_expression::{Reader, Stop};
-use cir_lexer::{Reserved, Symbol, TokenKind};
+use cir_token::{Reserved, Symbol, TokenKind};
 use items::Items;
 use std::alloc::Global;
 
 fn number(reader: &mut Reader) -> Result<u128, Stop>
-    ensures { Reads (λ n. n) result (kinds reader.new.rest.now) (number_at (kinds reader.old.rest.now)) }
+    ensures { Takes (λ n. n) result (kinds reader.new.rest.now)
+        (number_at (kinds reader.old.rest.now)) }
 {
     let Some((token, rest)) = reader.rest.split_first() else {
         return Err(Stop::NoTree);
@@ -33,7 +40,8 @@ fn number(reader: &mut Reader) -> Result<u128, Stop>
 
 // A number and this symbol.
 fn number_and(reader: &mut Reader, symbol: Symbol) -> Result<u128, Stop>
-    ensures { Reads (λ n. n) result (kinds reader.new.rest.now) (closed symbol (number_at (kinds reader.old.rest.now))) }
+    ensures { Takes (λ n. n) result (kinds reader.new.rest.now)
+        (closed symbol (number_at (kinds reader.old.rest.now))) }
 {
     let n = number(reader)?;
     reader.behind(symbol)?;
@@ -61,24 +69,27 @@ fn language(reader: &mut Reader) -> Result<(), Stop>
 
 // What stands behind `pragma`.
 #[tactic(auto, unfolding(crate::specs::Reading::pragma))]
-fn pragma(reader: &mut Reader) -> Result<Item, Stop>
-    ensures { Reads bare_item result (kinds reader.new.rest.now) (pragma (kinds reader.old.rest.now)) }
+fn pragma<S: Drop, N: Drop>(spot: S, reader: &mut Reader) -> Result<Item<S, N>, Stop>
+    ensures { Takes seen_item result (kinds reader.new.rest.now)
+        (pragma spot (kinds reader.old.rest.now)) }
 {
     language(reader)?;
     let major = number_and(reader, Symbol::Dot)?;
     let minor = number_and(reader, Symbol::Dot)?;
     let patch = number_and(reader, Symbol::Semicolon)?;
-    Ok(Item::Pragma(Pragma {
+    let form = ItemForm::Pragma(Pragma {
         major,
         minor,
         patch,
-    }))
+    });
+    Ok(Item { spot, form })
 }
 
 // The parentheses behind the name of a definition.
 #[tactic(auto, unfolding(crate::specs::Reading::parameters))]
 fn parameters(alloc: Global, reader: &mut Reader) -> Result<Vec<Text>, Stop>
-    ensures { Reads (λ v. v.items) result (kinds reader.new.rest.now) (parameters (kinds reader.old.rest.now)) }
+    ensures { Reads (λ v. v.items) result (kinds reader.new.rest.now)
+        (parameters (kinds reader.old.rest.now)) }
 {
     reader.behind(Symbol::OpenParenthesis)?;
     if reader.begins(Symbol::CloseParenthesis) {
@@ -92,35 +103,52 @@ fn parameters(alloc: Global, reader: &mut Reader) -> Result<Vec<Text>, Stop>
 
 // What stands behind `template`.
 #[tactic(auto, unfolding(crate::specs::Reading::template))]
-fn template(alloc: Global, reader: &mut Reader, room: u32, parallel: bool) -> Result<Item, Stop>
+fn template<S: Drop, N: Blank + Drop, M: Marks<S>>(
+    alloc: Global,
+    marks: &M,
+    spot: S,
+    reader: &mut Reader,
+    room: u32,
+    parallel: bool,
+) -> Result<Item<S, N>, Stop>
     requires { room < 2 ^ 16 }
-    ensures { Reads bare_item result (kinds reader.new.rest.now) (template room parallel (kinds reader.old.rest.now)) }
+    ensures { Reads seen_item result (kinds reader.new.rest.now)
+        (template (M.mark marks.now) spot room parallel (kinds reader.old.rest.now)) }
 {
     let name = reader.name(alloc)?;
     let parameters = parameters(alloc, reader)?;
-    let body = block(alloc, reader, room)?;
-    Ok(Item::Definition(Definition::Template(Template {
+    let body = block(alloc, marks, reader, room)?;
+    let form = ItemForm::Definition(Definition::Template(Template {
         parallel,
         name,
         parameters: Items::of(parameters),
         body: Block::of(Items::of(body)),
-    })))
+    }));
+    Ok(Item { spot, form })
 }
 
 // What stands behind `function`.
 #[tactic(auto, unfolding(crate::specs::Reading::function))]
-fn function(alloc: Global, reader: &mut Reader, room: u32) -> Result<Item, Stop>
+fn function<S: Drop, N: Blank + Drop, M: Marks<S>>(
+    alloc: Global,
+    marks: &M,
+    spot: S,
+    reader: &mut Reader,
+    room: u32,
+) -> Result<Item<S, N>, Stop>
     requires { room < 2 ^ 16 }
-    ensures { Reads bare_item result (kinds reader.new.rest.now) (function room (kinds reader.old.rest.now)) }
+    ensures { Reads seen_item result (kinds reader.new.rest.now)
+        (function (M.mark marks.now) spot room (kinds reader.old.rest.now)) }
 {
     let name = reader.name(alloc)?;
     let parameters = parameters(alloc, reader)?;
-    let body = block(alloc, reader, room)?;
-    Ok(Item::Definition(Definition::Function(Function {
+    let body = block(alloc, marks, reader, room)?;
+    let form = ItemForm::Definition(Definition::Function(Function {
         name,
         parameters: Items::of(parameters),
         body: Block::of(Items::of(body)),
-    })))
+    }));
+    Ok(Item { spot, form })
 }
 
 // One name or more in brackets.
@@ -137,7 +165,8 @@ fn bracketed_names(alloc: Global, reader: &mut Reader) -> Result<Vec<Text>, Stop
 // The public inputs, or none where they aren't written.
 #[tactic(auto, unfolding(crate::specs::Reading::public_names))]
 fn public_names(alloc: Global, reader: &mut Reader) -> Result<Vec<Text>, Stop>
-    ensures { Reads (λ v. v.items) result (kinds reader.new.rest.now) (public_names (kinds reader.old.rest.now)) }
+    ensures { Reads (λ v. v.items) result (kinds reader.new.rest.now)
+        (public_names (kinds reader.old.rest.now)) }
 {
     if !reader.begins(Symbol::OpenBrace) {
         return Ok(Vec::new(alloc));
@@ -151,7 +180,8 @@ fn public_names(alloc: Global, reader: &mut Reader) -> Result<Vec<Text>, Stop>
 
 // `=` and a name.
 fn equal_name(alloc: Global, reader: &mut Reader) -> Result<Text, Stop>
-    ensures { Reads (λ x. x) result (kinds reader.new.rest.now) (after Equal name_at (kinds reader.old.rest.now)) }
+    ensures { Reads (λ x. x) result (kinds reader.new.rest.now)
+        (after Equal name_at (kinds reader.old.rest.now)) }
 {
     reader.behind(Symbol::Equal)?;
     let name = reader.name(alloc)?;
@@ -160,69 +190,97 @@ fn equal_name(alloc: Global, reader: &mut Reader) -> Result<Text, Stop>
 
 // What stands behind the public inputs: `=`, a template's name and its arguments, and `;`.
 #[tactic(auto, unfolding(crate::specs::Reading::instance))]
-fn instance(alloc: Global, reader: &mut Reader, room: u32, public: Vec<Text>) -> Result<Item, Stop>
+fn instance<S: Drop, N: Blank + Drop>(
+    alloc: Global,
+    spot: S,
+    reader: &mut Reader,
+    room: u32,
+    public: Vec<Text>,
+) -> Result<Item<S, N>, Stop>
     requires { room < 2 ^ 16 }
-    ensures { Reads bare_item result (kinds reader.new.rest.now) (instance room public.items (kinds reader.old.rest.now)) }
+    ensures { Reads seen_item result (kinds reader.new.rest.now)
+        (instance spot room public.items (kinds reader.old.rest.now)) }
 {
     let template = equal_name(alloc, reader)?;
     reader.behind(Symbol::OpenParenthesis)?;
     let arguments = reader.arguments(alloc, room)?;
     reader.behind(Symbol::Semicolon)?;
-    Ok(Item::Main(Main {
+    let form = ItemForm::Main(Main {
         public: Items::of(public),
         template,
+        meant: N::blank(),
         arguments: Items::of(arguments),
-    }))
+    });
+    Ok(Item { spot, form })
 }
 
 // What stands behind `component` in an item.
 #[tactic(auto, unfolding(crate::specs::Reading::main))]
-fn main(alloc: Global, reader: &mut Reader, room: u32) -> Result<Item, Stop>
+fn main<S: Drop, N: Blank + Drop>(
+    alloc: Global,
+    spot: S,
+    reader: &mut Reader,
+    room: u32,
+) -> Result<Item<S, N>, Stop>
     requires { room < 2 ^ 16 }
-    ensures { Reads bare_item result (kinds reader.new.rest.now) (main room (kinds reader.old.rest.now)) }
+    ensures { Reads seen_item result (kinds reader.new.rest.now)
+        (main spot room (kinds reader.old.rest.now)) }
 {
     reader.behind_word(Reserved::Main)?;
     let public = public_names(alloc, reader)?;
-    let main = instance(alloc, reader, room, public)?;
+    let main = instance(alloc, spot, reader, room, public)?;
     Ok(main)
 }
 
 // `include "name";`, behind its word.
-fn include(alloc: Global, reader: &mut Reader) -> Result<Item, Stop>
-    ensures { Reads bare_item result (kinds reader.new.rest.now) (made IncludeTree (closed Semicolon (words_at (kinds reader.old.rest.now)))) }
+fn include<S: Drop, N: Drop>(
+    alloc: Global,
+    spot: S,
+    reader: &mut Reader,
+) -> Result<Item<S, N>, Stop>
+    ensures { Reads seen_item result (kinds reader.new.rest.now)
+        (made (IncludeTree spot) (closed Semicolon (words_at (kinds reader.old.rest.now)))) }
 {
     let name = words(alloc, reader)?;
     reader.behind(Symbol::Semicolon)?;
-    Ok(Item::Include(Include { name }))
+    let form = ItemForm::Include(Include { name });
+    Ok(Item { spot, form })
 }
 
 /// An item that is at most this high.
 #[tactic(auto, unfolding(crate::specs::Reading::item))]
-pub fn item(alloc: Global, reader: &mut Reader, room: u32) -> Result<Item, Stop>
+pub fn item<S: Drop, N: Blank + Drop, M: Marks<S>>(
+    alloc: Global,
+    marks: &M,
+    reader: &mut Reader,
+    room: u32,
+) -> Result<Item<S, N>, Stop>
     requires { room < 2 ^ 16 }
-    ensures { Reads bare_item result (kinds reader.new.rest.now) (item room (kinds reader.old.rest.now)) }
+    ensures { Reads seen_item result (kinds reader.new.rest.now)
+        (item (M.mark marks.now) room (kinds reader.old.rest.now)) }
 {
     if room == 0 {
         return Err(Stop::NoTree);
     }
+    let spot = marks.mark(reader.rest);
     if reader.begins_word(Reserved::Pragma) {
         reader.skip();
-        pragma(reader)
+        pragma(spot, reader)
     } else if reader.begins_word(Reserved::Include) {
         reader.skip();
-        include(alloc, reader)
+        include(alloc, spot, reader)
     } else if reader.begins_word(Reserved::Template) {
         reader.skip();
         let parallel = reader.begins_word(Reserved::Parallel);
         if parallel {
             reader.skip();
         }
-        template(alloc, reader, room - 1, parallel)
+        template(alloc, marks, spot, reader, room - 1, parallel)
     } else if reader.begins_word(Reserved::Function) {
         reader.skip();
-        function(alloc, reader, room - 1)
+        function(alloc, marks, spot, reader, room - 1)
     } else {
         reader.behind_word(Reserved::Component)?;
-        main(alloc, reader, room - 1)
+        main(alloc, spot, reader, room - 1)
     }
 }

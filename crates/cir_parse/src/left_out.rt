@@ -5,7 +5,7 @@ ghost use Rattle.cir_parse.specs.LeftOut.{custom_at, tag_at, left_out_at, first_
 
 use cir_ast::Form;
 use cir_expression::Reader;
-use cir_lexer::{Reserved, Symbol, Token, TokenKind};
+use cir_token::{Reserved, Symbol, Token, TokenKind};
 
 // This name, which makes a custom template.
 fn custom(word: &[u8], tokens: &[Token]) -> Option<Form>

@@ -8,8 +8,11 @@ mod item;
 pub mod laws;
 mod left_out;
 mod making;
+mod marks;
 mod parsing;
 mod statements;
+mod targets;
 
 pub use fault::{MAX_HEIGHT, ParseFault};
-pub use parsing::parse;
+pub use marks::{Marks, Nothing, Spots};
+pub use parsing::{parse, parse_marked};

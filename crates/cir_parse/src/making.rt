@@ -1,80 +1,116 @@
 //! Statements around others, on the heap, so that only pointers are alive while the parts are read.
 ghost use Rattle.std.specs.Prelude.{◌≡◌, ◌++◌, ◌∷◌, [], map, IfOk, OnOk};
-ghost use Rattle.cir_ast.specs.Tree.{bare, bare_first, bare_assign, bare_statement, as_statements, Block, If, IfElse, While, For};
+ghost use Rattle.cir_ast.specs.Tree.{as_statements, Block, If, IfElse, While, For};
+ghost use Rattle.cir_expression.specs.Answers.{seen};
+ghost use Rattle.cir_parse.specs.Answers.{seen_first, seen_assign, seen_statement};
 
-use cir_ast::tree::{Assign, Expr, First, Statement};
+use cir_ast::marked::{Expr, First, Statement, StatementForm, Step};
 use items::Items;
 use std::alloc::{AllocError, Global};
 
 /// What stands in the parentheses of a `for`.
 #[derive(Drop)]
-pub struct Head {
-    pub first: First,
-    pub condition: Expr,
-    pub step: Assign,
+pub struct Head<S, N> {
+    pub first: First<S, N>,
+    pub condition: Expr<N>,
+    pub step: Step<S, N>,
+}
+
+/// An `if` and its chosen statement, before an `else` is looked for.
+#[derive(Drop)]
+pub struct Chosen<S, N> {
+    pub spot: S,
+    pub condition: Box<Expr<N>>,
+    pub chosen: Box<Statement<S, N>>,
 }
 
 /// Puts a statement behind the others.
-pub fn add(statements: &mut Vec<Statement>, statement: Box<Statement>) -> Result<(), AllocError>
+pub fn add<S: Drop, N: Drop>(
+    statements: &mut Vec<Statement<S, N>>,
+    statement: Box<Statement<S, N>>,
+) -> Result<(), AllocError>
     ensures { OnOk result (statements.new.items ≡ statements.old.items ++ statement.value ∷ []) }
 {
     statements.push(Box::into_inner(statement))?;
     Ok(())
 }
 
-pub fn block_of(alloc: Global, statements: Vec<Statement>) -> Result<Box<Statement>, AllocError>
-    ensures { IfOk result (λ s. bare_statement s.value ≡ Block (as_statements (map bare_statement statements.items))) }
+pub fn block_of<S: Drop, N: Drop>(
+    alloc: Global,
+    spot: S,
+    statements: Vec<Statement<S, N>>,
+) -> Result<Box<Statement<S, N>>, AllocError>
+    ensures { IfOk result
+        (λ s. seen_statement s.value
+        ≡ Block spot (as_statements (map seen_statement statements.items))) }
 {
-    let block = Statement::block(Items::of(statements));
+    let block = Statement::block(spot, Items::of(statements));
     Ok(Box::new(alloc, block)?)
 }
 
-pub fn if_of(
+pub fn if_of<S: Drop, N: Drop>(
     alloc: Global,
-    condition: Box<Expr>,
-    chosen: Box<Statement>,
-) -> Result<Box<Statement>, AllocError>
-    ensures { IfOk result (λ s. bare_statement s.value ≡ If (bare condition.value) (bare_statement chosen.value)) }
+    found: Chosen<S, N>,
+) -> Result<Box<Statement<S, N>>, AllocError>
+    ensures { IfOk result (λ s. seen_statement s.value
+        ≡ If found.spot (seen found.condition.value) (seen_statement found.chosen.value)) }
 {
-    let statement = Statement::If(Box::into_inner(condition), chosen);
-    Ok(Box::new(alloc, statement)?)
+    let Chosen {
+        spot,
+        condition,
+        chosen,
+    } = found;
+    let form = StatementForm::If(Box::into_inner(condition), chosen);
+    Ok(Box::new(alloc, Statement { spot, form })?)
 }
 
-pub fn if_else_of(
+pub fn if_else_of<S: Drop, N: Drop>(
     alloc: Global,
-    condition: Box<Expr>,
-    chosen: Box<Statement>,
-    other: Box<Statement>,
-) -> Result<Box<Statement>, AllocError>
-    ensures { IfOk result (λ s. bare_statement s.value ≡ IfElse (bare condition.value) (bare_statement chosen.value) (bare_statement other.value)) }
+    found: Chosen<S, N>,
+    other: Box<Statement<S, N>>,
+) -> Result<Box<Statement<S, N>>, AllocError>
+    ensures { IfOk result (λ s. seen_statement s.value
+        ≡ IfElse found.spot (seen found.condition.value) (seen_statement found.chosen.value)
+        (seen_statement other.value)) }
 {
-    let statement = Statement::IfElse(Box::into_inner(condition), chosen, other);
-    Ok(Box::new(alloc, statement)?)
+    let Chosen {
+        spot,
+        condition,
+        chosen,
+    } = found;
+    let form = StatementForm::IfElse(Box::into_inner(condition), chosen, other);
+    Ok(Box::new(alloc, Statement { spot, form })?)
 }
 
-pub fn while_of(
+pub fn while_of<S: Drop, N: Drop>(
     alloc: Global,
-    condition: Box<Expr>,
-    body: Box<Statement>,
-) -> Result<Box<Statement>, AllocError>
-    ensures { IfOk result (λ s. bare_statement s.value ≡ While (bare condition.value) (bare_statement body.value)) }
+    spot: S,
+    condition: Box<Expr<N>>,
+    body: Box<Statement<S, N>>,
+) -> Result<Box<Statement<S, N>>, AllocError>
+    ensures { IfOk result
+        (λ s. seen_statement s.value
+        ≡ While spot (seen condition.value) (seen_statement body.value)) }
 {
-    let statement = Statement::While(Box::into_inner(condition), body);
-    Ok(Box::new(alloc, statement)?)
+    let form = StatementForm::While(Box::into_inner(condition), body);
+    Ok(Box::new(alloc, Statement { spot, form })?)
 }
 
-pub fn for_of(
+pub fn for_of<S: Drop, N: Drop>(
     alloc: Global,
-    head: Box<Head>,
-    body: Box<Statement>,
-) -> Result<Box<Statement>, AllocError>
-    ensures { IfOk result (λ s. bare_statement s.value ≡ For (bare_first head.value.first) (bare head.value.condition) (bare_assign head.value.step) (bare_statement body.value)) }
+    spot: S,
+    head: Box<Head<S, N>>,
+    body: Box<Statement<S, N>>,
+) -> Result<Box<Statement<S, N>>, AllocError>
+    ensures { let h = head.value in IfOk result (λ s. seen_statement s.value
+        ≡ For spot h.first.spot (seen_first h.first.form) (seen h.condition) h.step.spot
+        (seen_assign h.step.assign) (seen_statement body.value)) }
 {
     let Head {
         first,
         condition,
         step,
     } = Box::into_inner(head);
-    let statement = Statement::For(first, condition, step, body);
-    Ok(Box::new(alloc, statement)?)
+    let form = StatementForm::For(first, condition, step, body);
+    Ok(Box::new(alloc, Statement { spot, form })?)
 }

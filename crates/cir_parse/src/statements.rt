@@ -1,26 +1,33 @@
 //! Statements and blocks, as functions that read on.
 ghost use Rattle.std.specs.Prelude.{◌<◌, ◌^◌, ◌+◌, [], length, map};
-ghost use Rattle.cir_ast.specs.Tree.{bare, bare_assign, bare_first, bare_argument, bare_statement, Block, as_statements};
-ghost use Rattle.cir_expression.specs.Answers.{kinds, Reads};
-ghost use Rattle.cir_lexer.specs.declared.token.Symbol.TheVariants.{Semicolon, OpenParenthesis, CloseParenthesis};
+ghost use Rattle.cir_ast.specs.Tree.{Block, as_statements};
+ghost use Rattle.cir_expression.specs.Answers.{kinds, Reads, seen};
+ghost use Rattle.cir_token.specs.declared.token.Symbol.TheVariants.{Semicolon, OpenParenthesis};
+ghost use Rattle.cir_token.specs.declared.token.Symbol.TheVariants.{CloseParenthesis};
 ghost use Rattle.cir_expression.specs.Reading.{expression};
-ghost use Rattle.cir_parse.specs.Front.{after, closed, made, separated, optional, enclosed, words_at};
-ghost use Rattle.cir_parse.specs.Reading.{assign, first, condition, head, argument, plain, statement, statement_by, if_by, else_by, while_by, for_by, rest_by, block};
-ghost use Rattle.cir_parse.specs.Answers.{bare_head};
+ghost use Rattle.cir_parse.specs.Front.{after, closed, made, separated, optional, enclosed};
+ghost use Rattle.cir_parse.specs.Front.{words_at};
+ghost use Rattle.cir_parse.specs.Reading.{assign, first, condition, marked_by, head, argument};
+ghost use Rattle.cir_parse.specs.Reading.{returned, asserted, logged, simply, plain, statement};
+ghost use Rattle.cir_parse.specs.Reading.{if_by, else_by, while_by, for_by, rest_by, block};
+ghost use Rattle.cir_parse.specs.Answers.{seen_assign, seen_first, seen_argument, seen_head};
+ghost use Rattle.cir_parse.specs.Answers.{seen_statement};
 
 use crate::assignments::{assign, simple};
 use crate::declarations::variables;
-use crate::making::{Head, add, block_of, for_of, if_else_of, if_of, while_of};
-use cir_ast::Text;
-use cir_ast::tree::{Assign, Expr, First, LogArgument, Statement, Vars};
+use crate::making::{Chosen, Head, add, block_of, for_of, if_else_of, if_of, while_of};
+use crate::marks::Marks;
+use cir_ast::marked::{Expr, First, FirstForm, LogArgument, Statement, StatementForm, Step, Vars};
+use cir_ast::{Blank, Text};
 use cir_expression::{Reader, Stop};
-use cir_lexer::{Reserved, Symbol, TokenKind};
+use cir_token::{Reserved, Symbol, TokenKind};
 use items::Items;
 use std::alloc::Global;
 
 /// What stands between quotes.
 pub fn words(alloc: Global, reader: &mut Reader) -> Result<Text, Stop>
-    ensures { Reads (λ x. x) result (kinds reader.new.rest.now) (words_at (kinds reader.old.rest.now)) }
+    ensures { Reads (λ x. x) result (kinds reader.new.rest.now)
+        (words_at (kinds reader.old.rest.now)) }
 {
     let Some((token, rest)) = reader.rest.split_first() else {
         return Err(Stop::NoTree);
@@ -37,27 +44,37 @@ pub fn words(alloc: Global, reader: &mut Reader) -> Result<Text, Stop>
 
 // What the head of a `for` begins with.
 #[tactic(auto, unfolding(crate::specs::Reading::first))]
-fn first(alloc: Global, reader: &mut Reader, room: u32) -> Result<First, Stop>
+fn first_form<N: Blank + Drop>(
+    alloc: Global,
+    reader: &mut Reader,
+    room: u32,
+) -> Result<FirstForm<N>, Stop>
     requires { room < 2 ^ 16 }
-    ensures { Reads bare_first result (kinds reader.new.rest.now) (first room (kinds reader.old.rest.now)) }
+    ensures { Reads seen_first result (kinds reader.new.rest.now)
+        (first room (kinds reader.old.rest.now)) }
 {
     if reader.begins_word(Reserved::Var) {
         reader.skip();
         let variables = variables(alloc, reader, room)?;
-        Ok(First::Vars(Vars {
+        Ok(FirstForm::Vars(Vars {
             variables: Items::of(variables),
         }))
     } else {
         let assign = assign(alloc, reader, room)?;
-        Ok(First::Assign(assign))
+        Ok(FirstForm::Assign(assign))
     }
 }
 
 // An expression in parentheses.
 #[tactic(auto, unfolding(crate::specs::Reading::condition))]
-fn condition(alloc: Global, reader: &mut Reader, room: u32) -> Result<Expr, Stop>
+fn condition<N: Blank + Drop>(
+    alloc: Global,
+    reader: &mut Reader,
+    room: u32,
+) -> Result<Expr<N>, Stop>
     requires { room < 2 ^ 16 }
-    ensures { Reads bare result (kinds reader.new.rest.now) (condition room (kinds reader.old.rest.now)) }
+    ensures { Reads seen result (kinds reader.new.rest.now)
+        (condition room (kinds reader.old.rest.now)) }
 {
     reader.behind(Symbol::OpenParenthesis)?;
     let condition = reader.expression(alloc, room)?;
@@ -65,18 +82,24 @@ fn condition(alloc: Global, reader: &mut Reader, room: u32) -> Result<Expr, Stop
     Ok(condition)
 }
 
-fn condition_boxed(alloc: Global, reader: &mut Reader, room: u32) -> Result<Box<Expr>, Stop>
+fn condition_boxed<N: Blank + Drop>(
+    alloc: Global,
+    reader: &mut Reader,
+    room: u32,
+) -> Result<Box<Expr<N>>, Stop>
     requires { room < 2 ^ 16 }
-    ensures { Reads (λ e. bare e.value) result (kinds reader.new.rest.now) (condition room (kinds reader.old.rest.now)) }
+    ensures { Reads (λ e. seen e.value) result (kinds reader.new.rest.now)
+        (condition room (kinds reader.old.rest.now)) }
 {
     let condition = condition(alloc, reader, room)?;
     Ok(Box::new(alloc, condition)?)
 }
 
 // An expression and `;`.
-fn ended(alloc: Global, reader: &mut Reader, room: u32) -> Result<Expr, Stop>
+fn ended<N: Blank + Drop>(alloc: Global, reader: &mut Reader, room: u32) -> Result<Expr<N>, Stop>
     requires { room < 2 ^ 16 }
-    ensures { Reads bare result (kinds reader.new.rest.now) (closed Semicolon (expression room (kinds reader.old.rest.now))) }
+    ensures { Reads seen result (kinds reader.new.rest.now)
+        (closed Semicolon (expression room (kinds reader.old.rest.now))) }
 {
     let value = reader.expression(alloc, room)?;
     reader.behind(Symbol::Semicolon)?;
@@ -84,36 +107,58 @@ fn ended(alloc: Global, reader: &mut Reader, room: u32) -> Result<Expr, Stop>
 }
 
 // `(`, what the head of a `for` begins with, and `;`.
-fn opened(alloc: Global, reader: &mut Reader, room: u32) -> Result<First, Stop>
+fn opened<S: Drop, N: Blank + Drop, M: Marks<S>>(
+    alloc: Global,
+    marks: &M,
+    reader: &mut Reader,
+    room: u32,
+) -> Result<First<S, N>, Stop>
     requires { room < 2 ^ 16 }
-    ensures { Reads bare_first result (kinds reader.new.rest.now)
-        (closed Semicolon (after OpenParenthesis (first room) (kinds reader.old.rest.now))) }
+    ensures { Reads (λ f. (f.spot, seen_first f.form)) result (kinds reader.new.rest.now)
+        (closed Semicolon
+        (after OpenParenthesis (marked_by (M.mark marks.now) (first room))
+        (kinds reader.old.rest.now))) }
 {
     reader.behind(Symbol::OpenParenthesis)?;
-    let first = first(alloc, reader, room)?;
+    let spot = marks.mark(reader.rest);
+    let form = first_form(alloc, reader, room)?;
     reader.behind(Symbol::Semicolon)?;
-    Ok(first)
+    Ok(First { spot, form })
 }
 
 // An assignment and `)`.
-fn last(alloc: Global, reader: &mut Reader, room: u32) -> Result<Assign, Stop>
+fn last<S: Drop, N: Blank + Drop, M: Marks<S>>(
+    alloc: Global,
+    marks: &M,
+    reader: &mut Reader,
+    room: u32,
+) -> Result<Step<S, N>, Stop>
     requires { room < 2 ^ 16 }
-    ensures { Reads bare_assign result (kinds reader.new.rest.now) (closed CloseParenthesis (assign room (kinds reader.old.rest.now))) }
+    ensures { Reads (λ s. (s.spot, seen_assign s.assign)) result (kinds reader.new.rest.now)
+        (closed CloseParenthesis
+        (marked_by (M.mark marks.now) (assign room) (kinds reader.old.rest.now))) }
 {
-    let step = assign(alloc, reader, room)?;
+    let spot = marks.mark(reader.rest);
+    let assign = assign(alloc, reader, room)?;
     reader.behind(Symbol::CloseParenthesis)?;
-    Ok(step)
+    Ok(Step { spot, assign })
 }
 
 // The parentheses of a `for`.
 #[tactic(auto, unfolding(crate::specs::Reading::head))]
-fn head(alloc: Global, reader: &mut Reader, room: u32) -> Result<Head, Stop>
+fn head<S: Drop, N: Blank + Drop, M: Marks<S>>(
+    alloc: Global,
+    marks: &M,
+    reader: &mut Reader,
+    room: u32,
+) -> Result<Head<S, N>, Stop>
     requires { room < 2 ^ 16 }
-    ensures { Reads bare_head result (kinds reader.new.rest.now) (head room (kinds reader.old.rest.now)) }
+    ensures { Reads seen_head result (kinds reader.new.rest.now)
+        (head (M.mark marks.now) room (kinds reader.old.rest.now)) }
 {
-    let first = opened(alloc, reader, room)?;
+    let first = opened(alloc, marks, reader, room)?;
     let condition = ended(alloc, reader, room)?;
-    let step = last(alloc, reader, room)?;
+    let step = last(alloc, marks, reader, room)?;
     Ok(Head {
         first,
         condition,
@@ -121,18 +166,29 @@ fn head(alloc: Global, reader: &mut Reader, room: u32) -> Result<Head, Stop>
     })
 }
 
-fn head_boxed(alloc: Global, reader: &mut Reader, room: u32) -> Result<Box<Head>, Stop>
+fn head_boxed<S: Drop, N: Blank + Drop, M: Marks<S>>(
+    alloc: Global,
+    marks: &M,
+    reader: &mut Reader,
+    room: u32,
+) -> Result<Box<Head<S, N>>, Stop>
     requires { room < 2 ^ 16 }
-    ensures { Reads (λ h. bare_head h.value) result (kinds reader.new.rest.now) (head room (kinds reader.old.rest.now)) }
+    ensures { Reads (λ h. seen_head h.value) result (kinds reader.new.rest.now)
+        (head (M.mark marks.now) room (kinds reader.old.rest.now)) }
 {
-    let head = head(alloc, reader, room)?;
+    let head = head(alloc, marks, reader, room)?;
     Ok(Box::new(alloc, head)?)
 }
 
 #[tactic(auto, unfolding(crate::specs::Reading::argument))]
-fn argument(alloc: Global, reader: &mut Reader, room: u32) -> Result<LogArgument, Stop>
+fn argument<N: Blank + Drop>(
+    alloc: Global,
+    reader: &mut Reader,
+    room: u32,
+) -> Result<LogArgument<N>, Stop>
     requires { room < 2 ^ 16 }
-    ensures { Reads bare_argument result (kinds reader.new.rest.now) (argument room (kinds reader.old.rest.now)) }
+    ensures { Reads seen_argument result (kinds reader.new.rest.now)
+        (argument room (kinds reader.old.rest.now)) }
 {
     if room == 0 {
         return Err(Stop::NoTree);
@@ -152,9 +208,13 @@ fn argument(alloc: Global, reader: &mut Reader, room: u32) -> Result<LogArgument
 }
 
 // One argument or more, with commas between them.
-fn argument_list(alloc: Global, reader: &mut Reader, room: u32) -> Result<Vec<LogArgument>, Stop>
+fn argument_list<N: Blank + Drop>(
+    alloc: Global,
+    reader: &mut Reader,
+    room: u32,
+) -> Result<Vec<LogArgument<N>>, Stop>
     requires { room < 2 ^ 16 }
-    ensures { Reads (λ v. map bare_argument v.items) result (kinds reader.new.rest.now)
+    ensures { Reads (λ v. map seen_argument v.items) result (kinds reader.new.rest.now)
         (separated (argument room) (kinds reader.old.rest.now)) }
 {
     let mut arguments = Vec::new(alloc);
@@ -170,9 +230,13 @@ fn argument_list(alloc: Global, reader: &mut Reader, room: u32) -> Result<Vec<Lo
 }
 
 // The parentheses of a `log`.
-fn arguments(alloc: Global, reader: &mut Reader, room: u32) -> Result<Vec<LogArgument>, Stop>
+fn arguments<N: Blank + Drop>(
+    alloc: Global,
+    reader: &mut Reader,
+    room: u32,
+) -> Result<Vec<LogArgument<N>>, Stop>
     requires { room < 2 ^ 16 }
-    ensures { Reads (λ v. map bare_argument v.items) result (kinds reader.new.rest.now)
+    ensures { Reads (λ v. map seen_argument v.items) result (kinds reader.new.rest.now)
         (enclosed (optional (argument room)) (kinds reader.old.rest.now)) }
 {
     reader.behind(Symbol::OpenParenthesis)?;
@@ -185,85 +249,163 @@ fn arguments(alloc: Global, reader: &mut Reader, room: u32) -> Result<Vec<LogArg
     Ok(arguments)
 }
 
+// What stands behind `return`.
+fn returned<S: Drop, N: Blank + Drop>(
+    alloc: Global,
+    spot: S,
+    reader: &mut Reader,
+    room: u32,
+) -> Result<Box<Statement<S, N>>, Stop>
+    requires { room < 2 ^ 16 }
+    ensures { Reads (λ s. seen_statement s.value) result (kinds reader.new.rest.now)
+        (returned spot room (kinds reader.old.rest.now)) }
+{
+    let value = ended(alloc, reader, room)?;
+    let form = StatementForm::Return(value);
+    Ok(Box::new(alloc, Statement { spot, form })?)
+}
+
+// What stands behind `assert`.
+fn asserted<S: Drop, N: Blank + Drop>(
+    alloc: Global,
+    spot: S,
+    reader: &mut Reader,
+    room: u32,
+) -> Result<Box<Statement<S, N>>, Stop>
+    requires { room < 2 ^ 16 }
+    ensures { Reads (λ s. seen_statement s.value) result (kinds reader.new.rest.now)
+        (asserted spot room (kinds reader.old.rest.now)) }
+{
+    let condition = condition(alloc, reader, room)?;
+    reader.behind(Symbol::Semicolon)?;
+    let form = StatementForm::Assert(condition);
+    Ok(Box::new(alloc, Statement { spot, form })?)
+}
+
+// What stands behind `log`.
+fn logged<S: Drop, N: Blank + Drop>(
+    alloc: Global,
+    spot: S,
+    reader: &mut Reader,
+    room: u32,
+) -> Result<Box<Statement<S, N>>, Stop>
+    requires { room < 2 ^ 16 }
+    ensures { Reads (λ s. seen_statement s.value) result (kinds reader.new.rest.now)
+        (logged spot room (kinds reader.old.rest.now)) }
+{
+    let arguments = arguments(alloc, reader, room)?;
+    reader.behind(Symbol::Semicolon)?;
+    let form = StatementForm::Log(Items::of(arguments));
+    Ok(Box::new(alloc, Statement { spot, form })?)
+}
+
+// A simple statement and its `;`.
+fn simply<S: Drop, N: Blank + Drop>(
+    alloc: Global,
+    spot: S,
+    reader: &mut Reader,
+    room: u32,
+) -> Result<Box<Statement<S, N>>, Stop>
+    requires { room < 2 ^ 16 }
+    ensures { Reads (λ s. seen_statement s.value) result (kinds reader.new.rest.now)
+        (simply spot room (kinds reader.old.rest.now)) }
+{
+    let simple = simple(alloc, reader, room)?;
+    let form = StatementForm::Simple(simple);
+    let statement = Box::new(alloc, Statement { spot, form })?;
+    reader.behind(Symbol::Semicolon)?;
+    Ok(statement)
+}
+
 // A statement without one inside.
 #[tactic(auto, unfolding(crate::specs::Reading::plain))]
-fn plain(alloc: Global, reader: &mut Reader, room: u32) -> Result<Statement, Stop>
+fn plain<S: Drop, N: Blank + Drop>(
+    alloc: Global,
+    spot: S,
+    reader: &mut Reader,
+    room: u32,
+) -> Result<Box<Statement<S, N>>, Stop>
     requires { room < 2 ^ 16 }
-    ensures { Reads bare_statement result (kinds reader.new.rest.now) (plain room (kinds reader.old.rest.now)) }
+    ensures { Reads (λ s. seen_statement s.value) result (kinds reader.new.rest.now)
+        (plain spot room (kinds reader.old.rest.now)) }
 {
     if reader.begins_word(Reserved::Return) {
         reader.skip();
-        let value = ended(alloc, reader, room)?;
-        Ok(Statement::Return(value))
+        returned(alloc, spot, reader, room)
     } else if reader.begins_word(Reserved::Assert) {
         reader.skip();
-        let condition = condition(alloc, reader, room)?;
-        reader.behind(Symbol::Semicolon)?;
-        Ok(Statement::Assert(condition))
+        asserted(alloc, spot, reader, room)
     } else if reader.begins_word(Reserved::Log) {
         reader.skip();
-        let arguments = arguments(alloc, reader, room)?;
-        reader.behind(Symbol::Semicolon)?;
-        Ok(Statement::Log(Items::of(arguments)))
+        logged(alloc, spot, reader, room)
     } else {
-        let simple = simple(alloc, reader, room)?;
-        reader.behind(Symbol::Semicolon)?;
-        Ok(Statement::Simple(simple))
+        simply(alloc, spot, reader, room)
     }
-}
-
-fn plain_boxed(alloc: Global, reader: &mut Reader, room: u32) -> Result<Box<Statement>, Stop>
-    requires { room < 2 ^ 16 }
-    ensures { Reads (λ s. bare_statement s.value) result (kinds reader.new.rest.now) (plain room (kinds reader.old.rest.now)) }
-{
-    let statement = plain(alloc, reader, room)?;
-    Ok(Box::new(alloc, statement)?)
 }
 
 /// A statement that is at most this high.
 #[cycle(statements)]
 #[tactic(auto, unfolding(crate::specs::Reading::statement))]
-fn statement(alloc: Global, reader: &mut Reader, room: u32) -> Result<Box<Statement>, Stop>
+fn statement<S: Drop, N: Blank + Drop, M: Marks<S>>(
+    alloc: Global,
+    marks: &M,
+    reader: &mut Reader,
+    room: u32,
+) -> Result<Box<Statement<S, N>>, Stop>
     requires { room < 2 ^ 16 }
-    ensures { Reads (λ s. bare_statement s.value) result (kinds reader.new.rest.now) (statement room (kinds reader.old.rest.now)) }
+    ensures { Reads (λ s. seen_statement s.value) result (kinds reader.new.rest.now)
+        (statement (M.mark marks.now) room (kinds reader.old.rest.now)) }
 {
     if room == 0 {
         return Err(Stop::NoTree);
     }
+    let spot = marks.mark(reader.rest);
     if reader.begins(Symbol::OpenBrace) {
         reader.skip();
-        inner_block(alloc, reader, room - 1)
+        inner_block(alloc, marks, spot, reader, room - 1)
     } else if reader.begins_word(Reserved::If) {
         reader.skip();
-        if_statement(alloc, reader, room - 1)
+        if_statement(alloc, marks, spot, reader, room - 1)
     } else if reader.begins_word(Reserved::While) {
         reader.skip();
-        while_statement(alloc, reader, room - 1)
+        while_statement(alloc, marks, spot, reader, room - 1)
     } else if reader.begins_word(Reserved::For) {
         reader.skip();
-        for_statement(alloc, reader, room - 1)
+        for_statement(alloc, marks, spot, reader, room - 1)
     } else {
-        plain_boxed(alloc, reader, room - 1)
+        plain(alloc, spot, reader, room - 1)
     }
 }
 
 // What stands behind `{` in a statement.
 #[cycle(statements)]
-fn inner_block(alloc: Global, reader: &mut Reader, room: u32) -> Result<Box<Statement>, Stop>
+fn inner_block<S: Drop, N: Blank + Drop, M: Marks<S>>(
+    alloc: Global,
+    marks: &M,
+    spot: S,
+    reader: &mut Reader,
+    room: u32,
+) -> Result<Box<Statement<S, N>>, Stop>
     requires { room + 1 < 2 ^ 16 }
-    ensures { Reads (λ s. bare_statement s.value) result (kinds reader.new.rest.now)
-        (made (λ ss. Block (as_statements ss)) (rest_by (statement room) (kinds reader.old.rest.now))) }
+    ensures { Reads (λ s. seen_statement s.value) result (kinds reader.new.rest.now)
+        (made (λ ss. Block spot (as_statements ss))
+        (rest_by (statement (M.mark marks.now) room) (kinds reader.old.rest.now))) }
 {
-    let statements = rest_of_block(alloc, reader, room)?;
-    Ok(block_of(alloc, statements)?)
+    let statements = rest_of_block(alloc, marks, reader, room)?;
+    Ok(block_of(alloc, spot, statements)?)
 }
 
 // Statements, each at most this high, and `}`.
 #[cycle(statements)]
-fn rest_of_block(alloc: Global, reader: &mut Reader, room: u32) -> Result<Vec<Statement>, Stop>
+fn rest_of_block<S: Drop, N: Blank + Drop, M: Marks<S>>(
+    alloc: Global,
+    marks: &M,
+    reader: &mut Reader,
+    room: u32,
+) -> Result<Vec<Statement<S, N>>, Stop>
     requires { room + 1 < 2 ^ 16 }
-    ensures { Reads (λ v. map bare_statement v.items) result (kinds reader.new.rest.now)
-        (rest_by (statement room) (kinds reader.old.rest.now)) }
+    ensures { Reads (λ v. map seen_statement v.items) result (kinds reader.new.rest.now)
+        (rest_by (statement (M.mark marks.now) room) (kinds reader.old.rest.now)) }
 {
     let mut statements = Vec::new(alloc);
     for _ in 0..reader.rest.len() {
@@ -271,7 +413,7 @@ fn rest_of_block(alloc: Global, reader: &mut Reader, room: u32) -> Result<Vec<St
             reader.skip();
             return Ok(statements);
         }
-        let statement = statement(alloc, reader, room)?;
+        let statement = statement(alloc, marks, reader, room)?;
         add(&mut statements, statement)?;
     }
     Err(Stop::NoTree)
@@ -279,71 +421,103 @@ fn rest_of_block(alloc: Global, reader: &mut Reader, room: u32) -> Result<Vec<St
 
 // What stands behind `if`.
 #[cycle(statements)]
-fn if_statement(alloc: Global, reader: &mut Reader, room: u32) -> Result<Box<Statement>, Stop>
+fn if_statement<S: Drop, N: Blank + Drop, M: Marks<S>>(
+    alloc: Global,
+    marks: &M,
+    spot: S,
+    reader: &mut Reader,
+    room: u32,
+) -> Result<Box<Statement<S, N>>, Stop>
     requires { room + 1 < 2 ^ 16 }
-    ensures { Reads (λ s. bare_statement s.value) result (kinds reader.new.rest.now)
-        (if_by room (statement room) (kinds reader.old.rest.now)) }
+    ensures { Reads (λ s. seen_statement s.value) result (kinds reader.new.rest.now)
+        (if_by spot room (statement (M.mark marks.now) room) (kinds reader.old.rest.now)) }
 {
     let condition = condition_boxed(alloc, reader, room)?;
-    let chosen = statement(alloc, reader, room)?;
-    else_branch(alloc, reader, room, condition, chosen)
+    let chosen = statement(alloc, marks, reader, room)?;
+    let found = Chosen {
+        spot,
+        condition,
+        chosen,
+    };
+    else_branch(alloc, marks, reader, room, found)
 }
 
 // An `else`, where one comes: it belongs to the innermost `if`.
 #[cycle(statements)]
-fn else_branch(
+fn else_branch<S: Drop, N: Blank + Drop, M: Marks<S>>(
     alloc: Global,
+    marks: &M,
     reader: &mut Reader,
     room: u32,
-    condition: Box<Expr>,
-    chosen: Box<Statement>,
-) -> Result<Box<Statement>, Stop>
+    found: Chosen<S, N>,
+) -> Result<Box<Statement<S, N>>, Stop>
     requires { room + 1 < 2 ^ 16 }
-    ensures { Reads (λ s. bare_statement s.value) result (kinds reader.new.rest.now)
-        (else_by (statement room) (bare condition.value) (bare_statement chosen.value) (kinds reader.old.rest.now)) }
+    ensures { Reads (λ s. seen_statement s.value) result (kinds reader.new.rest.now)
+        (else_by found.spot (statement (M.mark marks.now) room) (seen found.condition.value)
+        (seen_statement found.chosen.value)
+        (kinds reader.old.rest.now)) }
 {
     if !reader.begins_word(Reserved::Else) {
-        return Ok(if_of(alloc, condition, chosen)?);
+        return Ok(if_of(alloc, found)?);
     }
     reader.skip();
-    let other = statement(alloc, reader, room)?;
-    Ok(if_else_of(alloc, condition, chosen, other)?)
+    let other = statement(alloc, marks, reader, room)?;
+    Ok(if_else_of(alloc, found, other)?)
 }
 
 // What stands behind `while`.
 #[cycle(statements)]
-fn while_statement(alloc: Global, reader: &mut Reader, room: u32) -> Result<Box<Statement>, Stop>
+fn while_statement<S: Drop, N: Blank + Drop, M: Marks<S>>(
+    alloc: Global,
+    marks: &M,
+    spot: S,
+    reader: &mut Reader,
+    room: u32,
+) -> Result<Box<Statement<S, N>>, Stop>
     requires { room + 1 < 2 ^ 16 }
-    ensures { Reads (λ s. bare_statement s.value) result (kinds reader.new.rest.now)
-        (while_by room (statement room) (kinds reader.old.rest.now)) }
+    ensures { Reads (λ s. seen_statement s.value) result (kinds reader.new.rest.now)
+        (while_by spot room (statement (M.mark marks.now) room) (kinds reader.old.rest.now)) }
 {
     let condition = condition_boxed(alloc, reader, room)?;
-    let body = statement(alloc, reader, room)?;
-    Ok(while_of(alloc, condition, body)?)
+    let body = statement(alloc, marks, reader, room)?;
+    Ok(while_of(alloc, spot, condition, body)?)
 }
 
 // What stands behind `for`.
 #[cycle(statements)]
-fn for_statement(alloc: Global, reader: &mut Reader, room: u32) -> Result<Box<Statement>, Stop>
+fn for_statement<S: Drop, N: Blank + Drop, M: Marks<S>>(
+    alloc: Global,
+    marks: &M,
+    spot: S,
+    reader: &mut Reader,
+    room: u32,
+) -> Result<Box<Statement<S, N>>, Stop>
     requires { room + 1 < 2 ^ 16 }
-    ensures { Reads (λ s. bare_statement s.value) result (kinds reader.new.rest.now)
-        (for_by room (statement room) (kinds reader.old.rest.now)) }
+    ensures { Reads (λ s. seen_statement s.value) result (kinds reader.new.rest.now)
+        (for_by (M.mark marks.now) spot room (statement (M.mark marks.now) room)
+        (kinds reader.old.rest.now)) }
 {
-    let head = head_boxed(alloc, reader, room)?;
-    let body = statement(alloc, reader, room)?;
-    Ok(for_of(alloc, head, body)?)
+    let head = head_boxed(alloc, marks, reader, room)?;
+    let body = statement(alloc, marks, reader, room)?;
+    Ok(for_of(alloc, spot, head, body)?)
 }
 
 /// A block that is at most this high.
 #[tactic(auto, unfolding(crate::specs::Reading::block))]
-pub fn block(alloc: Global, reader: &mut Reader, room: u32) -> Result<Vec<Statement>, Stop>
+pub fn block<S: Drop, N: Blank + Drop, M: Marks<S>>(
+    alloc: Global,
+    marks: &M,
+    reader: &mut Reader,
+    room: u32,
+) -> Result<Vec<Statement<S, N>>, Stop>
     requires { room < 2 ^ 16 }
-    ensures { Reads (λ v. map bare_statement v.items) result (kinds reader.new.rest.now) (block room (kinds reader.old.rest.now)) }
+    ensures { Reads (λ v. map seen_statement v.items) result (kinds reader.new.rest.now)
+        (block (M.mark marks.now) room (kinds reader.old.rest.now)) }
 {
     if room == 0 {
         return Err(Stop::NoTree);
     }
     reader.behind(Symbol::OpenBrace)?;
-    let statements = rest_of_block(alloc, reader, room - 1)?;
+    let statements = rest_of_block(alloc, marks, reader, room - 1)?;
     Ok(statements)
 }

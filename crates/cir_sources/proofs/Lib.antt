@@ -1,8 +1,9 @@
 pub mod Paths
+pub mod Bounded
+pub mod Walk
 pub mod Decoding
 pub mod Searching
 pub mod Reaching
 pub mod Following
 pub mod Program
-pub mod OneUnread
 pub mod OneLoading

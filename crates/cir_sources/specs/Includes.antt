@@ -1,72 +1,80 @@
 -- The files of a program: which file an include names, and which files are reached.
-use Rattle.std.specs.Prelude.{◌≡◌, ◌≤◌, ℕ, ◌+◌, ◌==◌, Bool, not, false, List, [], ◌∷◌, ◌++◌, length, if◌then◌else◌, Option, None, Some, Ok, is_some}
+use Rattle.std.specs.Prelude.{◌≡◌, ◌≤◌, ℕ, ◌==◌, Bool, not, false, List, [], ◌∷◌, ◌++◌, length, map}
+use Rattle.std.specs.Prelude.{if◌then◌else◌, Option, None, Some, Ok, is_some}
 use Rattle.std.specs.List.{list_any}
 use Rattle.std.specs.Str.{bytes_eq, is_utf8}
 use Rattle.out_io.specs.Contents.{Contents}
-use Rattle.cir_lexer.specs.declared.token.Token.{Token}
+use Rattle.cir_token.specs.declared.token.Token.{Token}
 use Rattle.cir_lexer.specs.Reading.{IsReading}
-use Rattle.cir_ast.specs.Tree.{Item, Pragma, Include, Template, Function, Main, File, bare_file}
-use Rattle.cir_ast.specs.Print.{item_tokens}
+use Rattle.cir_ast.specs.declared.marked.Item.{Item as CodeItem}
+use Rattle.cir_ast.specs.declared.program.Spot.{Spot}
+use Rattle.cir_ast.specs.declared.program.Meant.{Meant}
+use Rattle.cir_ast.specs.Tree.{Pragma, Include, bare_item}
+use Rattle.cir_ast.specs.Plain.{PlainFile, plain_item}
 use Rattle.cir_expression.specs.Answers.{kinds}
 use Rattle.cir_parse.specs.Contract.{IsTree}
 use Rattle.cir_parse.specs.LeftOut.{first_left_out}
-use Rattle.cir_places.specs.Places.{token_spot}
+use Rattle.cir_parse.specs.Marking.{marked_file}
+use Rattle.cir_parse.specs.Marks.{spot_before}
 use Rattle.cir_sources.specs.declared.source.Source.{Source as CodeSource}
 use Rattle.cir_sources.specs.declared.source.Site.{Site}
 use Rattle.cir_sources.specs.Limits.{most_bytes}
 use Rattle.cir_sources.specs.Names.{folder_of, resolved, in_folder}
+use Rattle.cir_sources.specs.Places.{spots_of}
 
--- a source file, with its tree as plain data
+-- a source file, with its tree as plain data, in which each item and statement has its place
 pub record Source : Type 0 where
   pub name : List ℕ
-  pub bytes : List ℕ
-  pub tokens : List Token
-  pub tree : File
+  pub tree : PlainFile Spot
+
+abbrev pub seen_items : List (CodeItem Spot Meant) → PlainFile Spot
+seen_items items = map plain_item (map bare_item items)
 
 abbrev pub seen : CodeSource → Source
-seen s = record { name = s.name; bytes = s.bytes; tokens = s.tokens; tree = bare_file s.file }
+seen s = record { name = s.name; tree = seen_items s.file.items }
 
--- a pragma whose first number isn't 2
-abbrev pub is_other_version : Item → Bool
-is_other_version (Pragma major minor patch) = not (major == 2)
-is_other_version (Include name) = false
-is_other_version (Template parallel name parameters body) = false
-is_other_version (Function name parameters body) = false
-is_other_version (Main names template arguments) = false
+-- the place of the first pragma whose first number isn't 2
+abbrev pub other_version : PlainFile Spot → Option Spot
+other_version [] = None
+other_version (Pragma spot major minor patch ∷ items) =
+    if not (major == 2) then Some spot else other_version items
+other_version (item ∷ items) = other_version items
 
--- the first token of the first such pragma; the first item begins at token n
-abbrev pub other_version : ℕ → File → Option ℕ
-other_version n [] = None
-other_version n (item ∷ items) = if is_other_version item then Some n else other_version (n + length (item_tokens item)) items
+-- the tree of tokens with these places, in which no form is left out
+pub record IsFile (tokens : List Token) (spots : List Spot) (tree : PlainFile Spot) : Type 0 where
+  pub whole : first_left_out 0 (kinds tokens) ≡ None
+  pub is_tree : IsTree (kinds tokens) tree
+  pub places : marked_file (spot_before spots) tree ≡ tree
 
--- the bytes are short enough, they are these tokens, and the tokens are of this tree and of version 2
-pub record IsRead (s : Source) : Type 0 where
-  pub short : length s.bytes ≤ most_bytes
-  pub reading : IsReading s.bytes (Ok s.tokens)
-  pub whole : first_left_out 0 (kinds s.tokens) ≡ None
-  pub tree : IsTree (kinds s.tokens) s.tree
-  pub version : other_version 0 s.tree ≡ None
+-- the bytes are short enough, and their tokens are of this tree and of version 2
+pub record IsRead (bytes : List ℕ) (tree : PlainFile Spot) : Type 0 where
+  pub tokens : List Token
+  pub short : length bytes ≤ most_bytes
+  pub reading : IsReading bytes (Ok tokens)
+  pub file : IsFile tokens (spots_of bytes tokens) tree
+  pub version : other_version tree ≡ None
 
--- The bytes under a name, where it can be asked for. A name that isn't UTF-8 has none; the lexer refuses a
--- source with such a name in it anyway.
+-- The bytes under a name, where it can be asked for. A name that isn't UTF-8 has none; the lexer
+-- refuses a source with such a name in it anyway.
 abbrev pub held : Contents → List ℕ → Option (List ℕ)
 held files name = if is_utf8 name then files name else None
 
 -- the source is read from the file of its name
 pub record IsSource (files : Contents) (s : Source) : Type 0 where
-  pub there : held files s.name ≡ Some s.bytes
-  pub read : IsRead s
+  pub bytes : List ℕ
+  pub there : held files s.name ≡ Some bytes
+  pub read : IsRead bytes s.tree
 
--- the includes among these items of the source, each at its first token; the first item begins at token n
-abbrev pub includes_from : Source → ℕ → File → List Site
-includes_from s n [] = []
-includes_from s n (Include name ∷ items) =
-    record { file = s.name; name = name; spot = token_spot s.bytes s.tokens n } ∷ includes_from s (n + length (item_tokens (Include name))) items
-includes_from s n (item ∷ items) = includes_from s (n + length (item_tokens item)) items
+-- the includes among these items of the file with this name
+abbrev pub includes_in : List ℕ → PlainFile Spot → List Site
+includes_in file [] = []
+includes_in file (Include spot name ∷ items) =
+    record { file = file; name = name; spot = spot } ∷ includes_in file items
+includes_in file (item ∷ items) = includes_in file items
 
 -- the includes of the source, in order
 abbrev pub includes_of : Source → List Site
-includes_of s = includes_from s 0 s.tree
+includes_of s = includes_in s.name s.tree
 
 -- the name that an include has beside its file
 abbrev pub beside : Site → List ℕ
@@ -84,7 +92,8 @@ if_held files (Some name) = if is_some (held files name) then Some name else Non
 
 -- the name of the included file: beside the including one, else in the folder of libraries
 abbrev pub chosen : Contents → Option (List ℕ) → Site → Option (List ℕ)
-chosen files library site = if is_some (held files (beside site)) then Some (beside site) else if_held files (in_library library site)
+chosen files library site = if is_some (held files (beside site)) then Some (beside site)
+    else if_held files (in_library library site)
 
 -- the name is among these
 abbrev pub is_among : List (List ℕ) → List ℕ → Bool
@@ -98,16 +107,22 @@ is_loaded loaded (Some name) = is_among loaded name
 -- without the includes at the front whose file is loaded already
 abbrev pub skipped : Contents → Option (List ℕ) → List (List ℕ) → List Site → List Site
 skipped files library loaded [] = []
-skipped files library loaded (site ∷ sites) = if is_loaded loaded (chosen files library site) then skipped files library loaded sites else site ∷ sites
+skipped files library loaded (site ∷ sites) = if is_loaded loaded (chosen files library site)
+    then skipped files library loaded sites else site ∷ sites
 
 -- what follows for the includes behind the first, where the first one names this file
-abbrev pub follow : Contents → Option (List ℕ) → List ℕ → List Site → (List Site → Option (List Site)) → Option (List Site)
+abbrev pub follow : Contents → Option (List ℕ) → List ℕ → List Site
+    → (List Site → Option (List Site)) → Option (List Site)
 follow files library name [] go = None
-follow files library name (site ∷ sites) go = if is_loaded (name ∷ []) (chosen files library site) then go sites else None
+follow files library name (site ∷ sites) go =
+    if is_loaded (name ∷ []) (chosen files library site) then go sites else None
 
--- The includes that are left to follow, once these new sources are loaded one after the other: each is the one
--- that the first include names whose file isn't loaded yet, and its own includes come before those that follow.
-abbrev pub left_after : Contents → Option (List ℕ) → List (List ℕ) → List Site → List Source → Option (List Site)
+-- The includes that are left to follow, once these new sources are loaded one after the other: each
+-- is the one that the first include names whose file isn't loaded yet, and its own includes come
+-- before those that follow.
+abbrev pub left_after : Contents → Option (List ℕ) → List (List ℕ) → List Site → List Source
+    → Option (List Site)
 left_after files library loaded sites [] = Some (skipped files library loaded sites)
 left_after files library loaded sites (s ∷ ss) =
-    follow files library s.name (skipped files library loaded sites) (λ rest. left_after files library (loaded ++ s.name ∷ []) (includes_of s ++ rest) ss)
+    follow files library s.name (skipped files library loaded sites)
+    (λ rest. left_after files library (loaded ++ s.name ∷ []) (includes_of s ++ rest) ss)

@@ -1,5 +1,6 @@
 pub mod Limits
 pub mod Names
+pub mod Places
 pub mod Includes
 pub mod Faults
 pub mod Loading

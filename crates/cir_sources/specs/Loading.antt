@@ -1,5 +1,6 @@
 -- What the loading of a program's sources answers.
-use Rattle.std.specs.Prelude.{◌≡◌, ℕ, ◌+◌, ◌≤◌, List, [], ◌∷◌, length, map, ⊤, ◌⊎◌, All, Option, None, Some, Result, Ok, Err, Vec}
+use Rattle.std.specs.Prelude.{◌≡◌, ℕ, ◌+◌, ◌≤◌, List, [], ◌∷◌, length, map, ⊤, ◌⊎◌, All, Option}
+use Rattle.std.specs.Prelude.{None, Some, Result, Ok, Err, Vec}
 use Rattle.std.specs.declared.alloc.Global.{Global}
 use Rattle.out_io.specs.Calls.{Told}
 use Rattle.out_io.specs.Contents.{Contents}
@@ -14,9 +15,10 @@ use Rattle.cir_sources.specs.declared.fault.LoadFault.TheVariants as fault
 use Rattle.cir_sources.specs.Includes.{Source, seen, IsRead, IsSource, includes_of, left_after}
 use Rattle.cir_sources.specs.Faults.{IsFault, IsStop}
 
--- these sources are reached from the first file of this name, in this order, no more than a program may have, and
--- these includes are left to follow
-pub record AreReached (files : Contents) (name : List ℕ) (library : Option (List ℕ)) (first : Source) (more : List Source) (left : List Site) : Type 0 where
+-- these sources are reached from the first file of this name, in this order, no more than a program
+-- may have, and these includes are left to follow
+pub record AreReached (files : Contents) (name : List ℕ) (library : Option (List ℕ))
+    (first : Source) (more : List Source) (left : List Site) : Type 0 where
   pub named : first.name ≡ name
   pub source : IsSource files first
   pub sources : All (IsSource files) more
@@ -24,7 +26,8 @@ pub record AreReached (files : Contents) (name : List ℕ) (library : Option (Li
   pub sites : left_after files library (name ∷ []) (includes_of first) more ≡ Some left
 
 -- all sources of the program
-pub record AreAll (files : Contents) (name : List ℕ) (library : Option (List ℕ)) (all : List Source) : Type 0 where
+pub record AreAll (files : Contents) (name : List ℕ) (library : Option (List ℕ))
+    (all : List Source) : Type 0 where
   pub first : Source
   pub more : List Source
   pub parts : all ≡ first ∷ more
@@ -37,7 +40,8 @@ pub record IsFirstFault (files : Contents) (name : List ℕ) (r : Refusal) : Typ
   pub fault : IsFault name bytes r
 
 -- the first include whose file isn't loaded can't be followed
-pub record IsIncludeFault (files : Contents) (name : List ℕ) (library : Option (List ℕ)) (r : Refusal) : Type 0 where
+pub record IsIncludeFault (files : Contents) (name : List ℕ) (library : Option (List ℕ))
+    (r : Refusal) : Type 0 where
   pub first : Source
   pub more : List Source
   pub site : Site
@@ -45,7 +49,8 @@ pub record IsIncludeFault (files : Contents) (name : List ℕ) (library : Option
   pub reached : AreReached files name library first more (site ∷ rest)
   pub stop : IsStop files library (1 + length more) site r
 
--- what the files of a program give: its sources, nothing where its first file isn't there, or why it is refused
+-- what the files of a program give: its sources, nothing where its first file isn't there, or why
+-- it is refused
 pub data Answer : Type 0 where
   Sources : List Source → Answer
   NoFile : Answer
@@ -54,16 +59,18 @@ pub data Answer : Type 0 where
 abbrev pub IsAnswer : Contents → List ℕ → Option (List ℕ) → Answer → Type 0
 IsAnswer files name library (Sources all) = AreAll files name library all
 IsAnswer files name library NoFile = files name ≡ None
-IsAnswer files name library (Refused r) = IsFirstFault files name r ⊎ IsIncludeFault files name library r
+IsAnswer files name library (Refused r) =
+    IsFirstFault files name r ⊎ IsIncludeFault files name library r
 
 -- the fault of a store's call
 abbrev pub fault_of : IoFault → LoadFault
 fault_of io.Failed = fault.Fault
 fault_of io.OutOfMemory = fault.OutOfMemory
 
--- What the loading of the file of this name answers, over the contents where the store tells them. It fails only
--- where the store did; want of memory is free.
-abbrev pub Loads : Option Contents → List ℕ → Option (List ℕ) → Type 0 → Result (Vec CodeSource Global) LoadFault → Type 0
+-- What the loading of the file of this name answers, over the contents where the store tells them.
+-- It fails only where the store did; want of memory is free.
+abbrev pub Loads : Option Contents → List ℕ → Option (List ℕ) → Type 0
+    → Result (Vec CodeSource Global) LoadFault → Type 0
 Loads contents name library failed (Ok v) =
     Told contents (λ files. IsAnswer files name library (Sources (map seen v.items)))
 Loads contents name library failed (Err fault.Missing) =
@@ -73,8 +80,12 @@ Loads contents name library failed (Err (fault.Refused r)) =
 Loads contents name library failed (Err fault.Fault) = failed
 Loads contents name library failed (Err fault.OutOfMemory) = ⊤
 
+-- the source is read from some bytes
+abbrev pub IsDecoded : Source → Type 0
+IsDecoded s = (bytes : List ℕ) × IsRead bytes s.tree
+
 -- what is known of the sources also where the store doesn't tell its contents
 pub record AreSources (all : List Source) : Type 0 where
   pub some : 1 ≤ length all
   pub few : length all ≤ most_files
-  pub read : All IsRead all
+  pub read : All IsDecoded all

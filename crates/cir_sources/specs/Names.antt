@@ -1,5 +1,6 @@
 -- The names of files: folders, and the segments between the slashes.
-use Rattle.std.specs.Prelude.{ℕ, ◌==◌, Bool, true, false, List, [], ◌∷◌, ◌++◌, reverse, fold, if◌then◌else◌, not, codes}
+use Rattle.std.specs.Prelude.{ℕ, ◌==◌, Bool, true, false, List, [], ◌∷◌, ◌++◌, reverse, fold}
+use Rattle.std.specs.Prelude.{if◌then◌else◌, not, codes}
 use Rattle.std.specs.List.{list_any, slice_split, join_with_byte}
 use Rattle.std.specs.Str.{bytes_eq}
 
@@ -12,7 +13,8 @@ abbrev pub folder_of : List ℕ → List ℕ
 folder_of [] = []
 folder_of (c ∷ cs) = if list_any is_slash (c ∷ cs) then c ∷ folder_of cs else []
 
--- the last of the segments that are kept is one that `..` removes: there is one, and it isn't `..` itself
+-- the last of the segments that are kept is one that `..` removes: there is one, and it isn't `..`
+-- itself
 abbrev pub has_folder : List (List ℕ) → Bool
 has_folder [] = false
 has_folder (last ∷ before) = if bytes_eq last (codes "..") then false else true
@@ -21,18 +23,20 @@ abbrev pub without_last : List (List ℕ) → List (List ℕ)
 without_last [] = []
 without_last (last ∷ before) = before
 
--- The segments that are kept, the last one first, and one more: `.` goes, and `..` removes the last one, or stays
--- where it can't.
+-- The segments that are kept, the last one first, and one more: `.` goes, and `..` removes the last
+-- one, or stays where it can't.
 abbrev pub keep : List (List ℕ) → List ℕ → List (List ℕ)
 keep kept segment =
     if bytes_eq segment (codes ".") then kept else
-    if bytes_eq segment (codes "..") then (if has_folder kept then without_last kept else segment ∷ kept) else segment ∷ kept
+    if bytes_eq segment (codes "..")
+    then (if has_folder kept then without_last kept else segment ∷ kept) else segment ∷ kept
 
 -- the name with its segments `.` and `..` carried out
 abbrev pub resolved : List ℕ → List ℕ
 resolved name = join_with_byte 47 (reverse (fold keep [] (slice_split is_slash name)))
 
--- whether a slash has to stand between the folder and a name: not behind another one, and not at the start
+-- whether a slash has to stand between the folder and a name: not behind another one, and not at
+-- the start
 abbrev pub wants_slash : List ℕ → Bool
 wants_slash [] = false
 wants_slash (c ∷ []) = not (is_slash c)

@@ -1,20 +1,18 @@
 -- What the steps of the loading do.
-use Rattle.std.specs.Prelude.{◌≡◌, ◌<◌, ◌≤◌, ℕ, true, false, List, [], ◌∷◌, ◌++◌, length, map, reverse, if◌then◌else◌, ⊤, All, Option, None, Some, Result, Ok, Err, Vec, String, string_bytes}
+use Rattle.std.specs.Prelude.{◌≡◌, ◌<◌, ◌≤◌, ℕ, true, false, List, [], ◌∷◌, ◌++◌, length, map}
+use Rattle.std.specs.Prelude.{reverse, if◌then◌else◌, ⊤, All, Option, None, Some, Result, Ok, Err}
+use Rattle.std.specs.Prelude.{Vec, String, string_bytes}
 use Rattle.std.specs.declared.alloc.Global.{Global}
 use Rattle.std.specs.List.{slice_split}
 use Rattle.std.specs.Str.{bytes_eq}
 use Rattle.std.specs.BTreeSet.{BTreeSet, contains_text}
 use Rattle.out_io.specs.Contents.{Contents}
-use Rattle.cir_lexer.specs.declared.token.Token.{Token}
+use Rattle.cir_token.specs.declared.token.Token.{Token}
 use Rattle.cir_lexer.specs.Reading.{IsReading}
-use Rattle.cir_ast.specs.declared.refusal.Kind.{Kind}
 use Rattle.cir_ast.specs.declared.refusal.Refusal.{Refusal}
-use Rattle.cir_ast.specs.declared.tree.File.{File as CodeFile}
-use Rattle.cir_ast.specs.Tree.{File, bare_file}
-use Rattle.cir_expression.specs.Answers.{kinds}
-use Rattle.cir_parse.specs.Contract.{IsTree}
-use Rattle.cir_parse.specs.LeftOut.{first_left_out}
-use Rattle.cir_places.specs.declared.place.Spot.{Spot}
+use Rattle.cir_ast.specs.declared.marked.File.{File as CodeFile}
+use Rattle.cir_ast.specs.declared.program.Spot.{Spot}
+use Rattle.cir_ast.specs.declared.program.Meant.{Meant}
 use Rattle.cir_sources.specs.declared.path.Kept.{Kept}
 use Rattle.cir_sources.specs.declared.source.Source.{Source as CodeSource}
 use Rattle.cir_sources.specs.declared.source.Site.{Site}
@@ -25,8 +23,10 @@ use Rattle.cir_sources.specs.declared.loading.Loading.{Loading}
 use Rattle.cir_sources.specs.declared.fault.LoadFault.{LoadFault}
 use Rattle.cir_sources.specs.declared.fault.LoadFault.TheVariants as fault
 use Rattle.cir_sources.specs.Names.{is_slash}
-use Rattle.cir_sources.specs.Includes.{Source, seen, IsRead, IsSource, includes_of, other_version, held, chosen, is_among, left_after}
-use Rattle.cir_sources.specs.Faults.{refusal_at, IsFault, IsStop}
+use Rattle.cir_sources.specs.Includes.{Source, seen_items, seen, IsFile, IsRead, IsSource}
+use Rattle.cir_sources.specs.Includes.{includes_of, other_version, held, chosen, is_among}
+use Rattle.cir_sources.specs.Includes.{left_after}
+use Rattle.cir_sources.specs.Faults.{IsUnfit, IsFault, IsStop}
 use Rattle.out_io.specs.Calls.{Told}
 use Rattle.cir_sources.specs.Loading.{AreSources}
 
@@ -39,61 +39,61 @@ pub record IsCutOnce (name segment after : List ℕ) : Type 0 where
   pub parts : slice_split is_slash name ≡ segment ∷ slice_split is_slash after
   pub shorter : length after < length name
 
--- a refusal of this kind at a place of the file; for its texts memory may lack
-abbrev pub Refuses : List ℕ → Kind → Spot → LoadFault → Type 0
-Refuses name kind spot (fault.Refused r) = r ≡ refusal_at name kind spot
-Refuses name kind spot fault.OutOfMemory = ⊤
-Refuses name kind spot fault.Missing = ⊥
-Refuses name kind spot fault.Fault = ⊥
+-- the fault is such a refusal; for its texts memory may lack
+abbrev pub Refuses : (Refusal → Type 0) → LoadFault → Type 0
+Refuses P (fault.Refused r) = P r
+Refuses P fault.OutOfMemory = ⊤
+Refuses P fault.Missing = ⊥
+Refuses P fault.Fault = ⊥
 
--- why bytes under this name are no source; memory may lack
+-- why bytes under this name are no source
 abbrev pub IsBad : List ℕ → List ℕ → LoadFault → Type 0
-IsBad name bytes (fault.Refused r) = IsFault name bytes r
-IsBad name bytes fault.OutOfMemory = ⊤
-IsBad name bytes fault.Missing = ⊥
-IsBad name bytes fault.Fault = ⊥
+IsBad name bytes e = Refuses (IsFault name bytes) e
 
 -- the tokens of a file's bytes
 abbrev pub Lexes : List ℕ → List ℕ → Result (Vec Token Global) LoadFault → Type 0
 Lexes name bytes (Ok tokens) = (length bytes ≤ most_bytes) × IsReading bytes (Ok tokens.items)
 Lexes name bytes (Err e) = IsBad name bytes e
 
--- the tokens are of this tree, in the profile and of version 2
-pub record IsParsed (tokens : List Token) (tree : File) : Type 0 where
-  pub whole : first_left_out 0 (kinds tokens) ≡ None
-  pub tree_is : IsTree (kinds tokens) tree
-  pub version : other_version 0 tree ≡ None
-
--- the tree of a file's tokens
-abbrev pub ParsesFile : List ℕ → List ℕ → List Token → Result CodeFile LoadFault → Type 0
-ParsesFile name bytes tokens (Ok file) = IsParsed tokens (bare_file file)
-ParsesFile name bytes tokens (Err e) = IsBad name bytes e
+-- the file of tokens with these places
+abbrev pub ParsesFile : List ℕ → List Token → List Spot → Result (CodeFile Spot Meant) LoadFault
+    → Type 0
+ParsesFile name tokens spots (Ok file) =
+    IsFile tokens spots (seen_items file.items) × (other_version (seen_items file.items) ≡ None)
+ParsesFile name tokens spots (Err e) = Refuses (IsUnfit name tokens spots) e
 
 -- the source of a file's bytes
 abbrev pub Decodes : List ℕ → List ℕ → Result CodeSource LoadFault → Type 0
-Decodes name bytes (Ok s) = (s.name ≡ name) × (s.bytes ≡ bytes) × IsRead (seen s)
+Decodes name bytes (Ok s) = (s.name ≡ name) × IsRead bytes (seen s).tree
 Decodes name bytes (Err e) = IsBad name bytes e
 
 -- what is known of the file of this name: it is loaded, there is none, or these are its bytes
 abbrev pub Looks : Contents → BTreeSet (String Global) → List ℕ → Target → Type 0
 Looks files names name Loaded = contains_text names name ≡ true
 Looks files names name Absent = held files name ≡ None
-Looks files names name (Found found bytes) = (string_bytes found ≡ name) × (contains_text names name ≡ false) × (held files name ≡ Some bytes.items)
+Looks files names name (Found found bytes) = (string_bytes found ≡ name)
+    × (contains_text names name ≡ false) × (held files name ≡ Some bytes.items)
 
 -- each of these names has a file
 abbrev pub AreHeld : Contents → BTreeSet (String Global) → Type 0
-AreHeld files names = (q : List ℕ) → contains_text names q ≡ true → (bytes : List ℕ) × (held files q ≡ Some bytes)
+AreHeld files names =
+    (q : List ℕ) → contains_text names q ≡ true → (bytes : List ℕ) × (held files q ≡ Some bytes)
 
--- the file that the include names, where each of these names has one: it is one of these, there is none, or it is
--- another one, with these bytes
+-- the file that the include names, where each of these names has one: it is one of these, there is
+-- none, or it is another one, with these bytes
 abbrev pub Targets : Contents → BTreeSet (String Global) → Option (List ℕ) → Site → Target → Type 0
-Targets files names library site Loaded = (name : List ℕ) × (chosen files library site ≡ Some name) × (contains_text names name ≡ true)
+Targets files names library site Loaded =
+    (name : List ℕ) × (chosen files library site ≡ Some name) × (contains_text names name ≡ true)
 Targets files names library site Absent = chosen files library site ≡ None
 Targets files names library site (Found name bytes) =
-    (chosen files library site ≡ Some (string_bytes name)) × (contains_text names (string_bytes name) ≡ false) × (held files (string_bytes name) ≡ Some bytes.items)
+    (chosen files library site ≡ Some (string_bytes name))
+    × (contains_text names (string_bytes name) ≡ false)
+    × (held files (string_bytes name) ≡ Some bytes.items)
 
-abbrev pub FindsTarget : Contents → BTreeSet (String Global) → Option (List ℕ) → Site → Target → Type 0
-FindsTarget files names library site target = AreHeld files names → Targets files names library site target
+abbrev pub FindsTarget : Contents → BTreeSet (String Global) → Option (List ℕ) → Site → Target
+    → Type 0
+FindsTarget files names library site target =
+    AreHeld files names → Targets files names library site target
 
 -- the names of these sources
 abbrev pub names_of : List Source → List (List ℕ)
@@ -120,46 +120,61 @@ pub record Begins (l : Loading) : Type 0 where
 pub record Adds (old : Loading) (s : Source) (new : Loading) : Type 0 where
   pub sources : all_of new ≡ all_of old ++ s ∷ []
   pub left : left_of new ≡ includes_of s ++ left_of old
-  pub names : (q : List ℕ) → contains_text new.names q ≡ (if bytes_eq s.name q then true else contains_text old.names q)
+  pub names : (q : List ℕ)
+      → contains_text new.names q ≡ (if bytes_eq s.name q then true else contains_text old.names q)
 
--- the include names this source, which isn't loaded yet
-pub record IsNamed (files : Contents) (library : Option (List ℕ)) (names : BTreeSet (String Global)) (site : Site) (s : Source) : Type 0 where
+-- the include names this source of these bytes, which isn't loaded yet
+pub record IsNamed (files : Contents) (library : Option (List ℕ)) (names : BTreeSet (String Global))
+    (site : Site) (s : Source) (bytes : List ℕ) : Type 0 where
   pub chosen_is : chosen files library site ≡ Some s.name
   pub fresh : contains_text names s.name ≡ false
-  pub there : held files s.name ≡ Some s.bytes
+  pub there : held files s.name ≡ Some bytes
 
 -- the include is followed: its file is loaded already, or it is loaded
-pub data IsFollowed (contents : Option Contents) (library : Option (List ℕ)) (old : Loading) (site : Site) (new : Loading) : Type 0 where
-  Skips : new ≡ old → Told contents (λ files. FindsTarget files old.names library site Loaded) → IsFollowed contents library old site new
-  Loads : (s : Source) → IsRead s → Adds old s new → length (all_of old) < most_files → Told contents (λ files. AreHeld files old.names → IsNamed files library old.names site s)
+pub data IsFollowed (contents : Option Contents) (library : Option (List ℕ)) (old : Loading)
+    (site : Site) (new : Loading) : Type 0 where
+  Skips : new ≡ old → Told contents (λ files. FindsTarget files old.names library site Loaded)
+      → IsFollowed contents library old site new
+  Loads : (s : Source) (bytes : List ℕ) → IsRead bytes s.tree → Adds old s new
+      → length (all_of old) < most_files
+      → Told contents (λ files. AreHeld files old.names
+      → IsNamed files library old.names site s bytes)
       → IsFollowed contents library old site new
 
 -- the include names no file that is loaded, and can't be followed
-pub record CannotFollow (files : Contents) (library : Option (List ℕ)) (old : Loading) (site : Site) (r : Refusal) : Type 0 where
-  pub fresh : (name : List ℕ) → chosen files library site ≡ Some name → contains_text old.names name ≡ false
+pub record CannotFollow (files : Contents) (library : Option (List ℕ)) (old : Loading) (site : Site)
+    (r : Refusal) : Type 0 where
+  pub fresh : (name : List ℕ) → chosen files library site ≡ Some name
+      → contains_text old.names name ≡ false
   pub stop : IsStop files library (length (all_of old)) site r
 
 -- what following an include answers
-abbrev pub Follows : Option Contents → Option (List ℕ) → Loading → Site → Loading → Type 0 → Result Unit LoadFault → Type 0
+abbrev pub Follows : Option Contents → Option (List ℕ) → Loading → Site → Loading → Type 0
+    → Result Unit LoadFault → Type 0
 Follows contents library old site new failed (Ok u) = IsFollowed contents library old site new
-Follows contents library old site new failed (Err (fault.Refused r)) = Told contents (λ files. AreHeld files old.names → CannotFollow files library old site r)
+Follows contents library old site new failed (Err (fault.Refused r)) =
+    Told contents (λ files. AreHeld files old.names → CannotFollow files library old site r)
 Follows contents library old site new failed (Err fault.Missing) = ⊥
 Follows contents library old site new failed (Err fault.Fault) = failed
 Follows contents library old site new failed (Err fault.OutOfMemory) = ⊤
 
--- These sources are loaded from the first file of this name, and these includes are left to follow: whatever
--- sources follow, they lead to the same as from the first file on.
-pub record Leads (files : Contents) (name : List ℕ) (library : Option (List ℕ)) (all : List Source) (left : List Site) : Type 0 where
+-- These sources are loaded from the first file of this name, and these includes are left to follow:
+-- whatever sources follow, they lead to the same as from the first file on.
+pub record Leads (files : Contents) (name : List ℕ) (library : Option (List ℕ)) (all : List Source)
+    (left : List Site) : Type 0 where
   pub first : Source
   pub more : List Source
   pub parts : all ≡ first ∷ more
   pub named : first.name ≡ name
   pub source : IsSource files first
   pub sources : All (IsSource files) more
-  pub same : (new : List Source) → left_after files library (name ∷ []) (includes_of first) (more ++ new) ≡ left_after files library (names_of all) left new
+  pub same : (new : List Source)
+      → left_after files library (name ∷ []) (includes_of first) (more ++ new)
+      ≡ left_after files library (names_of all) left new
 
 -- how far the loading has come
-pub record IsLoading (contents : Option Contents) (name : List ℕ) (library : Option (List ℕ)) (names : BTreeSet (String Global)) (all : List Source) (left : List Site) : Type 0 where
+pub record IsLoading (contents : Option Contents) (name : List ℕ) (library : Option (List ℕ))
+    (names : BTreeSet (String Global)) (all : List Source) (left : List Site) : Type 0 where
   pub names_are : AreNames names all
   pub sources : AreSources all
   pub leads : Told contents (λ files. Leads files name library all left)

@@ -1,9 +1,10 @@
 //! Why a program's sources aren't loaded.
 ghost use Rattle.std.specs.Prelude.{◌≡◌};
+ghost use Rattle.cir_ast.specs.Spot.{refusal_at};
 ghost use Rattle.cir_sources.specs.Steps.{Refuses};
 
-use cir_ast::{Kind, Place, Refusal, Text};
-use cir_places::Spot;
+use cir_ast::program::Spot;
+use cir_ast::{Kind, Refusal};
 use out_io::IoFault;
 use std::alloc::{AllocError, Global};
 
@@ -43,21 +44,10 @@ impl From<IoFault> for LoadFault {
 
 /// The refusal at a place of the file of this name, before any instance is made.
 pub(crate) fn refusal(alloc: Global, name: &[u8], kind: Kind, spot: Spot) -> LoadFault
-    ensures { Refuses name.now kind spot result }
+    ensures { Refuses (λ r. r ≡ refusal_at name.now kind spot) result }
 {
-    let Ok(file) = Text::from_slice(alloc, name) else {
-        return LoadFault::OutOfMemory;
-    };
-    let Ok(path) = Text::from_slice(alloc, b"-") else {
-        return LoadFault::OutOfMemory;
-    };
-    LoadFault::Refused(Refusal {
-        kind,
-        place: Place {
-            file,
-            line: spot.line,
-            column: spot.column,
-            path,
-        },
-    })
+    match Refusal::at(alloc, name, kind, spot) {
+        Ok(refusal) => LoadFault::Refused(refusal),
+        Err(_) => LoadFault::OutOfMemory,
+    }
 }

@@ -1,4 +1,5 @@
-//! The source files of a program: those that the first one reaches by includes, depth first, each once.
+//! The source files of a program: those that the first one reaches by includes, depth first, each
+//! once.
 #![tactic(auto)]
 
 mod decode;
@@ -6,6 +7,7 @@ mod fault;
 pub mod laws;
 mod loading;
 mod path;
+mod place;
 mod search;
 mod source;
 

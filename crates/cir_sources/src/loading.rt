@@ -2,7 +2,7 @@
 ghost use Rattle.std.specs.Prelude.{◌≡◌, ◌≤◌, ◌++◌, reverse, string_bytes, length, IfOk, OnOk, map};
 ghost use Rattle.std.specs.Option.{option_copied};
 ghost use Rattle.out_io.specs.Faults.{Rose};
-ghost use Rattle.cir_sources.specs.Includes.{seen, IsRead};
+ghost use Rattle.cir_sources.specs.Includes.{seen};
 ghost use Rattle.out_io.specs.Calls.{OnlyReads};
 ghost use Rattle.cir_sources.specs.Limits.{most_files};
 ghost use Rattle.cir_sources.specs.Loading.{Loads, AreSources};
@@ -50,8 +50,7 @@ impl Loading {
 
     // Its includes are followed before the ones that were left.
     fn add(&mut self, alloc: Global, name: String, source: Source) -> Result<(), AllocError>
-        requires read { IsRead (seen source) }
-        requires name { string_bytes name ≡ source.name }
+        requires { string_bytes name ≡ source.name }
         ensures { OnOk result (Adds self.old (seen source) self.new) }
     {
         let sites = decode::sites(alloc, &source)?;
@@ -70,9 +69,12 @@ impl Loading {
         site: &Site,
     ) -> Result<(), LoadFault>
         requires few { length (all_of self.old) ≤ most_files }
-        ensures follows { Follows (S.contents store.old) (option_copied library.entry) self.old site.now self.new (Rose (S.faults store.old) (S.faults store.new)) result }
+        ensures follows { Follows (S.contents store.old)
+            (option_copied library.entry) self.old site.now self.new
+            (Rose (S.faults store.old) (S.faults store.new)) result }
         ensures store { OnlyReads (S.contents store.old) (S.contents store.new)
-            (S.faults store.old) (S.faults store.new) (S.never_fails store.old) (S.never_fails store.new) }
+            (S.faults store.old) (S.faults store.new) (S.never_fails store.old)
+            (S.never_fails store.new) }
     {
         match search(alloc, store, &self.names, library, site)? {
             Target::Loaded => Ok(()),
@@ -97,8 +99,9 @@ impl Loading {
     }
 }
 
-/// The source files of the program whose first file has this name: the ones that it reaches by includes, depth
-/// first, each once. An include's file is looked for beside its own file, and then in the folder of libraries.
+/// The source files of the program whose first file has this name: the ones that it reaches by
+/// includes, depth first, each once. An include's file is looked for beside its own file, and then
+/// in the folder of libraries.
 pub fn sources<S: Store>(
     alloc: Global,
     store: &mut S,
@@ -109,7 +112,8 @@ pub fn sources<S: Store>(
         (Rose (S.faults store.old) (S.faults store.new)) result }
     ensures read { IfOk result (λ v. AreSources (map seen v.items)) }
     ensures store { OnlyReads (S.contents store.old) (S.contents store.new)
-        (S.faults store.old) (S.faults store.new) (S.never_fails store.old) (S.never_fails store.new) }
+        (S.faults store.old) (S.faults store.new) (S.never_fails store.old)
+        (S.never_fails store.new) }
 {
     let Some(bytes) = store.read(alloc, name)? else {
         return Err(LoadFault::Missing);

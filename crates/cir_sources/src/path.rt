@@ -1,7 +1,8 @@
 //! The names of included files.
 ghost use Rattle.std.specs.Prelude.{◌≡◌, IfOk, OnOk, MatchOption, reverse, [], ◌∷◌};
 ghost use Rattle.std.specs.List.{position, slice_split, join_with_byte};
-ghost use Rattle.cir_sources.specs.Names.{folder_of, is_slash, keep, resolved, wants_slash, in_folder, has_folder};
+ghost use Rattle.cir_sources.specs.Names.{folder_of, is_slash, keep, resolved, wants_slash};
+ghost use Rattle.cir_sources.specs.Names.{in_folder, has_folder};
 ghost use Rattle.cir_sources.specs.Includes.{beside};
 ghost use Rattle.cir_sources.specs.Steps.{last_first, IsCutOnce};
 
@@ -30,7 +31,8 @@ fn first_slash(name: &[u8]) -> Option<usize>
 
 // What stands before the first slash, and what stands behind it.
 fn split_once(name: &[u8]) -> Option<(&[u8], &[u8])>
-    ensures { MatchOption result (slice_split is_slash name.now ≡ name.now ∷ []) (λ p. IsCutOnce name.now p.0.now p.1.now) }
+    ensures { MatchOption result (slice_split is_slash name.now ≡ name.now ∷ [])
+        (λ p. IsCutOnce name.now p.0.now p.1.now) }
 {
     match first_slash(name) {
         Some(at) => Some((&name[..at], &name[at + 1..])),

@@ -22,17 +22,20 @@ pub(crate) enum Target {
     Found { name: String, bytes: Vec<u8> },
 }
 
-// What lies under the name, which is read only where it isn't loaded. A name that isn't UTF-8 has no file.
+// What lies under the name, which is read only where it isn't loaded. A name that isn't UTF-8 has
+// no file.
 fn look<S: Store>(
     alloc: Global,
     store: &mut S,
     names: &BTreeSet<String>,
     name: &[u8],
 ) -> Result<Target, IoFault>
-    ensures looks { IfOk result (λ target. Told (S.contents store.old) (λ files. Looks files names.now name.now target)) }
+    ensures looks { IfOk result
+        (λ target. Told (S.contents store.old) (λ files. Looks files names.now name.now target)) }
     ensures same { S.contents store.new ≡ S.contents store.old }
     ensures cause { CountsFaults (S.faults store.old) (S.faults store.new) result }
-    ensures steady { S.never_fails store.old → S.never_fails store.new × (S.faults store.new ≡ S.faults store.old) }
+    ensures steady { S.never_fails store.old
+        → S.never_fails store.new × (S.faults store.new ≡ S.faults store.old) }
 {
     let Ok(text) = str::from_utf8(name) else {
         return Ok(Target::Absent);
@@ -57,10 +60,13 @@ pub(crate) fn search<S: Store>(
     library: Option<&str>,
     site: &Site,
 ) -> Result<Target, IoFault>
-    ensures targets { IfOk result (λ target. Told (S.contents store.old) (λ files. FindsTarget files names.now (option_copied library.entry) site.now target)) }
+    ensures targets { IfOk result
+        (λ target. Told (S.contents store.old)
+        (λ files. FindsTarget files names.now (option_copied library.entry) site.now target)) }
     ensures same { S.contents store.new ≡ S.contents store.old }
     ensures cause { CountsFaults (S.faults store.old) (S.faults store.new) result }
-    ensures steady { S.never_fails store.old → S.never_fails store.new × (S.faults store.new ≡ S.faults store.old) }
+    ensures steady { S.never_fails store.old
+        → S.never_fails store.new × (S.faults store.new ≡ S.faults store.old) }
 {
     let name = beside(alloc, site)?;
     let target = look(alloc, store, names, name.as_slice())?;

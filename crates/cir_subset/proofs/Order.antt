@@ -15,8 +15,12 @@ not_both : (f l c g m d : ℕ)
     → (nat_lt g f || ((g == f) && (nat_lt m l || ((m == l) && nat_lt d c)))) ≡ false
 not_both f l c g m d p = grind (arith, nat_tests)
 
-pub not_before_through : (a b c : Site) → is_before a b ≡ false → is_before b c ≡ false → is_before a c ≡ false
-not_before_through a b c p q = not_before a.file a.line a.column b.file b.line b.column c.file c.line c.column p q
+pub not_before_through : (a b c : Site) → is_before a b ≡ false → is_before b c ≡ false
+    → is_before a c ≡ false
+not_before_through a b c p q =
+    not_before a.file a.spot.line a.spot.column b.file b.spot.line b.spot.column c.file c.spot.line
+    c.spot.column p q
 
 pub not_before_itself : (a b : Site) → is_before a b ≡ true → is_before b a ≡ false
-not_before_itself a b p = not_both a.file a.line a.column b.file b.line b.column p
+not_before_itself a b p =
+    not_both a.file a.spot.line a.spot.column b.file b.spot.line b.spot.column p

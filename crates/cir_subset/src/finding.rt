@@ -1,13 +1,28 @@
 //! The first place where a program has a form that isn't built. Takes no memory.
 ghost use Rattle.std.specs.Prelude.{◌≡◌, map, true};
 ghost use Rattle.std.specs.List.{fold, list_all};
-ghost use Rattle.cir_ast.specs.Placed.{seen, seen_exprs, seen_place, seen_signal, seen_signal_value, seen_assign, seen_simple, seen_statement, seen_block, seen_template, seen_function, seen_main, seen_program};
-ghost use Rattle.cir_subset.specs.Unbuilt.{is_empty as is_empty_of, is_signal as is_signal_of, no_value as no_value_of, is_plain_operator as is_plain_operator_of, is_plain as is_plain_of, is_plain_signal as is_plain_signal_of, is_plain_assign as is_plain_assign_of, is_plain_simple as is_plain_simple_of, is_plain_statement as is_plain_statement_of, first_unplain as first_unplain_of, template_site as template_site_of, function_site, main_site as main_site_of, earlier as earlier_of, first_unbuilt};
+ghost use Rattle.cir_ast.specs.Tree.{bare, bare_signal, bare_signal_value, bare_assign};
+ghost use Rattle.cir_ast.specs.Tree.{bare_simple, bare_statement, bare_block, place_accessors};
+ghost use Rattle.cir_ast.specs.Program.{bare_template, bare_function, bare_main, bare_program};
+ghost use Rattle.cir_subset.specs.Unbuilt.{is_empty as is_empty_of};
+ghost use Rattle.cir_subset.specs.Unbuilt.{means_signal as means_signal_of};
+ghost use Rattle.cir_subset.specs.Unbuilt.{is_signal as is_signal_of, no_value as no_value_of};
+ghost use Rattle.cir_subset.specs.Unbuilt.{is_plain_operator as is_plain_operator_of};
+ghost use Rattle.cir_subset.specs.Unbuilt.{is_plain as is_plain_of};
+ghost use Rattle.cir_subset.specs.Unbuilt.{is_plain_signal as is_plain_signal_of};
+ghost use Rattle.cir_subset.specs.Unbuilt.{is_constraint as is_constraint_of};
+ghost use Rattle.cir_subset.specs.Unbuilt.{is_plain_assign as is_plain_assign_of};
+ghost use Rattle.cir_subset.specs.Unbuilt.{is_plain_simple as is_plain_simple_of};
+ghost use Rattle.cir_subset.specs.Unbuilt.{is_plain_statement as is_plain_statement_of};
+ghost use Rattle.cir_subset.specs.Unbuilt.{first_unplain as first_unplain_of};
+ghost use Rattle.cir_subset.specs.Unbuilt.{template_site as template_site_of, function_site};
+ghost use Rattle.cir_subset.specs.Unbuilt.{main_site as main_site_of, earlier as earlier_of};
+ghost use Rattle.cir_subset.specs.Unbuilt.{first_unbuilt};
 
 use crate::site::{Site, earlier};
 use cir_ast::program::{
-    Assign, Binary, Block, DeclaredSignal, Expr, Function, Main, Place, Program, SignalValue,
-    Simple, Statement, StatementForm, Template,
+    Arrow, Assign, Binary, Block, DeclaredSignal, Expr, Function, Main, Meant, Place, Program,
+    SignalValue, Simple, Statement, StatementForm, Template,
 };
 use items::Items;
 
@@ -17,10 +32,16 @@ fn is_empty<T>(items: &Items<T>) -> bool
     items.is_empty()
 }
 
-fn is_signal(place: &Place) -> bool
-    ensures { result ≡ is_signal_of (seen_place place.now).variable (seen_place place.now).accessors }
+fn means_signal(meant: Meant) -> bool
+    ensures { result ≡ means_signal_of meant }
 {
-    place.variable.is_none() && is_empty(&place.accessors)
+    matches!(meant, Meant::Signal(_, _))
+}
+
+fn is_signal(place: &Place) -> bool
+    ensures { result ≡ is_signal_of place.now.meant (place_accessors place.now) }
+{
+    means_signal(place.meant) && is_empty(&place.accessors)
 }
 
 fn is_plain_operator(operator: Binary) -> bool
@@ -30,7 +51,7 @@ fn is_plain_operator(operator: Binary) -> bool
 }
 
 fn is_plain(expr: &Expr) -> bool
-    ensures { result ≡ is_plain_of (seen expr.now) }
+    ensures { result ≡ is_plain_of (bare expr.now) }
 {
     match expr {
         Expr::Number(_) => true,
@@ -39,24 +60,28 @@ fn is_plain(expr: &Expr) -> bool
         Expr::Binary(operator, left, right) => {
             is_plain_operator(*operator) && is_plain(left) && is_plain(right)
         }
-        Expr::Call(_, _, _) | Expr::Array(_) | Expr::Unary(_, _) | Expr::Choice(_, _, _) => false,
+        Expr::Call(_, _, _, _)
+        | Expr::Anonymous(_)
+        | Expr::Array(_)
+        | Expr::Unary(_, _)
+        | Expr::Choice(_, _, _) => false,
     }
 }
 
 fn no_value(value: &SignalValue) -> bool
-    ensures { result ≡ no_value_of (seen_signal_value value.now) }
+    ensures { result ≡ no_value_of (bare_signal_value value.now) }
 {
     matches!(value, SignalValue::Nothing)
 }
 
 fn is_plain_signal(signal: &DeclaredSignal) -> bool
-    ensures { result ≡ is_plain_signal_of (seen_signal signal.now) }
+    ensures { result ≡ is_plain_signal_of (bare_signal signal.now) }
 {
     is_empty(&signal.dimensions) && no_value(&signal.value)
 }
 
 fn are_plain_signals(signals: &[DeclaredSignal]) -> bool
-    ensures { result ≡ list_all is_plain_signal_of (map seen_signal signals.now) }
+    ensures { result ≡ list_all is_plain_signal_of (map bare_signal signals.now) }
 {
     for signal in signals {
         if !is_plain_signal(signal) {
@@ -66,21 +91,28 @@ fn are_plain_signals(signals: &[DeclaredSignal]) -> bool
     true
 }
 
+fn is_constraint(arrow: Arrow) -> bool
+    ensures { result ≡ is_constraint_of arrow }
+{
+    matches!(arrow, Arrow::Constrain)
+}
+
 fn is_plain_assign(assign: &Assign) -> bool
-    ensures { result ≡ is_plain_assign_of (seen_assign assign.now) }
+    ensures { result ≡ is_plain_assign_of (bare_assign assign.now) }
 {
     match assign {
-        Assign::ConstrainLeft(place, value) => is_signal(place) && is_plain(value),
+        Assign::Left(place, arrow, value) => {
+            is_constraint(*arrow) && is_signal(place) && is_plain(value)
+        }
         Assign::Set(_, _)
         | Assign::Compound(_, _, _)
-        | Assign::ArrowLeft(_, _)
         | Assign::Increment(_)
         | Assign::Decrement(_) => false,
     }
 }
 
 fn is_plain_simple(simple: &Simple) -> bool
-    ensures { result ≡ is_plain_simple_of (seen_simple simple.now) }
+    ensures { result ≡ is_plain_simple_of (bare_simple simple.now) }
 {
     match simple {
         Simple::Signals(signals) => are_plain_signals(signals.signals.as_slice()),
@@ -88,13 +120,15 @@ fn is_plain_simple(simple: &Simple) -> bool
         Simple::Constrain(left, right) => is_plain(left) && is_plain(right),
         Simple::Vars(_)
         | Simple::Components(_)
-        | Simple::ArrowRight(_, _)
-        | Simple::ConstrainRight(_, _) => false,
+        | Simple::Right(_, _, _)
+        | Simple::TargetLeft(_, _, _)
+        | Simple::TargetRight(_, _, _)
+        | Simple::Anonymous(_) => false,
     }
 }
 
 fn is_plain_statement(statement: &Statement) -> bool
-    ensures { result ≡ is_plain_statement_of (seen_statement statement.now) }
+    ensures { result ≡ is_plain_statement_of (bare_statement statement.now) }
 {
     match &statement.form {
         StatementForm::Simple(simple) => is_plain_simple(simple),
@@ -111,14 +145,13 @@ fn is_plain_statement(statement: &Statement) -> bool
 
 /// The first statement that isn't plain.
 fn first_unplain(file: u32, block: &Block) -> Option<Site>
-    ensures { result ≡ first_unplain_of file (seen_block block.now) }
+    ensures { result ≡ first_unplain_of file (bare_block block.now) }
 {
     for statement in block.statements.as_slice() {
         if !is_plain_statement(statement) {
             return Some(Site {
                 file,
-                line: statement.line,
-                column: statement.column,
+                spot: statement.spot,
             });
         }
     }
@@ -126,33 +159,32 @@ fn first_unplain(file: u32, block: &Block) -> Option<Site>
 }
 
 fn template_site(template: &Template) -> Option<Site>
-    ensures { result ≡ template_site_of (seen_template template.now) }
+    ensures { result ≡ template_site_of (bare_template template.now) }
 {
     if !template.parallel && is_empty(&template.parameters) {
         return first_unplain(template.file, &template.body);
     }
     Some(Site {
         file: template.file,
-        line: template.line,
-        column: template.column,
+        spot: template.spot,
     })
 }
 
 fn main_site(main: &Main) -> Option<Site>
-    ensures { result ≡ main_site_of (seen_main main.now) }
+    ensures { result ≡ main_site_of (bare_main main.now) }
 {
     if is_empty(&main.public) && is_empty(&main.arguments) {
         return None;
     }
     Some(Site {
         file: main.file,
-        line: main.line,
-        column: main.column,
+        spot: main.spot,
     })
 }
 
 fn in_templates(found: Option<Site>, templates: &[Template]) -> Option<Site>
-    ensures { result ≡ fold earlier_of found (map template_site_of (map seen_template templates.now)) }
+    ensures { result
+        ≡ fold earlier_of found (map template_site_of (map bare_template templates.now)) }
 {
     let mut least = found;
     for template in templates {
@@ -162,14 +194,13 @@ fn in_templates(found: Option<Site>, templates: &[Template]) -> Option<Site>
 }
 
 fn in_functions(found: Option<Site>, functions: &[Function]) -> Option<Site>
-    ensures { result ≡ fold earlier_of found (map function_site (map seen_function functions.now)) }
+    ensures { result ≡ fold earlier_of found (map function_site (map bare_function functions.now)) }
 {
     let mut least = found;
     for function in functions {
         let site = Site {
             file: function.file,
-            line: function.line,
-            column: function.column,
+            spot: function.spot,
         };
         least = earlier(least, Some(site));
     }
@@ -177,7 +208,7 @@ fn in_functions(found: Option<Site>, functions: &[Function]) -> Option<Site>
 }
 
 fn in_mains(found: Option<Site>, mains: &[Main]) -> Option<Site>
-    ensures { result ≡ fold earlier_of found (map main_site_of (map seen_main mains.now)) }
+    ensures { result ≡ fold earlier_of found (map main_site_of (map bare_main mains.now)) }
 {
     let mut least = found;
     for main in mains {
@@ -188,7 +219,7 @@ fn in_mains(found: Option<Site>, mains: &[Main]) -> Option<Site>
 
 /// The first item or statement of all that holds a form that isn't built.
 pub fn unbuilt(program: &Program) -> Option<Site>
-    ensures { result ≡ first_unbuilt (seen_program program.now) }
+    ensures { result ≡ first_unbuilt (bare_program program.now) }
 {
     let found = in_templates(None, program.templates.as_slice());
     let found = in_functions(found, program.functions.as_slice());

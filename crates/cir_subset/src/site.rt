@@ -1,13 +1,14 @@
 ghost use Rattle.std.specs.Prelude.{◌≡◌};
 ghost use Rattle.cir_subset.specs.Unbuilt.{is_before as is_before_of, earlier as earlier_of};
 
+use cir_ast::program::Spot;
+
 /// Where an item or a statement stands.
 #[derive(Clone, Copy, Debug, PartialEq, Eq)]
 pub struct Site {
     /// The place of its file in the program's list.
     pub file: u32,
-    pub line: u32,
-    pub column: u32,
+    pub spot: Spot,
 }
 
 /// By file, then by line, then by column.
@@ -15,7 +16,9 @@ pub(crate) fn is_before(a: Site, b: Site) -> bool
     ensures { result ≡ is_before_of a b }
 {
     a.file < b.file
-        || (a.file == b.file && (a.line < b.line || (a.line == b.line && a.column < b.column)))
+        || (a.file == b.file
+            && (a.spot.line < b.spot.line
+                || (a.spot.line == b.spot.line && a.spot.column < b.spot.column)))
 }
 
 /// The earlier of two places, if there are two.

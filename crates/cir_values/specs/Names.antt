@@ -1,14 +1,9 @@
 -- The names of signals: a declared name, and for an array's element its indices in brackets.
 use Rattle.std.specs.Prelude.{◌≡◌, ◌≢◌, ℕ, ◌-◌, ◌^◌, ◌<◌, List, [], ◌∷◌, ◌++◌, Some, slice_get}
-use Rattle.std.specs.Fmt.{decimal}
+pub use Rattle.cir_meaning.specs.Places.{brackets}
 use Rattle.cir_values.specs.declared.signals.SignalName.{SignalName}
 use Rattle.cir_values.specs.declared.signals.Signals.{Signals}
 use Rattle.cir_values.specs.Places.{elements, place_of}
-
--- each number in brackets of its own, in decimal
-abbrev pub brackets : List ℕ → List ℕ
-brackets [] = []
-brackets (n ∷ ns) = 91 ∷ (decimal n ++ (93 ∷ brackets ns))
 
 -- no `[` is among the bytes
 abbrev pub IsPlain : List ℕ → Type 0

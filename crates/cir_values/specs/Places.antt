@@ -1,10 +1,6 @@
 -- Places of an array's elements in row order.
+pub use Rattle.cir_meaning.specs.Places.{elements}
 use Rattle.std.specs.Prelude.{ℕ, ◌+◌, ◌*◌, ◌<◌, if◌then◌else◌, nat_lt, List, [], ◌∷◌, Option, Some, None}
-
--- how many elements an array has
-abbrev pub elements : List ℕ → ℕ
-elements [] = 1
-elements (d ∷ ds) = d * elements ds
 
 abbrev pub counted_on : ℕ → Option ℕ → Option ℕ
 counted_on n None = None

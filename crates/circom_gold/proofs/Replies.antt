@@ -68,9 +68,8 @@ writes (Some files) source options out f r told is read = record {
   constraints = record {
     file = f;
     read = read;
-    program = told.written.plain;
+    program = told.program;
     source_means = record {
-      whole = told.program;
       loaded = told.loaded;
       built = told.written.built;
     };

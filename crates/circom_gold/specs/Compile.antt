@@ -5,12 +5,12 @@ use Rattle.out_io.specs.Contents.{Contents}
 use Rattle.gold_field.specs.Form.{Holds}
 use Rattle.iden_files.specs.File.{File}
 use Rattle.iden_files.specs.ReadR1cs.{r1cs_of}
-use Rattle.cir_ast.specs.declared.program.Program.{Program}
-use Rattle.cir_ast.specs.declared.plain_program.Program.{Program as PlainProgram}
+use Rattle.cir_ast.specs.Program.{Program}
 use Rattle.cir_lc.specs.Number.{Assignment}
 use Rattle.cir_names.specs.Loading.{IsLoaded}
 use Rattle.cir_inst.specs.Meaning.Program.{Satisfies}
-use Rattle.cir_compile.specs.Compiled.{Task, IsBuilt, IsCompiled, IsRefused}
+use Rattle.cir_subset.specs.Unbuilt.{first_unbuilt}
+use Rattle.cir_compile.specs.Compiled.{Task, IsCompiled, IsRefused}
 use Rattle.cir_compile.specs.Written.{AreValues}
 use Rattle.circom_words.specs.Words.{Options}
 use Rattle.circom_words.specs.declared.answer.Refusal.{Refusal}
@@ -47,12 +47,11 @@ SourceSteps contents source options failed (Err (Refused r)) =
 SourceSteps contents source options failed (Err StoreFailed) = failed
 SourceSteps contents source options failed (Err OutOfMemory) = ⊤
 
--- the program that the source under the name means, with all that it includes
+-- the program that the source under the name means, with all that it includes; all its forms are built
 pub record IsProgramOf (files : Contents) (source : List ℕ) (options : Options)
-    (program : PlainProgram) : Type 0 where
-  pub whole : Program
-  pub loaded : IsLoaded files source options.folder whole
-  pub built : IsBuilt whole program
+    (program : Program) : Type 0 where
+  pub loaded : IsLoaded files source options.folder program
+  pub built : first_unbuilt program ≡ None
 
 -- The bytes are read as a file of constraints. Values of its wires satisfy them exactly when they
 -- extend to an assignment that satisfies the source: the value of each wire is that of the signal
@@ -61,7 +60,7 @@ pub record AreConstraintsOf (files : Contents) (source : List ℕ) (options : Op
     (bytes : List ℕ) : Type 0 where
   pub file : File
   pub read : r1cs_of bytes ≡ Ok file
-  pub program : PlainProgram
+  pub program : Program
   pub source_means : IsProgramOf files source options program
   pub exactly : (values : List ℕ) → AreValues file values
       → All (Holds (slice_index values)) file.constraints

@@ -209,7 +209,8 @@ fn each_call_that_fails_is_answered_with_3(rt: HostRuntime) -> Result<(), Fail> 
 #[test]
 fn words_without_a_reading_get_the_usage_line(rt: HostRuntime) -> Result<(), Fail> {
     let alloc = rt.alloc();
-    let usage = "usage: circom_gold check, compile, witness, prove, public, audit or generate\n";
+    let usage = "usage: circom_gold check, compile, witness, prove, public, audit, sym, batch, \
+        series, determine, confirm or generate\n";
     for words in [
         "",
         "check m.r1cs",

@@ -2,8 +2,8 @@
 use Rattle.std.specs.Prelude.{ℕ, List, [], ◌∷◌, ◌++◌, codes, decimal}
 use Rattle.iden_files.specs.declared.fault.FileCause.{FileCause}
 use Rattle.iden_files.specs.declared.fault.FileCause.TheVariants.{Magic, Version, Truncated, SectionMissing, SectionTwice, WrongPrime, ValueTooLarge, WireOutOfRange, BadCount, CustomGates, Limit}
-use Rattle.cir_lexer.specs.declared.token.LexCause.{LexCause}
-use Rattle.cir_lexer.specs.declared.token.LexCause.TheVariants as lex
+use Rattle.cir_token.specs.declared.token.LexCause.{LexCause}
+use Rattle.cir_token.specs.declared.token.LexCause.TheVariants as lex
 use Rattle.cir_ast.specs.declared.refusal.Kind.{Kind}
 use Rattle.cir_ast.specs.declared.refusal.Kind.TheVariants as kind
 use Rattle.cir_ast.specs.declared.refusal.Which.{Which}
@@ -78,6 +78,7 @@ form_text form.DeclarationPlace = codes " DeclarationPlace"
 form_text form.LogPlace = codes " LogPlace"
 form_text form.RunArray = codes " RunArray"
 form_text form.RunDimension = codes " RunDimension"
+form_text form.AnonymousPlace = codes " AnonymousPlace"
 form_text form.Unbuilt = codes " Unbuilt"
 
 abbrev pub kind_text : Kind → List ℕ
@@ -158,7 +159,8 @@ compiled_line wires constraints =
 abbrev pub usage_line : List ℕ
 usage_line =
     line
-    (codes "usage: circom_gold check, compile, witness, prove, public, audit or generate" ∷ [])
+    (codes "usage: circom_gold check, compile, witness, prove, public, audit, sym, batch, series, "
+    ∷ codes "determine, confirm or generate" ∷ [])
 
 -- what is said where the store failed
 abbrev pub fault_line : List ℕ

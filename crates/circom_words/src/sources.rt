@@ -5,7 +5,7 @@ ghost use Rattle.circom_words.specs.Lines.{line, source_line, kind_text, detail_
 
 use crate::lines::line;
 use cir_ast::{Form, Kind, Refusal, Which};
-use cir_lexer::LexCause;
+use cir_token::LexCause;
 use std::alloc::{AllocError, Global};
 
 /// The line with the kind, the place and the instance.
@@ -159,6 +159,7 @@ fn form_text(form: Form) -> &'static str
         Form::LogPlace => " LogPlace",
         Form::RunArray => " RunArray",
         Form::RunDimension => " RunDimension",
+        Form::AnonymousPlace => " AnonymousPlace",
         Form::Unbuilt => " Unbuilt",
     }
 }

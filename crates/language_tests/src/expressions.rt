@@ -1,6 +1,7 @@
-use cir_ast::tree::{Accessor, Binary, Expr, Unary};
+use cir_ast::tree::{Accessor, Arrow, Binary, Expr, Inputs, Unary};
 use cir_expression::{Reader, Stop};
-use cir_lexer::{Text, Token, lex};
+use cir_lexer::lex;
+use cir_token::{Text, Token};
 use std::alloc::{AllocError, Global};
 use std::test::Fail;
 
@@ -67,7 +68,7 @@ fn shape(e: &Expr, depth: u32, out: &mut String) -> Result<(), AllocError> {
             }
             Ok(())
         }
-        Expr::Call(parallel, name, arguments) => {
+        Expr::Call(parallel, name, _, arguments) => {
             if *parallel {
                 out.push_str("parallel ")?;
             }
@@ -76,6 +77,35 @@ fn shape(e: &Expr, depth: u32, out: &mut String) -> Result<(), AllocError> {
             for argument in arguments.as_slice() {
                 shape(argument, depth - 1, out)?;
                 out.push(';')?;
+            }
+            out.push(')')
+        }
+        Expr::Anonymous(anonymous) => {
+            push_name(&anonymous.name, out)?;
+            out.push('(')?;
+            for argument in anonymous.arguments.as_slice() {
+                shape(argument, depth - 1, out)?;
+                out.push(';')?;
+            }
+            out.push_str(")(")?;
+            match &anonymous.inputs {
+                Inputs::Listed(values) => {
+                    for value in values.as_slice() {
+                        shape(value, depth - 1, out)?;
+                        out.push(';')?;
+                    }
+                }
+                Inputs::Named(inputs) => {
+                    for input in inputs.as_slice() {
+                        push_name(&input.name, out)?;
+                        out.push_str(match input.arrow {
+                            Arrow::Assign => "<--",
+                            Arrow::Constrain => "<==",
+                        })?;
+                        shape(&input.value, depth - 1, out)?;
+                        out.push(';')?;
+                    }
+                }
             }
             out.push(')')
         }
@@ -127,7 +157,8 @@ fn reads(alloc: Global, source: &str, room: u16) -> Result<String, Fail> {
     let mut reader = Reader {
         rest: tokens.as_slice(),
     };
-    match reader.expression(alloc, u32::from(room)) {
+    let read: Result<Expr, Stop> = reader.expression(alloc, u32::from(room));
+    match read {
         Ok(e) => {
             shape(&e, 16, &mut out)?;
             let left = reader.rest.len();
@@ -165,6 +196,10 @@ fn operands_have_their_forms(rt: HostRuntime) -> Result<(), Fail> {
         ("parallel f(1, 2)", "parallel f(1;2;) 0"),
         ("[1, [2]]", "[1;[2;];] 0"),
         ("(a + 1) * ~(b)", "{({a+1})*{~(b)}} 0"),
+        ("A(1)(a, b) + 2", "{A(1;)(a;b;)+2} 0"),
+        ("A()(x <== a, y <-- 1)", "A()(x<==a;y<--1;) 0"),
+        ("A()()", "A()() 0"),
+        ("A()(x <== a, 1)", ""),
         ("a b", "a 1"),
         ("f(1,)", ""),
         ("[]", ""),

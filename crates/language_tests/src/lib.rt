@@ -14,9 +14,9 @@ mod loading;
 #[cfg(test)]
 mod parsing;
 #[cfg(test)]
-mod places;
-#[cfg(test)]
 mod placing;
+#[cfg(test)]
+mod refusals;
 #[cfg(test)]
 mod sources;
 #[cfg(test)]

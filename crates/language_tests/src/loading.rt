@@ -22,34 +22,16 @@ pub(crate) fn program_of(alloc: Global, source: &str) -> Result<Program, Fail> {
     }
 }
 
-fn refusal_of(alloc: Global, source: &str) -> Result<Refusal, Fail> {
+/// The refusal of this source.
+pub(crate) fn refusal_of(alloc: Global, source: &str) -> Result<Refusal, Fail> {
     let mut store = store_of(alloc, source)?;
-    match load(alloc, &mut store, "t.circom", None) {
+    refusal_in(alloc, &mut store)
+}
+
+/// The refusal of the source `t.circom` of this store.
+pub(crate) fn refusal_in(alloc: Global, store: &mut MemStore) -> Result<Refusal, Fail> {
+    match load(alloc, store, "t.circom", None) {
         Err(LoadFault::Refused(refusal)) => Ok(refusal),
         _ => Err(Fail::new("not refused")),
     }
-}
-
-#[test]
-fn faults_of_names_have_their_places(rt: HostRuntime) -> Result<(), Fail> {
-    for (source, kind, line, column) in [
-        (
-            "template T(a) {\n  signal input a;\n}\ncomponent main = T(1);",
-            Kind::Duplicate,
-            2,
-            3,
-        ),
-        ("template T() {}\ncomponent main = T(1);", Kind::Arity, 2, 1),
-        (
-            "function f(n) {\n return m;\n}\ntemplate T() {}\ncomponent main = T();",
-            Kind::UnknownName,
-            2,
-            2,
-        ),
-    ] {
-        let refusal = refusal_of(rt.alloc(), source)?;
-        assert_eq!(rt; refusal.kind, kind);
-        assert_eq!(rt; (refusal.place.line, refusal.place.column), (line, column));
-    }
-    Ok(())
 }

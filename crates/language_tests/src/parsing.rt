@@ -25,7 +25,8 @@ fn items_of_each_kind_are_read(rt: HostRuntime) -> Result<(), Fail> {
         template A(n, m) { signal input a[n], b; signal output c <== a[0] * b; var x = 1, y[2];
             component p = A(1, 2); if (n > 1) x++; else if (m == 2) { x += f(3); } else { }
             for (var i = 0; i < n; i++) { while (x < 3) x = x + 1; }
-            a --> p.in[0]; c === b; assert(n > 0); log(\"n\", n); log(); x ==> p.b; }
+            a --> p.in[0]; c === b; assert(n > 0); log(\"n\", n); log(); x ==> p.b;
+            (a[0], _) <== A(1, 2)(a, b); _ <-- b; (b, c) ==> (x, _); A(1, 2)(a <== a, b <== b); }
         component main {public [a, b]} = A(1, 2);";
     assert_eq!(rt; parsed(rt.alloc(), source)?, Ok(5));
     Ok(())

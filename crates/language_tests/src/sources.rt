@@ -1,6 +1,6 @@
 use cir_ast::Kind;
-use cir_lexer::LexCause;
 use cir_sources::{LoadFault, sources};
+use cir_token::LexCause;
 use out_io::{MemStore, Store};
 use std::alloc::Global;
 use std::test::Fail;

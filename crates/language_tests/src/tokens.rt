@@ -1,4 +1,5 @@
-use cir_lexer::{LexCause, LexFault, Symbol, Token, TokenKind, lex};
+use cir_lexer::{LexFault, lex};
+use cir_token::{LexCause, Symbol, Token, TokenKind};
 use std::test::Fail;
 
 // Where the tokens of `c <== a*0x10; // rest` begin, and how long they are.

@@ -1,22 +1,23 @@
--- What a program compiles to, and which assignments satisfy it.
-use Rattle.std.specs.Prelude.{ℕ, ◌+◌, List, [], ◌∷◌, length, All, None, Result, Ok, Err, MatchResult, if◌then◌else◌, nat_le, slice_get, unwrap_or, codes}
-use Rattle.cir_ast.specs.declared.plain_program.Program.{Program}
-use Rattle.cir_ast.specs.declared.plain_program.Template.{Template}
-use Rattle.cir_ast.specs.declared.plain_program.Statement.{Statement}
-use Rattle.cir_ast.specs.declared.plain_program.StatementForm.{StatementForm}
-use Rattle.cir_ast.specs.declared.plain_program.StatementForm.TheVariants.{Simple as Simple'}
-use Rattle.cir_ast.specs.declared.plain_tree.Simple.TheVariants.{Signals, Assign, Constrain}
-use Rattle.cir_ast.specs.declared.plain_tree.Direction.{Direction}
-use Rattle.cir_ast.specs.declared.plain_tree.Direction.TheVariants.{Inner, Input, Output}
+-- What a program compiles to, and which assignments satisfy it: of a program that is checked, and whose forms are
+-- all built.
+use Rattle.std.specs.Prelude.{ℕ, ◌+◌, List, [], ◌∷◌, length, All, Option, None, Result, Ok, Err, MatchResult}
+use Rattle.std.specs.Prelude.{if◌then◌else◌, nat_le, slice_get, unwrap_or, codes}
+use Rattle.cir_ast.specs.declared.program.Spot.{Spot as SourceSpot}
+use Rattle.cir_ast.specs.declared.program.Meant.{Meant}
+use Rattle.cir_ast.specs.declared.program.Meant.TheVariants as meant
+use Rattle.cir_ast.specs.declared.operators.Direction.{Direction}
+use Rattle.cir_ast.specs.declared.operators.Direction.TheVariants.{Inner, Input, Output}
 use Rattle.cir_ast.specs.declared.refusal.Refusal.{Refusal}
+use Rattle.cir_ast.specs.Tree.{Signals, Statement, Ended, Statements, empty, then_more}
+use Rattle.cir_ast.specs.Spot.{start}
+use Rattle.cir_ast.specs.Program.{Template, Main, Program}
 use Rattle.cir_lc.specs.Number.{Assignment}
 use Rattle.cir_inst.specs.declared.stop.Stop.{Stop}
 use Rattle.cir_inst.specs.declared.counts.Counts.{Counts}
-use Rattle.cir_inst.specs.Meaning.Tried.{Tried, next}
+use Rattle.cir_inst.specs.Meaning.Tried.{Tried, next, if_built, in_file}
 use Rattle.cir_meaning.specs.Source.{Equation, IsEqualAt}
 use Rattle.cir_inst.specs.Meaning.Equation.{most_signals}
 use Rattle.cir_inst.specs.Meaning.Statement.{World, run_all, ended}
-use Rattle.cir_inst.specs.Meaning.Loading.{loaded}
 
 abbrev pub total : Counts → ℕ
 total c = c.outputs + c.inputs + c.inner
@@ -27,17 +28,17 @@ counted_more Input n c = record c { inputs = c.inputs + n }
 counted_more Inner n c = record c { inner = c.inner + n }
 
 -- a declaration that passes the limit of signals doesn't count: the program is refused there
-abbrev pub counted_form : StatementForm → Counts → Counts
-counted_form (Simple' (Signals d)) c = if nat_le (total c + length d.signals) most_signals then counted_more d.direction (length d.signals) c else c
-counted_form (Simple' (Assign a)) c = c
-counted_form (Simple' (Constrain l r)) c = c
+abbrev pub counted_statement : Statement SourceSpot Meant → Counts → Counts
+counted_statement (Ended spot (Signals direction signals)) c =
+    if nat_le (total c + length signals) most_signals then counted_more direction (length signals) c else c
+counted_statement _ c = c
 
-abbrev pub counted_all : List Statement → Counts → Counts
-counted_all [] c = c
-counted_all (st ∷ sts) c = counted_all sts (counted_form st.form c)
+abbrev pub counted_all : Statements SourceSpot Meant → Counts → Counts
+counted_all empty c = c
+counted_all (then_more st sts) c = counted_all sts (counted_statement st c)
 
 -- the signals that the statements declare, by direction
-abbrev pub declared_by : List Statement → Counts
+abbrev pub declared_by : Statements SourceSpot Meant → Counts
 declared_by sts = counted_all sts record { outputs = 0; inputs = 0; inner = 0 }
 
 pub record Circuit : Type 0 where
@@ -49,34 +50,47 @@ pub record Circuit : Type 0 where
 -- signal 0 stands for 1; then come the outputs, the inputs and all others
 abbrev pub started : Counts → World
 started c = record {
-  scope = record { names = λ _. None; signals = []; next_output = 1; next_input = 1 + c.outputs; next_inner = 1 + c.outputs + c.inputs };
+  scope = record { signals = []; next_output = 1; next_input = 1 + c.outputs; next_inner = 1 + c.outputs + c.inputs };
   equations = [];
 }
 
-abbrev pub executed_by : Counts → Template → Tried World
-executed_by c t = next (run_all (1 + total c) t.file t.body.statements (started c)) (λ w. ended t.file w.scope.signals w)
+-- the statements are in the file of this place among the program's
+abbrev pub executed_by : Counts → ℕ → Statements SourceSpot Meant → Tried World
+executed_by c file sts = next (run_all (1 + total c) file sts (started c)) (λ w. ended file w.scope.signals w)
 
-abbrev pub executed : Counts → Template → Tried Circuit
-executed c t = next (executed_by c t) (λ w. Ok record { outputs = c.outputs; inputs = c.inputs; signals = total c; equations = w.equations })
+abbrev pub executed : Counts → ℕ → Statements SourceSpot Meant → Tried Circuit
+executed c file sts =
+    next (executed_by c file sts) (λ w. Ok record { outputs = c.outputs; inputs = c.inputs; signals = total c; equations = w.equations })
 
 -- a refusal, with the name of its file and the path of its instance
-abbrev pub refusal_at : Program → List ℕ → Stop → Refusal
-refusal_at p path s = record {
+abbrev pub refusal_at : List (List ℕ) → List ℕ → Stop → Refusal
+refusal_at files path s = record {
   kind = s.kind;
-  place = record { file = unwrap_or (slice_get p.files s.spot.file) []; line = s.spot.line; column = s.spot.column; path = path };
+  place = record { file = unwrap_or (slice_get files s.spot.file) []; line = s.spot.line; column = s.spot.column; path = path };
 }
 
-abbrev pub at_path : {A : Type 0} → Program → List ℕ → Tried A → Result A Refusal
-at_path p path (Ok a) = Ok a
-at_path p path (Err s) = Err (refusal_at p path s)
+abbrev pub at_path : {A : Type 0} → List (List ℕ) → List ℕ → Tried A → Result A Refusal
+at_path files path (Ok a) = Ok a
+at_path files path (Err s) = Err (refusal_at files path s)
 
-abbrev pub then_at : {A B : Type 0} → Program → List ℕ → Result A Refusal → (A → Tried B) → Result B Refusal
-then_at p path (Ok a) go = at_path p path (go a)
-then_at p path (Err r) go = Err r
+-- the template of the main component
+abbrev pub meant_template : List Template → Meant → Option Template
+meant_template templates (meant.Template n) = slice_get templates n
+meant_template templates _ = None
 
--- no instance is made before the names are right; then the main component is executed
+abbrev pub template_by : List Template → List Main → Option Template
+template_by templates [] = None
+template_by templates (m ∷ ms) = meant_template templates m.meant
+
+abbrev pub main_template : Program → Tried Template
+main_template p = if_built (in_file 0 start) (template_by p.templates p.mains)
+
+-- the main component is executed
+abbrev pub compiled : Program → Tried Circuit
+compiled p = next (main_template p) (λ t. executed (declared_by t.body) t.file t.body)
+
 abbrev pub meaning : Program → Result Circuit Refusal
-meaning p = then_at p (codes "main") (at_path p (codes "-") (loaded p)) (λ t. executed (declared_by t.body.statements) t)
+meaning p = at_path p.files (codes "main") (compiled p)
 
 -- an assignment satisfies a program that isn't refused, where the two sides of each equation are equal
 abbrev pub Satisfies : Program → Assignment → Type 0

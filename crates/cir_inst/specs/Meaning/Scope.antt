@@ -1,21 +1,18 @@
 -- The signals of a template, as they are declared and written.
-use Rattle.std.specs.Prelude.{ℕ, ◌+◌, List, [], ◌∷◌, ◌++◌, length, Bool, true, false, Option, Some, None, Ok, if◌then◌else◌, slice_get, slice_set}
-use Rattle.std.specs.Map.{update}
-use Rattle.std.specs.Str.{bytes_eq}
-use Rattle.cir_ast.specs.declared.plain_tree.Direction.{Direction}
-use Rattle.cir_ast.specs.declared.plain_tree.Direction.TheVariants.{Inner, Input, Output}
-use Rattle.cir_ast.specs.declared.plain_tree.DeclaredSignal.{DeclaredSignal}
-use Rattle.cir_ast.specs.declared.refusal.Kind.TheVariants.{UnknownName, ReadBeforeWrite, SecondWrite}
+use Rattle.std.specs.Prelude.{ℕ, ◌+◌, List, [], ◌∷◌, ◌++◌, Bool, true, false, Option, Some, None, Ok, if◌then◌else◌, slice_get, slice_set}
+use Rattle.cir_ast.specs.declared.operators.Direction.{Direction}
+use Rattle.cir_ast.specs.declared.operators.Direction.TheVariants.{Inner, Input, Output}
+use Rattle.cir_ast.specs.declared.program.Meant.{Meant}
+use Rattle.cir_ast.specs.declared.program.Meant.TheVariants as meant
+use Rattle.cir_ast.specs.declared.refusal.Kind.TheVariants.{ReadBeforeWrite, SecondWrite}
 use Rattle.cir_lc.specs.Number.{signal}
 use Rattle.cir_inst.specs.declared.stop.Spot.{Spot}
 use Rattle.cir_inst.specs.declared.scope.Signal.{Signal}
-use Rattle.cir_inst.specs.Meaning.Tried.{Tried, next, refused}
+use Rattle.cir_inst.specs.Meaning.Tried.{Tried, next, refused, if_built}
 use Rattle.cir_meaning.specs.Values.{Value, Linear}
 
 pub record Scope : Type 0 where
-  -- the place of each declared name among the signals
-  pub names : List ℕ → Option ℕ
-  -- in order of creation
+  -- in order of creation, so that each stands at its number in the definition
   pub signals : List Signal
   -- the numbers of the next output, the next input and the next other signal
   pub next_output : ℕ
@@ -38,33 +35,33 @@ is_input Output = false
 is_input Input = true
 is_input Inner = false
 
-abbrev pub created : Direction → Spot → List ℕ → Scope → Scope
-created direction spot name s = advanced direction record s {
-  names = update bytes_eq s.names name (Some (length s.signals));
+abbrev pub created : Direction → Spot → Scope → Scope
+created direction spot s = advanced direction record s {
   signals = s.signals ++ record { number = next_number direction s; line = spot.line; column = spot.column; written = is_input direction } ∷ [];
 }
 
-abbrev pub all_created : Direction → Spot → List DeclaredSignal → Scope → Scope
+-- one for each declaration
+abbrev pub all_created : {D : Type 0} → Direction → Spot → List D → Scope → Scope
 all_created direction spot [] s = s
-all_created direction spot (d ∷ ds) s = all_created direction spot ds (created direction spot d.name s)
+all_created direction spot (d ∷ ds) s = all_created direction spot ds (created direction spot s)
 
-abbrev pub found_at : {A : Type 0} → Spot → Option A → Tried A
-found_at spot None = refused spot UnknownName
-found_at spot (Some x) = Ok x
+-- the place of the signal that a name means, and the signal there
+abbrev pub meant_place : Meant → Option ℕ
+meant_place (meant.Signal direction n) = Some n
+meant_place _ = None
 
--- the place of a declared name, and the signal there
-abbrev pub place_of : Spot → List ℕ → Scope → Tried ℕ
-place_of spot name s = found_at spot (s.names name)
+abbrev pub place_of : Spot → Meant → Tried ℕ
+place_of spot m = if_built spot (meant_place m)
 
 abbrev pub signal_at : Spot → ℕ → Scope → Tried Signal
-signal_at spot place s = found_at spot (slice_get s.signals place)
+signal_at spot place s = if_built spot (slice_get s.signals place)
 
 -- a signal is read only once it is written
 abbrev pub read_from : Spot → Signal → Tried Value
 read_from spot x = if x.written then Ok (Linear (signal x.number)) else refused spot ReadBeforeWrite
 
-abbrev pub value_of_name : Spot → List ℕ → Scope → Tried Value
-value_of_name spot name s = next (place_of spot name s) (λ place. next (signal_at spot place s) (read_from spot))
+abbrev pub value_of_name : Spot → Meant → Scope → Tried Value
+value_of_name spot m s = next (place_of spot m) (λ place. next (signal_at spot place s) (read_from spot))
 
 -- and written once
 abbrev pub written_to : Spot → ℕ → Scope → Signal → Tried (Signal × Scope)
@@ -72,5 +69,5 @@ written_to spot place s x =
     if x.written then refused spot SecondWrite
     else Ok (x, record s { signals = slice_set s.signals place (record x { written = true }) })
 
-abbrev pub write_of_name : Spot → List ℕ → Scope → Tried (Signal × Scope)
-write_of_name spot name s = next (place_of spot name s) (λ place. next (signal_at spot place s) (written_to spot place s))
+abbrev pub write_of_name : Spot → Meant → Scope → Tried (Signal × Scope)
+write_of_name spot m s = next (place_of spot m) (λ place. next (signal_at spot place s) (written_to spot place s))

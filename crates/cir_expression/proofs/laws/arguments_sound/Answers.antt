@@ -4,4 +4,6 @@ use Rattle.cir_expression.proofs.Front.{all_at}
 use Rattle.cir_expression.proofs.Sound.{AreArguments, arguments_sound as law}
 
 pub returns : goal.returns
-returns c = λ room ts rest es is. let r = all_at (AreArguments room ts) (arguments room ts) (es, rest) (law room ts) is in (r.prints, r.fits, r.low)
+returns c = λ room ts rest es is. let r =
+    all_at (AreArguments room ts) (arguments room ts) (es, rest) (law room ts) is
+    in (r.prints, r.fits, r.low)

@@ -4,4 +4,6 @@ use Rattle.cir_expression.proofs.Front.{all_at}
 use Rattle.cir_expression.proofs.Sound.{IsRead, expression_sound}
 
 pub returns : goal.returns
-returns c = λ room ts rest e is. let r = all_at (IsRead room ts) (expression room ts) (e, rest) (expression_sound room ts) is in (r.prints, r.fits, r.low)
+returns c = λ room ts rest e is. let r =
+    all_at (IsRead room ts) (expression room ts) (e, rest) (expression_sound room ts) is
+    in (r.prints, r.fits, r.low)

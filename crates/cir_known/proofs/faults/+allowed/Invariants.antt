@@ -1,8 +1,10 @@
 use Rattle.std.proofs.Common.{◌≡◌, drop}
-use Rattle.cir_known.specs.Faults.{first_fault}
-use Rattle.cir_known.proofs.Rows.{list_fault}
+use Rattle.std.specs.Prelude.{map}
+use Rattle.cir_ast.specs.Tree.{bare_statement, bare_block, as_statements}
+use Rattle.cir_known.specs.Unknown.{fault_in}
 use Rattle.cir_known.proofs.faults.+allowed.Given as goal
 
+-- the first fault of what is left is the first of all
 abbrev pub invariant-allowed_unknown-loop-statement : goal.invariant-allowed_unknown-loop-statement
 invariant-allowed_unknown-loop-statement l =
-    first_fault l.fn.block ≡ list_fault (drop l.statement-index l.statement-items)
+    fault_in (as_statements (map bare_statement (drop l.statement-index l.statement-items))) ≡ fault_in (bare_block l.block)

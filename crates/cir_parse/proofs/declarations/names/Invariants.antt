@@ -7,4 +7,5 @@ use Rattle.cir_parse.proofs.declarations.names.Given as goal
 abbrev pub invariant-loop : goal.invariant-loop
 invariant-loop l =
     separated name_at (kinds l.fn.reader.rest.now)
-    ≡ separated_by (length l.fn.reader.rest.now - l.counter) name_at l.names.items (kinds l.reader.rest.now)
+    ≡ separated_by (length l.fn.reader.rest.now - l.counter) name_at l.names.items
+    (kinds l.reader.rest.now)

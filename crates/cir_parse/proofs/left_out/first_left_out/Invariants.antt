@@ -5,4 +5,5 @@ use Rattle.cir_parse.proofs.left_out.first_left_out.Given as goal
 
 abbrev pub invariant-loop-token : goal.invariant-loop-token
 invariant-loop-token l =
-    (first_left_out 0 (kinds l.fn.tokens) ≡ first_left_out l.token (kinds l.rest)) × (length l.rest + l.token ≡ length l.fn.tokens)
+    (first_left_out 0 (kinds l.fn.tokens) ≡ first_left_out l.token (kinds l.rest))
+    × (length l.rest + l.token ≡ length l.fn.tokens)

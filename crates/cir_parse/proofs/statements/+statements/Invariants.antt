@@ -1,32 +1,34 @@
 use Rattle.std.proofs.Common.{◌≡◌, ◌-◌, ◌+◌, ◌*◌, length}
 use Rattle.std.specs.Prelude.{map}
-use Rattle.cir_ast.specs.Tree.{bare_statement}
+use Rattle.cir_parse.specs.Answers.{seen_statement}
 use Rattle.cir_expression.specs.Answers.{kinds}
 use Rattle.cir_parse.specs.Reading.{statement, statements_by, rest_by}
 use Rattle.cir_parse.proofs.statements.+statements.Given as goal
 
 abbrev pub decreases-statement : goal.decreases-statement
-decreases-statement l = 3 * l.room
+decreases-statement g l = 3 * l.room
 
 abbrev pub decreases-rest_of_block : goal.decreases-rest_of_block
-decreases-rest_of_block l = 3 * l.room + 1
+decreases-rest_of_block g l = 3 * l.room + 1
 
 abbrev pub decreases-inner_block : goal.decreases-inner_block
-decreases-inner_block l = 3 * l.room + 2
+decreases-inner_block g l = 3 * l.room + 2
 
 abbrev pub decreases-if_statement : goal.decreases-if_statement
-decreases-if_statement l = 3 * l.room + 2
+decreases-if_statement g l = 3 * l.room + 2
 
 abbrev pub decreases-else_branch : goal.decreases-else_branch
-decreases-else_branch l = 3 * l.room + 1
+decreases-else_branch g l = 3 * l.room + 1
 
 abbrev pub decreases-while_statement : goal.decreases-while_statement
-decreases-while_statement l = 3 * l.room + 1
+decreases-while_statement g l = 3 * l.room + 1
 
 abbrev pub decreases-for_statement : goal.decreases-for_statement
-decreases-for_statement l = 3 * l.room + 1
+decreases-for_statement g l = 3 * l.room + 1
 
 abbrev pub invariant-rest_of_block-loop : goal.invariant-rest_of_block-loop
-invariant-rest_of_block-loop l =
-    rest_by (statement l.room) (kinds l.fn.reader.rest.now)
-    ≡ statements_by (length l.fn.reader.rest.now - l.counter) (statement l.room) (map bare_statement l.statements.items) (kinds l.reader.rest.now)
+invariant-rest_of_block-loop g l =
+    rest_by (statement (g.M.Marks.mark l.marks) l.room) (kinds l.fn.reader.rest.now)
+    ≡ statements_by (length l.fn.reader.rest.now - l.counter)
+    (statement (g.M.Marks.mark l.marks) l.room) (map seen_statement l.statements.items)
+    (kinds l.reader.rest.now)

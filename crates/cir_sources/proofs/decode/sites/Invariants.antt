@@ -1,8 +1,9 @@
-use Rattle.std.proofs.Common.{drop, map}
-use Rattle.cir_ast.specs.Tree.{bare_item}
-use Rattle.cir_sources.specs.Includes.{seen}
-use Rattle.cir_sources.proofs.Decoding.{IsWalk}
+use Rattle.std.proofs.Common.{◌≡◌, ◌++◌, drop}
+use Rattle.cir_sources.specs.Includes.{seen, seen_items, includes_of, includes_in}
 use Rattle.cir_sources.proofs.decode.sites.Given as goal
 
+-- what is found, and what is found in the items that are left, are the whole
 abbrev pub invariant-loop-item : goal.invariant-loop-item
-invariant-loop-item l = IsWalk (seen l.fn.source) l.sites.items l.places l.token (map bare_item (drop l.item-index l.item-items))
+invariant-loop-item l =
+    l.sites.items ++ includes_in l.source.name (seen_items (drop l.item-index l.item-items))
+    ≡ includes_of (seen l.fn.source)

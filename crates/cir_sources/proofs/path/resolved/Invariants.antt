@@ -7,7 +7,8 @@ use Rattle.cir_sources.proofs.path.resolved.Given as goal
 
 -- what is left leads to the same segments
 abbrev pub invariant-loop-segment : goal.invariant-loop-segment
-invariant-loop-segment l = fold keep (last_first l.kept) (slice_split is_slash l.rest) ≡ fold keep [] (slice_split is_slash l.fn.name)
+invariant-loop-segment l = fold keep (last_first l.kept) (slice_split is_slash l.rest)
+    ≡ fold keep [] (slice_split is_slash l.fn.name)
 
 abbrev pub decreases-loop-segment : goal.decreases-loop-segment
 decreases-loop-segment l = length l.rest

@@ -8,20 +8,44 @@ use Rattle.cir_sources.proofs.loading.Loading.follow.Goals as goal
 
 pub returns-then-len-ge-MAX_FILES-clause-follows : goal.returns-then-len-ge-MAX_FILES-clause-follows
 returns-then-len-ge-MAX_FILES-clause-follows g c =
-    follow_full _ (option_copied c.args.library) c.args.self.now c.args.site.now c.args.self.now _ c.in-Found.name c.in-Found.bytes _ c.refusal-then-len-ge-MAX_FILES.result
-    (rw c.in-Found.is at c.in_ok-search.ensures.targets) (omega (arith, c.requires.few, c.if-len-ge-MAX_FILES.true, c.len.ensures, length-map c.args.self.now.sources.items seen))
+    follow_full _ (option_copied c.args.library) c.args.self.now c.args.site.now c.args.self.now _
+    c.in-Found.name c.in-Found.bytes _ c.refusal-then-len-ge-MAX_FILES.result
+    (rw c.in-Found.is at c.in_ok-search.ensures.targets)
+    (omega (
+      arith,
+      c.requires.few,
+      c.if-len-ge-MAX_FILES.true,
+      c.len.ensures,
+      length-map c.args.self.now.sources.items seen,
+    ))
     c.as_slice-file-then-len-ge-MAX_FILES.ensures c.refusal-then-len-ge-MAX_FILES.ensures
 
-pub returns-in_err-source-in-Found-clause-follows : goal.returns-in_err-source-in-Found-clause-follows
+pub returns-in_err-source-in-Found-clause-follows :
+    goal.returns-in_err-source-in-Found-clause-follows
 returns-in_err-source-in-Found-clause-follows g c =
-    let p = err_from_is_err_and c.from_residual-in_err-source-in-Found.result c.from_residual-in_err-source-in-Found.ensures.1 in
+    let p = err_from_is_err_and c.from_residual-in_err-source-in-Found.result
+    c.from_residual-in_err-source-in-Found.ensures.1 in
     rw (p.1, p.2)
-    (follow_bad _ (option_copied c.args.library) c.args.self.now c.args.site.now c.args.self.now _ c.in-Found.name c.in-Found.bytes c.in_err-source-in-Found.field-0.0
-    (rw c.in-Found.is at c.in_ok-search.ensures.targets) (omega (arith, c.if-len-ge-MAX_FILES.false, c.len.ensures, length-map c.args.self.now.sources.items seen))
+    (follow_bad _ (option_copied c.args.library) c.args.self.now c.args.site.now c.args.self.now _
+    c.in-Found.name c.in-Found.bytes c.in_err-source-in-Found.field-0.0
+    (rw c.in-Found.is at c.in_ok-search.ensures.targets)
+    (omega (
+      arith,
+      c.if-len-ge-MAX_FILES.false,
+      c.len.ensures,
+      length-map c.args.self.now.sources.items seen,
+    ))
     (rw c.as_bytes.ensures.value at c.in_err-source-in-Found.ensures))
 
 pub returns-in_ok-add-in-Found-clause-follows : goal.returns-in_ok-add-in-Found-clause-follows
 returns-in_ok-add-in-Found-clause-follows g c =
-    follow_loads _ (option_copied c.args.library) c.args.self.now c.args.site.now c.add.new.self c.in-Found.name c.in-Found.bytes c.as_bytes.result.now c.in_ok-source-in-Found.source
-    (rw c.in-Found.is at c.in_ok-search.ensures.targets) (omega (arith, c.if-len-ge-MAX_FILES.false, c.len.ensures, length-map c.args.self.now.sources.items seen)) c.as_bytes.ensures.value
+    follow_loads _ (option_copied c.args.library) c.args.self.now c.args.site.now c.add.new.self
+    c.in-Found.name c.in-Found.bytes c.as_bytes.result.now c.in_ok-source-in-Found.source
+    (rw c.in-Found.is at c.in_ok-search.ensures.targets)
+    (omega (
+      arith,
+      c.if-len-ge-MAX_FILES.false,
+      c.len.ensures,
+      length-map c.args.self.now.sources.items seen,
+    )) c.as_bytes.ensures.value
     c.in_ok-source-in-Found.ensures c.in_ok-add-in-Found.ensures

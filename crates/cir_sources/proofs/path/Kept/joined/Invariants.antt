@@ -5,4 +5,6 @@ use Rattle.cir_sources.proofs.path.Kept.joined.Given as goal
 
 -- what is written, and what is left, are the whole
 abbrev pub invariant-loop-segment : goal.invariant-loop-segment
-invariant-loop-segment l = l.name.items ++ further (map (λ s. s.now) (drop l.segment-index l.others)) ≡ join_with_byte 47 (map (λ s. s.now) l.fn.self.segments.items)
+invariant-loop-segment l =
+    l.name.items ++ further (map (λ s. s.now) (drop l.segment-index l.others))
+    ≡ join_with_byte 47 (map (λ s. s.now) l.fn.self.segments.items)

@@ -1,0 +1,322 @@
+//! The trees of a source: one type for each rule of the grammar.
+//!
+//! `S` is what an item or a statement carries as its place, and `N` what a name carries as its
+//! meaning.
+pub use crate::operators::{Arrow, Binary, Compound, Direction, Unary};
+use cir_token::Text;
+use items::Items;
+
+/// What a name can carry before its meaning is known.
+pub trait Blank {
+    fn blank() -> Self;
+}
+
+/// A source file.
+#[derive(Drop)]
+pub struct File<S, N> {
+    pub items: Items<Item<S, N>>,
+}
+
+#[derive(Drop)]
+pub struct Item<S, N> {
+    pub spot: S,
+    pub form: ItemForm<S, N>,
+}
+
+#[derive(Drop)]
+pub enum ItemForm<S, N> {
+    Pragma(Pragma),
+    Include(Include),
+    Definition(Definition<S, N>),
+    Main(Main<N>),
+}
+
+/// `pragma circom 2.0.0;`, with the numbers as they are written.
+#[derive(Drop)]
+pub struct Pragma {
+    pub major: u128,
+    pub minor: u128,
+    pub patch: u128,
+}
+
+/// `include "name";`
+#[derive(Drop)]
+pub struct Include {
+    /// What stands between the quotes.
+    pub name: Text,
+}
+
+#[derive(Drop)]
+pub enum Definition<S, N> {
+    Template(Template<S, N>),
+    Function(Function<S, N>),
+}
+
+/// `template name(parameters) { .. }`
+#[derive(Drop)]
+pub struct Template<S, N> {
+    /// Whether the word `parallel` stands before the name.
+    pub parallel: bool,
+    pub name: Text,
+    pub parameters: Items<Text>,
+    pub body: Block<S, N>,
+}
+
+/// `function name(parameters) { .. }`
+#[derive(Drop)]
+pub struct Function<S, N> {
+    pub name: Text,
+    pub parameters: Items<Text>,
+    pub body: Block<S, N>,
+}
+
+/// `component main {public [names]} = template(arguments);`
+#[derive(Drop)]
+pub struct Main<N> {
+    /// The public inputs; empty where the list isn't written.
+    pub public: Items<Text>,
+    pub template: Text,
+    /// What the template's name means.
+    pub meant: N,
+    pub arguments: Items<Expr<N>>,
+}
+
+#[cycle(statements)]
+#[derive(Drop)]
+pub struct Block<S, N> {
+    pub statements: Items<Statement<S, N>>,
+}
+
+#[cycle(statements)]
+#[derive(Drop)]
+pub struct Statement<S, N> {
+    pub spot: S,
+    pub form: StatementForm<S, N>,
+}
+
+#[cycle(statements)]
+#[derive(Drop)]
+pub enum StatementForm<S, N> {
+    Block(Block<S, N>),
+    /// `if (condition) chosen`
+    If(Expr<N>, Box<Statement<S, N>>),
+    /// `if (condition) chosen else other`
+    IfElse(Expr<N>, Box<Statement<S, N>>, Box<Statement<S, N>>),
+    /// `while (condition) body`
+    While(Expr<N>, Box<Statement<S, N>>),
+    /// `for (first; condition; step) body`
+    For(First<S, N>, Expr<N>, Step<S, N>, Box<Statement<S, N>>),
+    /// `return value;`
+    Return(Expr<N>),
+    /// `assert(condition);`
+    Assert(Expr<N>),
+    /// `log(arguments);`
+    Log(Items<LogArgument<N>>),
+    /// A simple statement and its `;`.
+    Simple(Simple<N>),
+}
+
+/// What the head of a `for` begins with.
+#[derive(Drop)]
+pub struct First<S, N> {
+    pub spot: S,
+    pub form: FirstForm<N>,
+}
+
+#[derive(Drop)]
+pub enum FirstForm<N> {
+    Vars(Vars<N>),
+    Assign(Assign<N>),
+}
+
+/// What the head of a `for` ends with.
+#[derive(Drop)]
+pub struct Step<S, N> {
+    pub spot: S,
+    pub assign: Assign<N>,
+}
+
+#[derive(Drop)]
+pub enum LogArgument<N> {
+    /// What stands between the quotes.
+    Words(Text),
+    Value(Expr<N>),
+}
+
+#[derive(Drop)]
+pub enum Simple<N> {
+    Vars(Vars<N>),
+    Signals(Signals<N>),
+    Components(Components<N>),
+    Assign(Assign<N>),
+    /// `left === right`
+    Constrain(Expr<N>, Expr<N>),
+    /// `value --> place` or `value ==> place`
+    Right(Expr<N>, Arrow, Place<N>),
+    /// `target <-- source` or `target <== source`
+    TargetLeft(Target<N>, Arrow, Source<N>),
+    /// `source --> target` or `source ==> target`
+    TargetRight(Source<N>, Arrow, Target<N>),
+    /// An anonymous component alone.
+    Anonymous(Anonymous<N>),
+}
+
+/// `var` and one or more variables.
+#[derive(Drop)]
+pub struct Vars<N> {
+    pub variables: Items<DeclaredVariable<N>>,
+}
+
+/// `name[dimension]..`, or `name[dimension].. = value`
+#[derive(Drop)]
+pub struct DeclaredVariable<N> {
+    pub name: Text,
+    pub meant: N,
+    pub dimensions: Items<Expr<N>>,
+    pub value: Option<Expr<N>>,
+}
+
+/// `signal`, optionally `input` or `output`, and one or more signals.
+#[derive(Drop)]
+pub struct Signals<N> {
+    pub direction: Direction,
+    pub signals: Items<DeclaredSignal<N>>,
+}
+
+#[derive(Drop)]
+pub struct DeclaredSignal<N> {
+    pub name: Text,
+    pub meant: N,
+    pub dimensions: Items<Expr<N>>,
+    pub value: SignalValue<N>,
+}
+
+/// What a declared signal is given at once.
+#[derive(Drop)]
+pub enum SignalValue<N> {
+    Nothing,
+    /// `<-- value` or `<== value`
+    Given(Arrow, Expr<N>),
+}
+
+#[derive(Drop)]
+pub enum Components<N> {
+    /// `component` and one or more components without a template.
+    Declared(Items<DeclaredComponent<N>>),
+    /// `component name = value`
+    Created(Text, N, Expr<N>),
+}
+
+#[derive(Drop)]
+pub struct DeclaredComponent<N> {
+    pub name: Text,
+    pub meant: N,
+    pub dimensions: Items<Expr<N>>,
+}
+
+#[derive(Drop)]
+pub enum Assign<N> {
+    /// `place = value`
+    Set(Place<N>, Expr<N>),
+    /// `place += value`, and so for the other operators.
+    Compound(Place<N>, Compound, Expr<N>),
+    /// `place <-- value` or `place <== value`
+    Left(Place<N>, Arrow, Expr<N>),
+    /// `place++`
+    Increment(Place<N>),
+    /// `place--`
+    Decrement(Place<N>),
+}
+
+/// What a tuple or `_` receives.
+#[derive(Drop)]
+pub enum Target<N> {
+    /// `_`
+    Discard,
+    /// `(slots)`, two or more.
+    Tuple(Items<Slot<N>>),
+}
+
+#[derive(Drop)]
+pub enum Slot<N> {
+    Place(Place<N>),
+    /// `_`
+    Discard,
+}
+
+/// What a target is given.
+#[derive(Drop)]
+pub enum Source<N> {
+    One(Expr<N>),
+    /// `(values)`, two or more.
+    Tuple(Items<Expr<N>>),
+}
+
+/// What an expression reads or an assignment writes: `name[index].member`, with any number of
+/// indices and members.
+#[cycle(expressions)]
+#[derive(Drop)]
+pub struct Place<N> {
+    pub name: Text,
+    pub meant: N,
+    pub accessors: Items<Accessor<N>>,
+}
+
+#[cycle(expressions)]
+#[derive(Drop)]
+pub enum Accessor<N> {
+    /// `[index]`
+    Index(Expr<N>),
+    /// `.member`
+    Member(Text),
+}
+
+/// `template(arguments)(inputs)`: a component without a name.
+#[cycle(expressions)]
+#[derive(Drop)]
+pub struct Anonymous<N> {
+    /// Whether the word `parallel` stands before the name.
+    pub parallel: bool,
+    pub name: Text,
+    pub meant: N,
+    pub arguments: Items<Expr<N>>,
+    pub inputs: Inputs<N>,
+}
+
+#[cycle(expressions)]
+#[derive(Drop)]
+pub enum Inputs<N> {
+    /// Values in the order of declaration; there may be none.
+    Listed(Items<Expr<N>>),
+    /// One or more.
+    Named(Items<NamedInput<N>>),
+}
+
+/// `name <-- value` or `name <== value`
+#[cycle(expressions)]
+#[derive(Drop)]
+pub struct NamedInput<N> {
+    pub name: Text,
+    pub arrow: Arrow,
+    pub value: Expr<N>,
+}
+
+/// An expression, with its parentheses.
+#[cycle(expressions)]
+#[derive(Drop)]
+pub enum Expr<N> {
+    /// A number as it is written, before any reduction.
+    Number(u128),
+    Place(Place<N>),
+    /// `name(arguments)`, and whether the word `parallel` stands before it.
+    Call(bool, Text, N, Items<Expr<N>>),
+    Anonymous(Anonymous<N>),
+    /// `(inner)`
+    Parentheses(Box<Expr<N>>),
+    /// `[elements]`, one or more.
+    Array(Items<Expr<N>>),
+    Unary(Unary, Box<Expr<N>>),
+    Binary(Binary, Box<Expr<N>>, Box<Expr<N>>),
+    /// `condition ? chosen : other`
+    Choice(Box<Expr<N>>, Box<Expr<N>>, Box<Expr<N>>),
+}

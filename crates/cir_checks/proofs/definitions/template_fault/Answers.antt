@@ -1,5 +1,0 @@
-use Rattle.cir_duplicates.proofs.Left.{names_of_seen}
-use Rattle.cir_checks.proofs.definitions.template_fault.Goals as goal
-
-pub returns : goal.returns
-returns c = rw names_of_seen (rw (c.in_ok-declare_all.ensures.scope, c.new-scope.ensures, c.as_slice.ensures) at c.statements_fault.ensures.fault)

@@ -1,4 +1,0 @@
-pub mod Faults
-pub mod Duplicates
-pub mod Names
-pub mod Tables

@@ -1,0 +1,9 @@
+use cir_token::LexCause;
+
+/// Why there are no tokens.
+#[derive(Debug, Clone, Copy, PartialEq, Eq)]
+pub enum LexFault {
+    /// The first fault in the order of bytes.
+    At { cause: LexCause, offset: u32 },
+    OutOfMemory,
+}

@@ -1,0 +1,16 @@
+use Rattle.std.proofs.Common.{refl}
+use Rattle.cir_expression.proofs.Lists.{listed_seen}
+use Rattle.cir_parse.specs.Reading.{instance}
+use Rattle.cir_parse.proofs.item.instance.Goals as goal
+
+pub returns : goal.returns
+unfolding instance
+returns g c =
+    rw (
+      c.in_ok-template.ensures,
+      c.in_ok-behind.ensures,
+      c.in_ok-arguments.ensures,
+      c.in_ok-behind-2.ensures,
+      listed_seen c.of-2.result c.in_ok-arguments.arguments.items c.of-2.ensures,
+      c.of.ensures,
+    ) refl

@@ -1,0 +1,16 @@
+use Rattle.std.proofs.Common.{refl}
+use Rattle.cir_parse.proofs.Seen.{seen_statements}
+use Rattle.cir_parse.specs.Reading.{template}
+use Rattle.cir_parse.proofs.item.template.Goals as goal
+
+pub returns : goal.returns
+unfolding template
+returns g c =
+    rw (
+      c.in_ok-name.ensures,
+      c.in_ok-parameters.ensures,
+      c.in_ok-body.ensures,
+      c.of-3.ensures,
+      seen_statements c.of-2.result c.in_ok-body.body.items c.of-2.ensures,
+      c.of.ensures,
+    ) refl

@@ -1,0 +1,15 @@
+use Rattle.std.proofs.Common.{refl}
+use Rattle.cir_ast.specs.Tree.{bare_argument}
+use Rattle.cir_ast.specs.Plain.{plain_argument}
+use Rattle.cir_parse.proofs.Seen.{seen_map}
+use Rattle.cir_parse.proofs.statements.logged.Goals as goal
+
+pub returns : goal.returns
+returns g c =
+    rw (
+      c.in_ok-arguments.ensures,
+      c.in_ok-behind.ensures,
+      c.in_ok-new.ensures.ok,
+      seen_map plain_argument bare_argument c.of.result c.in_ok-arguments.arguments.items
+          c.of.ensures,
+    ) refl

@@ -1,0 +1,5 @@
+-- How high a tree may be.
+use Rattle.std.specs.Prelude.{ℕ}
+
+abbrev pub most_height : ℕ
+most_height = 256

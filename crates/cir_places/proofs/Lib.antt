@@ -1,4 +1,0 @@
-pub mod Bounded
-pub mod Walk
-pub mod Counting
-pub mod Lists

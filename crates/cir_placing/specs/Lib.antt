@@ -1,4 +1,0 @@
-pub mod Scope
-pub mod Placing
-pub mod InScope
-pub mod Walking

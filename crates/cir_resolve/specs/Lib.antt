@@ -1,0 +1,6 @@
+pub mod Steps
+pub mod Scope
+pub mod Naming
+pub mod Definitions
+pub mod Answers
+pub mod Numbers

@@ -1,0 +1,38 @@
+ghost use Rattle.std.specs.Prelude.{◌≡◌};
+
+use cir_ast::program::Spot;
+use std::alloc::{AllocError, AllocFailed};
+
+/// A place in the file of this place in the program's list.
+#[derive(Debug, Clone, Copy, PartialEq, Eq)]
+pub struct Found {
+    pub file: u32,
+    pub spot: Spot,
+}
+
+/// Why names weren't resolved: one is declared or defined a second time there.
+#[derive(Debug, Clone, Copy, PartialEq, Eq)]
+pub enum Stop<P> {
+    Twice(P),
+    OutOfMemory,
+}
+
+impl<P> From<AllocError> for Stop<P> {
+    ghost use Rattle.cir_resolve.specs.declared.stop.Stop.TheVariants.{OutOfMemory};
+
+    ghost from_gives = { λ _ stop. stop ≡ OutOfMemory };
+
+    fn from(_: AllocError) -> Stop<P> {
+        Stop::OutOfMemory
+    }
+}
+
+impl<P, T: Drop> From<AllocFailed<T>> for Stop<P> {
+    ghost use Rattle.cir_resolve.specs.declared.stop.Stop.TheVariants.{OutOfMemory};
+
+    ghost from_gives = { λ _ stop. stop ≡ OutOfMemory };
+
+    fn from(_: AllocFailed<T>) -> Stop<P> {
+        Stop::OutOfMemory
+    }
+}

@@ -1,0 +1,8 @@
+//! The tokens of a source: reserved words, symbols and their spellings.
+#![tactic(auto)]
+
+mod spelling;
+mod token;
+
+pub use spelling::{RESERVED_WORDS, SYMBOLS};
+pub use token::{LexCause, Reserved, Symbol, Text, Token, TokenKind};
