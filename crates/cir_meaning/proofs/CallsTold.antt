@@ -1,14 +1,13 @@
 -- In a run's environment a call that is known has its numbers already, and another one is opaque.
-use Rattle.std.proofs.Common.{◌≡◌, ◌⊎◌, inl, inr, ℕ, Bool, true, false, cond, List, [], ◌∷◌, Option, Some, None, Ok, Err, refl, sym, ap, subst, ◌∙◌}
-use Rattle.std.specs.Prelude.{⊤}
+use Rattle.std.proofs.Common.{◌≡◌, ◌⊎◌, inl, inr, ℕ, Bool, true, false, cond, List, [], ◌∷◌, Option, Some, None, Ok, Err, refl, ap, subst, ◌∙◌}
 use Rattle.std.specs.List.{list_all}
 use Rattle.cir_ast.specs.declared.program.Meant.{Meant}
 use Rattle.cir_ast.specs.declared.program.Meant.TheVariants as meant
 use Rattle.cir_ast.specs.declared.refusal.Form.TheVariants.{LiteralPlace}
 use Rattle.cir_ast.specs.declared.refusal.Kind.TheVariants.{ShapeDiffers, NotInProfile}
-use Rattle.cir_ast.specs.Tree.{Expr, Call, Exprs}
+use Rattle.cir_ast.specs.Tree.{Call, Exprs}
 use Rattle.cir_lc.specs.Number.{Assignment}
-use Rattle.cir_meaning.specs.Tried.{Where, Tried, next, refused}
+use Rattle.cir_meaning.specs.Tried.{Where, Tried, refused}
 use Rattle.cir_meaning.specs.Limits.{nothing}
 use Rattle.cir_meaning.specs.Arrays.{Datum, Want, Scalar, Whole, fits, single, is_known, is_all_known}
 use Rattle.cir_meaning.specs.Values.{Value, Known, Linear, Quadratic, Opaque}
@@ -23,7 +22,7 @@ use Rattle.cir_meaning.proofs.Likes.{Like}
 use Rattle.cir_meaning.proofs.Sound.{Told}
 use Rattle.cir_meaning.proofs.Twins.{Twin, nothing_below, counted_as}
 use Rattle.cir_meaning.proofs.ValueTwins.{Darker, Wider, Answers, value_twin}
-use Rattle.cir_meaning.proofs.KnownValues.{KnownValue, KnownDatum, all_pass, pass_all}
+use Rattle.cir_meaning.proofs.KnownValues.{KnownDatum, pass_all}
 use Rattle.cir_meaning.proofs.KnownCalls.{CallBoth, both_twin, both_known}
 
 -- what is known is told by its numbers

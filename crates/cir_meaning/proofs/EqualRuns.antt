@@ -1,5 +1,5 @@
 -- `log` and `===` in a run.
-use Rattle.std.proofs.Common.{◌≡◌, ◌≢◌, ℕ, ◌+◌, Bool, true, false, cond, List, [], ◌∷◌, ◌++◌, Option, Some, None, Result, Ok, Err, refl, sym, ap, subst, ◌∙◌}
+use Rattle.std.proofs.Common.{◌≡◌, ◌≢◌, ℕ, Bool, true, false, cond, List, [], ◌∷◌, Option, Some, None, Ok, Err, refl, sym, ap, subst, ◌∙◌}
 use Rattle.std.specs.Prelude.{⊤, ◌==◌}
 use Rattle.std.specs.Fmt.{decimal}
 use Rattle.std.specs.List.{AllByRecursion}
@@ -9,30 +9,29 @@ use Rattle.cir_ast.specs.Tree.{Expr, LogArgument, Words, LogValue}
 use Rattle.cir_lc.specs.Number.{Assignment}
 use Rattle.cir_meaning.specs.declared.class.Class.TheVariants as Class'
 use Rattle.cir_meaning.specs.SignalFree.{AreCallsMeant}
-use Rattle.cir_meaning.specs.Tried.{Where, Tried, next, refused}
-use Rattle.cir_meaning.specs.Limits.{Counts}
+use Rattle.cir_meaning.specs.Tried.{Where, Tried, next}
 use Rattle.cir_meaning.specs.Arrays.{Scalar}
 use Rattle.cir_meaning.specs.Source.{Equation, IsEqualAt}
 use Rattle.cir_meaning.specs.Values.{Value, Known, Linear, Quadratic, Opaque, Parts, number_of, parts_of, difference_of, class_of}
 use Rattle.cir_meaning.specs.Frame.{World, State, Context, Maker}
-use Rattle.cir_meaning.specs.Evaluate.{scalar, value_in}
+use Rattle.cir_meaning.specs.Evaluate.{value_in}
 use Rattle.cir_meaning.specs.Writing.{appended, constrained}
 use Rattle.cir_meaning.specs.Steps.{stepped, log_cost, logged_cells, equal_cost}
 use Rattle.cir_meaning.specs.Simple as simple
 use Rattle.cir_meaning.specs.Statement.{logged, log_values}
-use Rattle.cir_meaning.specs.RunValues.{Ran, number, number_in, gives, constraint_fails}
+use Rattle.cir_meaning.specs.RunValues.{Ran, number_in, gives, constraint_fails}
 use Rattle.cir_meaning.specs.Run.{Wires, Run, store_of, environment}
 use Rattle.cir_meaning.specs.RunSimple.{Running, with_known, sides, run_equal}
 use Rattle.cir_meaning.specs.RunBodies.{log_words, run_log}
 use Rattle.cir_meaning.proofs.Good.{OnGood, good_ok, good_bad, good_any, good_next, good_is, good_weaker}
-use Rattle.cir_meaning.proofs.Pairs.{Pair, pair_ok, pair_bad, pair_stop, pair_right, pair_good}
+use Rattle.cir_meaning.proofs.Pairs.{Pair, pair_stop, pair_right, pair_good}
 use Rattle.cir_meaning.proofs.Likes.{Like, like_itself, value_like}
 use Rattle.cir_meaning.proofs.FineValues.{Fine, FineAnswer, value_fine}
 use Rattle.cir_meaning.proofs.FineStatements.{equal_fine, log_fine}
 use Rattle.cir_meaning.proofs.Meaning.{Means, number_at}
 use Rattle.cir_meaning.proofs.Sound.{Answers, Ready, Whole', number_pair}
 use Rattle.cir_meaning.proofs.Numbered.{value_pair, pair_gives}
-use Rattle.cir_meaning.proofs.RunFree.{NoMiss, Any}
+use Rattle.cir_meaning.proofs.RunFree.{Any}
 use Rattle.cir_meaning.proofs.Holds.{Extends, pair_assoc}
 use Rattle.cir_meaning.proofs.Goes.{Goes, goes_ok, goes_refusing, goes_step, pair_no}
 use Rattle.cir_meaning.proofs.Standing.{Stands, changed, stands_changed}
@@ -191,8 +190,10 @@ module _ (make : Option Maker) (given : Wires) (start : World) (functions : ℕ)
               (each_stays (λ t. Like r.known t) (logged q.context w) arguments r.known logged_like
               (like_itself r.known)) (λ t l.
               good_weaker (IsAdded t) (λ u. Like r.known u)
-              (stepped q.context w (log_cost q.context w arguments r.known) (logged_cells arguments) t)
-              (stepped_adds q.context w (log_cost q.context w arguments r.known) (logged_cells arguments)
+              (stepped q.context w (log_cost q.context w arguments r.known)
+              (logged_cells arguments) t)
+              (stepped_adds q.context w (log_cost q.context w arguments r.known)
+              (logged_cells arguments)
               t) (λ u g. added_like r.known t u l g))))
               (good_is Fine (log_values q.context w arguments r.known) s es
               (log_fine q.context sound.fine w arguments r.known h.fine))),

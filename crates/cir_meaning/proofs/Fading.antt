@@ -1,5 +1,6 @@
--- A scan leaves each variable as it is, or opaque in all its elements.
-use Rattle.std.proofs.Common.{◌≡◌, ◌⊎◌, inr, ℕ, zero, suc, true, List, [], ◌∷◌, Option, Some, None, refl, sym, subst, slice_get, slice_set, unwrap_or}
+-- A scan leaves each variable as it is, or opaque in all its elements, and changes nothing else but
+-- what is counted.
+use Rattle.std.proofs.Common.{◌≡◌, ◌⊎◌, inr, ℕ, zero, suc, true, List, [], ◌∷◌, Option, Some, None, refl, sym, ap, subst, ◌∙◌, slice_get, slice_set, unwrap_or}
 use Rattle.std.specs.List.{AllByRecursion}
 use Rattle.cir_ast.specs.declared.program.Spot.{Spot}
 use Rattle.cir_ast.specs.declared.program.Meant.{Meant}
@@ -11,7 +12,7 @@ use Rattle.cir_meaning.specs.Limits.{is_too_large}
 use Rattle.cir_meaning.specs.Places.{elements}
 use Rattle.cir_meaning.specs.Arrays.{Datum, Want, Scalar, Whole, single, filled, reach, same_dims, the_item}
 use Rattle.cir_meaning.specs.Values.{Known, Opaque, known_number}
-use Rattle.cir_meaning.specs.Frame.{State, Context, variable_at}
+use Rattle.cir_meaning.specs.Frame.{World, State, Context, variable_at}
 use Rattle.cir_meaning.specs.Evaluate.{value_in, dims_in, indices_in}
 use Rattle.cir_meaning.specs.Writing.{plain}
 use Rattle.cir_meaning.specs.Simple as simple
@@ -49,106 +50,96 @@ set_faded (v ∷ vs) before (suc n) zero d h f = f
 set_faded (v ∷ vs) [] (suc n) (suc m) d h f = set_faded vs [] n m d h f
 set_faded (v ∷ vs) (b ∷ bs) (suc n) (suc m) d h f = set_faded vs bs n m d h f
 
-module _ (before : List Datum) where
+-- what evaluation and declarations leave is left by a scan
+module _ (Q : State → Type 0) (like : (f s : State) → Like f s → Q f → Q s)
+    (declare : (n : ℕ) (dims : List ℕ) (s : State) → Q s → Q (scan_declared n dims s)) where
   abbrev pub Fades : (State → Tried State) → Type 0
-  Fades go = (s : State) → Faded before s → OnGood (Faded before) (go s)
+  Fades go = (s : State) → Q s → OnGood Q (go s)
 
-  -- what leaves the frame as it is fades nothing
-  from_like : (f s : State) → Like f s
-      → ((n : ℕ) → (unwrap_or (slice_get f.frame.variables n) (single (Known 0)) ≡ unwrap_or
-      (slice_get before n) (single (Known 0)))
-      ⊎ IsOpaque (unwrap_or (slice_get f.frame.variables n) (single (Known 0)))) → Faded before s
-  from_like f s l h =
-      subst (λ vs. (n : ℕ) → (unwrap_or (slice_get vs n) (single (Known 0)) ≡ unwrap_or
-      (slice_get before n) (single (Known 0)))
-      ⊎ IsOpaque (unwrap_or (slice_get vs n) (single (Known 0)))) (sym l.0) h
-
-  valued : {A : Type 0} (Q : A → Type 0) (k : Context) (keeps : CallKeeps k.call) (w : Where)
+  valued : {A : Type 0} (R : A → Type 0) (k : Context) (keeps : CallKeeps k.call) (w : Where)
       (want : Want) (e : Expr Meant) (s : State) (go : Datum × State → Tried A)
-      → Faded before s
-      → ((x : Datum × State) → Faded before x.1 → OnGood Q (go x)) → OnGood Q
+      → Q s
+      → ((x : Datum × State) → Q x.1 → OnGood R (go x)) → OnGood R
       (next (value_in k w true want e s) go)
-  valued Q k keeps w want e s go h g =
-      good_next (λ x. Like s x.1) Q (value_in k w true want e s) go
+  valued R k keeps w want e s go h g =
+      good_next (λ x. Like s x.1) R (value_in k w true want e s) go
       (value_like s k keeps w true want e s (like_itself s))
-      (λ x l. g x (from_like s x.1 l h))
+      (λ x l. g x (like s x.1 l h))
 
-  then_faded : (m : Tried State) (go : State → Tried State) → OnGood (Faded before) m → Fades go
-      → OnGood (Faded before) (next m go)
-  then_faded m go h g = good_next (Faded before) (Faded before) m go h g
+  then_faded : (m : Tried State) (go : State → Tried State) → OnGood Q m → Fades go
+      → OnGood Q (next m go)
+  then_faded m go h g = good_next Q Q m go h g
 
   module _ (k : Context) (keeps : CallKeeps k.call) where
     test_faded : (w : Where) (e : Expr Meant) → Fades (scan_test k w e)
     test_faded w e s h =
-        valued (Faded before) k keeps w Scalar e s _ h (λ x g. good_ok (Faded before) x.1 g)
+        valued Q k keeps w Scalar e s _ h (λ x g. good_ok Q x.1 g)
 
-    indices_faded : {A : Type 0} (Q : A → Type 0) (w : Where) (indices : List (Option ℕ))
+    indices_faded : {A : Type 0} (R : A → Type 0) (w : Where) (indices : List (Option ℕ))
         (accessors : Accessors Meant) (s : State)
-        (go : List (Option ℕ) → Accessors Meant → State → Tried A) → Faded before s
-        → ((indices : List (Option ℕ)) (rest : Accessors Meant) (s : State) → Faded before s →
-        OnGood Q (go indices rest s)) → OnGood Q (indices_in k w true indices accessors s go)
-    indices_faded Q w indices done s go h g = g indices done s h
-    indices_faded Q w indices (member name rest) s go h g = g indices (member name rest) s h
-    indices_faded Q w indices (index e rest) s go h g =
-        valued Q k keeps w Scalar e s _ h (λ x f. indices_faded Q w _ rest x.1 go f g)
+        (go : List (Option ℕ) → Accessors Meant → State → Tried A) → Q s
+        → ((indices : List (Option ℕ)) (rest : Accessors Meant) (s : State) → Q s →
+        OnGood R (go indices rest s)) → OnGood R (indices_in k w true indices accessors s go)
+    indices_faded R w indices done s go h g = g indices done s h
+    indices_faded R w indices (member name rest) s go h g = g indices (member name rest) s h
+    indices_faded R w indices (index e rest) s go h g =
+        valued R k keeps w Scalar e s _ h (λ x f. indices_faded R w _ rest x.1 go f g)
 
     set_scan_faded : (w : Where) (m : Meant) (accessors : Accessors Meant) (e : Expr Meant)
         → Fades (scan_set k w m accessors e)
     set_scan_faded w (meant.Variable n) accessors e s h =
-        valued (Faded before) k keeps w Whole e s _ h (λ x f.
-        indices_faded (Faded before) w [] accessors x.1 _ f (λ indices rest s2 g.
-        good_on (Faded before) (reach w true Whole (variable_at s2.frame n).dims indices) _ (λ r.
-        good_needed (Faded before) (same_dims r.left x.0.dims) w ShapeDiffers _
-        (good_ok (Faded before) s2 g))))
-    set_scan_faded w meant.Other accessors e s h = good_bad (Faded before) _
-    set_scan_faded w (meant.Signal direction n) accessors e s h = good_bad (Faded before) _
-    set_scan_faded w (meant.Component n) accessors e s h = good_bad (Faded before) _
-    set_scan_faded w (meant.Template n) accessors e s h = good_bad (Faded before) _
-    set_scan_faded w (meant.Function n) accessors e s h = good_bad (Faded before) _
+        valued Q k keeps w Whole e s _ h (λ x f.
+        indices_faded Q w [] accessors x.1 _ f (λ indices rest s2 g.
+        good_on Q (reach w true Whole (variable_at s2.frame n).dims indices) _ (λ r.
+        good_needed Q (same_dims r.left x.0.dims) w ShapeDiffers _
+        (good_ok Q s2 g))))
+    set_scan_faded w meant.Other accessors e s h = good_bad Q _
+    set_scan_faded w (meant.Signal direction n) accessors e s h = good_bad Q _
+    set_scan_faded w (meant.Component n) accessors e s h = good_bad Q _
+    set_scan_faded w (meant.Template n) accessors e s h = good_bad Q _
+    set_scan_faded w (meant.Function n) accessors e s h = good_bad Q _
 
     plain_faded : (w : Where) (a : Assign Meant) → Fades (scan_plain k w a)
     plain_faded w (Set name m accessors e) s h = set_scan_faded w m accessors e s h
-    plain_faded w (Left name m accessors arrow e) s h = good_bad (Faded before) _
-    plain_faded w (Compound name m accessors op e) s h = good_bad (Faded before) _
-    plain_faded w (Increment name m accessors) s h = good_bad (Faded before) _
-    plain_faded w (Decrement name m accessors) s h = good_bad (Faded before) _
+    plain_faded w (Left name m accessors arrow e) s h = good_bad Q _
+    plain_faded w (Compound name m accessors op e) s h = good_bad Q _
+    plain_faded w (Increment name m accessors) s h = good_bad Q _
+    plain_faded w (Decrement name m accessors) s h = good_bad Q _
 
-    scan_dims_faded : (w : Where) (es : Exprs Meant) (s : State) → Faded before s
-        → OnGood (λ x. Faded before x.1) (dims_in k w true es s)
-    scan_dims_faded w none s h = good_ok (λ x. Faded before x.1) ([], s) h
+    scan_dims_faded : (w : Where) (es : Exprs Meant) (s : State) → Q s
+        → OnGood (λ x. Q x.1) (dims_in k w true es s)
+    scan_dims_faded w none s h = good_ok (λ x. Q x.1) ([], s) h
     scan_dims_faded w (more e es) s h =
-        valued (λ x. Faded before x.1) k keeps w Scalar e s _ h (λ x f.
-        good_on (λ x. Faded before x.1) (found w UnknownIndex (known_number (the_item x.0))) _ (λ n.
-        good_next (λ x. Faded before x.1) (λ x. Faded before x.1) (dims_in k w true es x.1) _
+        valued (λ x. Q x.1) k keeps w Scalar e s _ h (λ x f.
+        good_on (λ x. Q x.1) (found w UnknownIndex (known_number (the_item x.0))) _ (λ n.
+        good_next (λ x. Q x.1) (λ x. Q x.1) (dims_in k w true es x.1) _
         (scan_dims_faded w es x.1 f)
-        (λ y q. good_ok (λ x. Faded before x.1) (n ∷ y.0, y.1) q)))
+        (λ y q. good_ok (λ x. Q x.1) (n ∷ y.0, y.1) q)))
 
     value_faded : (w : Where) (m : Meant) (value : Option (Expr Meant))
         → Fades (scan_value k w m value)
-    value_faded w m None s h = good_ok (Faded before) s h
+    value_faded w m None s h = good_ok Q s h
     value_faded w m (Some e) s h = set_scan_faded w m done e s h
 
     meant_faded : (w : Where) (m : Meant) (go : ℕ → Tried State)
-        → ((n : ℕ) → OnGood (Faded before) (go n)) → OnGood (Faded before) (scan_meant w m go)
+        → ((n : ℕ) → OnGood Q (go n)) → OnGood Q (scan_meant w m go)
     meant_faded w (meant.Variable n) go h = h n
-    meant_faded w meant.Other go h = good_bad (Faded before) _
-    meant_faded w (meant.Signal direction n) go h = good_bad (Faded before) _
-    meant_faded w (meant.Component n) go h = good_bad (Faded before) _
-    meant_faded w (meant.Template n) go h = good_bad (Faded before) _
-    meant_faded w (meant.Function n) go h = good_bad (Faded before) _
+    meant_faded w meant.Other go h = good_bad Q _
+    meant_faded w (meant.Signal direction n) go h = good_bad Q _
+    meant_faded w (meant.Component n) go h = good_bad Q _
+    meant_faded w (meant.Template n) go h = good_bad Q _
+    meant_faded w (meant.Function n) go h = good_bad Q _
 
     variable_faded : (w : Where) (v : Variable Meant) → Fades (scan_variable k w v)
     variable_faded w v s h =
         meant_faded w v.meant _ (λ n.
-        good_next (λ x. Faded before x.1) (Faded before) (dims_in k w true v.dimensions s) _
+        good_next (λ x. Q x.1) Q (dims_in k w true v.dimensions s) _
         (scan_dims_faded w v.dimensions s h) (λ x f.
-        value_faded w v.meant v.value (scan_declared n x.0 x.1)
-        (λ m. set_faded x.1.frame.variables before n m (filled x.0 Opaque) (opaque_filled x.0)
-        (f m))))
+        value_faded w v.meant v.value (scan_declared n x.0 x.1) (declare n x.0 x.1 f)))
 
     each_faded : {A : Type 0} (go : A → State → Tried State) (xs : List A)
         → ((x : A) → Fades (go x)) → Fades (simple.each go xs)
-    each_faded go [] h s f = good_ok (Faded before) s f
+    each_faded go [] h s f = good_ok Q s f
     each_faded go (x ∷ xs) h s f =
         then_faded (go x s) (simple.each go xs) (h x s f) (each_faded go xs h)
 
@@ -159,40 +150,77 @@ module _ (before : List Datum) where
     simple_faded : (w : Where) (x : Simple Meant) → Fades (scan_simple k w x)
     simple_faded w (Vars vs) s h = each_faded (scan_variable k w) vs (variable_faded w) s h
     simple_faded w (Assigned a) s h = plain_faded w (plain a) s h
-    simple_faded w (Signals direction ds) s h = good_bad (Faded before) _
-    simple_faded w (Declared cs) s h = good_bad (Faded before) _
-    simple_faded w (Created name m e) s h = good_bad (Faded before) _
-    simple_faded w (Constrain a b) s h = good_bad (Faded before) _
-    simple_faded w (Right e arrow name m accessors) s h = good_bad (Faded before) _
-    simple_faded w (TargetLeft target arrow source) s h = good_bad (Faded before) _
-    simple_faded w (TargetRight source arrow target) s h = good_bad (Faded before) _
-    simple_faded w (Alone parallel name m arguments inputs) s h = good_bad (Faded before) _
+    simple_faded w (Signals direction ds) s h = good_bad Q _
+    simple_faded w (Declared cs) s h = good_bad Q _
+    simple_faded w (Created name m e) s h = good_bad Q _
+    simple_faded w (Constrain a b) s h = good_bad Q _
+    simple_faded w (Right e arrow name m accessors) s h = good_bad Q _
+    simple_faded w (TargetLeft target arrow source) s h = good_bad Q _
+    simple_faded w (TargetRight source arrow target) s h = good_bad Q _
+    simple_faded w (Alone parallel name m arguments inputs) s h = good_bad Q _
 
     mutual
-      pub scan_faded : (w : Where) (a : Statement Spot Meant) → Fades (scan k w a)
-      scan_faded w (Block spot ss) s h = all_faded w ss s h
-      scan_faded w (If spot c a) s h =
+      pub scan_keeps : (w : Where) (a : Statement Spot Meant) → Fades (scan k w a)
+      scan_keeps w (Block spot ss) s h = all_faded w ss s h
+      scan_keeps w (If spot c a) s h =
           then_faded (scan_test k w c s) (scan k w a) (test_faded w c s h)
-          (λ s1 f. scan_faded w a s1 f)
-      scan_faded w (IfElse spot c a b) s h =
+          (λ s1 f. scan_keeps w a s1 f)
+      scan_keeps w (IfElse spot c a b) s h =
           then_faded (scan_test k w c s) _ (test_faded w c s h)
-          (λ s1 f. then_faded (scan k w a s1) (scan k w b) (scan_faded w a s1 f)
-          (λ s2 g. scan_faded w b s2 g))
-      scan_faded w (While spot c a) s h =
+          (λ s1 f. then_faded (scan k w a s1) (scan k w b) (scan_keeps w a s1 f)
+          (λ s2 g. scan_keeps w b s2 g))
+      scan_keeps w (While spot c a) s h =
           then_faded (scan_test k w c s) (scan k w a) (test_faded w c s h)
-          (λ s1 f. scan_faded w a s1 f)
-      scan_faded w (For spot first_spot first c step_spot a body) s h =
+          (λ s1 f. scan_keeps w a s1 f)
+      scan_keeps w (For spot first_spot first c step_spot a body) s h =
           then_faded (scan_first k w first s) _ (first_faded w first s h) (λ s1 f.
           then_faded (scan_test k w c s1) _ (test_faded w c s1 f) (λ s2 g.
-          then_faded (scan k w body s2) (scan_assign k w a) (scan_faded w body s2 g)
+          then_faded (scan k w body s2) (scan_assign k w a) (scan_keeps w body s2 g)
           (λ s3 i. plain_faded w (plain a) s3 i)))
-      scan_faded w (Return spot e) s h = good_bad (Faded before) _
-      scan_faded w (Assert spot e) s h = test_faded w e s h
-      scan_faded w (Log spot arguments) s h = good_bad (Faded before) _
-      scan_faded w (Ended spot x) s h = simple_faded w x s h
+      scan_keeps w (Return spot e) s h = good_bad Q _
+      scan_keeps w (Assert spot e) s h = test_faded w e s h
+      scan_keeps w (Log spot arguments) s h = good_bad Q _
+      scan_keeps w (Ended spot x) s h = simple_faded w x s h
 
       all_faded : (w : Where) (ss : Statements Spot Meant) → Fades (scan_all k w ss)
-      all_faded w empty s h = good_ok (Faded before) s h
+      all_faded w empty s h = good_ok Q s h
       all_faded w (then_more a rest) s h =
-          then_faded (scan k w a s) (scan_all k w rest) (scan_faded w a s h)
+          then_faded (scan k w a s) (scan_all k w rest) (scan_keeps w a s h)
           (λ s1 f. all_faded w rest s1 f)
+
+-- a scan leaves each variable as it is, or opaque
+faded_like : (before : List Datum) (f s : State) → Like f s → Faded before f → Faded before s
+faded_like before f s l h =
+    subst (λ vs. (n : ℕ) → (unwrap_or (slice_get vs n) (single (Known 0)) ≡ unwrap_or
+    (slice_get before n) (single (Known 0)))
+    ⊎ IsOpaque (unwrap_or (slice_get vs n) (single (Known 0)))) (sym l.0) h
+
+faded_declared : (before : List Datum) (n : ℕ) (dims : List ℕ) (s : State) → Faded before s
+    → Faded before (scan_declared n dims s)
+faded_declared before n dims s h = λ m.
+    set_faded s.frame.variables before n m (filled dims Opaque) (opaque_filled dims) (h m)
+
+pub scan_faded : (before : List Datum) (k : Context) (keeps : CallKeeps k.call) (w : Where)
+    (a : Statement Spot Meant) (s : State) → Faded before s
+    → OnGood (Faded before) (scan k w a s)
+scan_faded before k keeps w a s h =
+    scan_keeps (Faded before) (faded_like before) (faded_declared before) k keeps w a s h
+
+-- and nothing else is new but what is counted
+abbrev pub Rest : State → State → Type 0
+Rest f s = (s.frame.signals ≡ f.frame.signals) × (s.frame.components ≡ f.frame.components)
+    × (s.frame.parts ≡ f.frame.parts)
+    × (s.world ≡ record (f.world) { counts = s.world.counts })
+
+pub rest_like : (f s t : State) → Like s t → Rest f s → Rest f t
+rest_like f s t l h = (
+  l.1 ∙ h.0,
+  l.2 ∙ h.1,
+  l.3 ∙ h.2,
+  l.4 ∙ ap (λ (v : World). record v { counts = t.world.counts }) h.3,
+)
+
+pub scan_rest : (f : State) (k : Context) (keeps : CallKeeps k.call) (w : Where)
+    (a : Statement Spot Meant) (s : State) → Rest f s → OnGood (Rest f) (scan k w a s)
+scan_rest f k keeps w a s h =
+    scan_keeps (Rest f) (rest_like f) (λ n dims t g. g) k keeps w a s h

@@ -161,7 +161,8 @@ module _ (k : Context) (fine : FineContext k) where
       initial_signal_fine (at k spot) d.meant d.value (declare_signal k spot direction n d.name x.0
       x.1) g1))
 
-  pub component_fine : (w : Where) (c : Component Meant) → Keeps (simple.component_declaration k w c)
+  pub component_fine : (w : Where) (c : Component Meant)
+      → Keeps (simple.component_declaration k w c)
   component_fine w c s g =
       declared_fine w c.meant _ (λ n.
       dropping (λ x. Fine x.1) (dims_in k w false c.dimensions s) _
@@ -388,7 +389,8 @@ module _ (k : Context) (fine : FineContext k) where
       scalar_fine Fine (value_in k w false Scalar e s) _ (value_fine k fine w false Scalar e s g)
       (λ v s1 h g1. good_ok Fine s1 g1)
 
-  pub log_fine : (w : Where) (arguments : List (LogArgument Meant)) → Keeps (log_values k w arguments)
+  pub log_fine : (w : Where) (arguments : List (LogArgument Meant))
+      → Keeps (log_values k w arguments)
   log_fine w arguments s g =
       then_fine (simple.each (logged k w) arguments s) _
       (each_fine (logged k w) arguments (logged_fine w) s g)

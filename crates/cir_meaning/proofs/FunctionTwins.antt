@@ -1,34 +1,32 @@
 -- The execution of a function with known arguments: what it answers is known, and the same whatever
 -- is counted.
-use Rattle.std.proofs.Common.{◌≡◌, ℕ, zero, suc, ◌-◌, Bool, true, false, not, cond, List, [], ◌∷◌, ◌++◌, length, replicate, Option, Some, None, Ok, refl, sym, ap, subst, ◌∙◌, slice_get, slice_set}
-use Rattle.std.specs.Prelude.{⊤, ◌==◌}
-use Rattle.std.specs.List.{list_all, AllByRecursion}
+use Rattle.std.proofs.Common.{◌≡◌, ℕ, zero, suc, Bool, true, false, not, cond, List, [], ◌∷◌, ◌++◌, Option, Some, None, Ok, refl, sym, ap, subst, ◌∙◌}
+use Rattle.std.specs.Prelude.{◌==◌}
+use Rattle.std.specs.List.{AllByRecursion}
 use Rattle.cir_ast.specs.declared.program.Spot.{Spot}
 use Rattle.cir_ast.specs.declared.program.Meant.{Meant}
 use Rattle.cir_ast.specs.declared.program.Meant.TheVariants as meant
-use Rattle.cir_ast.specs.declared.refusal.Kind.TheVariants.{WrongKind, UnknownIndex, ShapeDiffers, AssertFalse}
-use Rattle.cir_ast.specs.Program.{Program, Function}
+use Rattle.cir_ast.specs.declared.refusal.Kind.TheVariants.{ShapeDiffers, AssertFalse}
 use Rattle.cir_ast.specs.Tree.{Expr, Exprs, none, more, Accessors, done, index, member, Variable, Assign, Set, Compound, Left, Increment, Decrement, First, FirstVars, FirstAssign, Simple, Vars, Signals, Declared, Created, Assigned, Constrain, Right, TargetLeft, TargetRight, Alone, Statement, Block, If, IfElse, While, For, Return, Assert, Log, Ended, Statements, empty, then_more}
-use Rattle.cir_meaning.specs.SignalFree.{IsVariable, IsFreeExpr, AreFree, AreFreeIndices, IsFreeAssign, IsFreeOption, IsFreeVariable, IsFreeFirst, IsFreeSimple, IsFree, AreFreeStatements, AreFunctionsFree}
-use Rattle.cir_meaning.specs.Tried.{Where, Tried, next, refused, needed, found}
+use Rattle.cir_meaning.specs.SignalFree.{IsVariable, IsFreeExpr, AreFree, AreFreeIndices, IsFreeAssign, IsFreeOption, IsFreeVariable, IsFreeFirst, IsFreeSimple, IsFree, AreFreeStatements}
+use Rattle.cir_meaning.specs.Tried.{Where, Tried, next, refused, needed}
 use Rattle.cir_meaning.specs.Places.{elements}
 use Rattle.cir_meaning.specs.Limits.{Counts, with_array}
-use Rattle.cir_meaning.specs.Arrays.{Datum, Scalar, Whole, Want, Reach, reach, single, filled, forgotten, the_item, is_known, is_all_known, same_dims, put_items}
+use Rattle.cir_meaning.specs.Arrays.{Datum, Scalar, Whole, Want, Reach, reach, filled, forgotten, the_item, is_known, is_all_known, same_dims, put_items}
 use Rattle.cir_meaning.specs.Values.{Value, Known, known_number}
-use Rattle.cir_meaning.specs.Frame.{World, State, Context, Caller, at, begun, variable_at, settle, counted, adding}
+use Rattle.cir_meaning.specs.Frame.{State, Context, at, variable_at, settle, counted}
 use Rattle.cir_meaning.specs.Evaluate.{scalar, value_in, dims_in, indices_in, known_at}
-use Rattle.cir_meaning.specs.Writing.{plain, put_variable, written_datum, VariableAssignment, variable_assignment, write_variable, is_unknown}
+use Rattle.cir_meaning.specs.Writing.{put_variable, written_datum, VariableAssignment, variable_assignment, write_variable, is_unknown}
 use Rattle.cir_meaning.specs.Declaring.{declare_variable}
 use Rattle.cir_meaning.specs.Simple as simple
 use Rattle.cir_meaning.specs.Statement.{Flow, Going, Returned, going, goes, decided, condition, branch, turns, most_turns, loop_of, first_simple, assert_value, exec, exec_all}
 use Rattle.cir_meaning.specs.Unknown.{first_of, assign_fault, fault_of}
 use Rattle.cir_meaning.specs.Scan.{undecided}
-use Rattle.cir_meaning.specs.Bodies.{function_context, exec_function, call_at, answer_of, counted_in}
-use Rattle.cir_meaning.proofs.Good.{OnGood, good_ok, good_on}
-use Rattle.cir_meaning.proofs.Rows.{all_set, all_put, all_append, all_replicate, at_or}
-use Rattle.cir_meaning.proofs.Twins.{Twin, twin_ok, twin_bad, twin_next, twin_itself, twin_same, twin_needed, twin_good, twin_weaker, Below, below_itself, nothing_below, below_with_array, counted_as, IsTwin, at_twin, twin_of, settle_twin, counted_twin}
+use Rattle.cir_meaning.proofs.Good.{good_ok, good_on}
+use Rattle.cir_meaning.proofs.Rows.{all_set, all_put}
+use Rattle.cir_meaning.proofs.Twins.{Twin, twin_ok, twin_bad, twin_next, twin_itself, twin_needed, twin_good, twin_weaker, Below, below_with_array, counted_as, IsTwin, at_twin, twin_of, settle_twin, counted_twin}
 use Rattle.cir_meaning.proofs.ValueTwins.{Wider, Answers, Equal, WorldTwin, CallTwin, value_twin}
-use Rattle.cir_meaning.proofs.KnownValues.{KnownValue, KnownDatum, KnownStore, KnownAnswer, CallKnown, AreSure, IsSure, sure_more, reach_sure, pass_all, all_known_data, the_known, known_item, known_variable, known_filled, known_value}
+use Rattle.cir_meaning.proofs.KnownValues.{KnownValue, KnownDatum, KnownStore, KnownAnswer, CallKnown, AreSure, IsSure, sure_more, reach_sure, pass_all, the_known, known_item, known_variable, known_filled, known_value}
 
 abbrev pub KnownTwin : State → State → Type 0
 KnownTwin s t = IsTwin s t × KnownStore s.frame.variables

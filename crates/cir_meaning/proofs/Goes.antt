@@ -1,12 +1,10 @@
 -- A statement at compile time and in a run: where the first is executed, the second isn't refused,
 -- never misses a value, and a relation holds behind it.
-use Rattle.std.proofs.Common.{◌≡◌, ◌≢◌, ℕ, Bool, true, false, cond, List, [], ◌∷◌, Result, Ok, Err, refl, sym, ap, subst}
+use Rattle.std.proofs.Common.{◌≡◌, ◌≢◌, ℕ, Bool, true, false, cond, Result, Ok, Err, refl, subst}
 use Rattle.std.specs.Prelude.{⊤}
-use Rattle.cir_ast.specs.declared.refusal.Kind.{Kind}
 use Rattle.cir_meaning.specs.Tried.{Where, Refused, Tried, next}
 use Rattle.cir_meaning.specs.RunValues.{Ran}
-use Rattle.cir_meaning.specs.Run.{Failure, Rejected, Stopped, RunTried, refusing, Run, stepping}
-use Rattle.cir_meaning.proofs.Good.{OnGood}
+use Rattle.cir_meaning.specs.Run.{Rejected, Stopped, RunTried, refusing, Run, stepping}
 use Rattle.cir_meaning.proofs.Pairs.{Pair}
 use Rattle.cir_meaning.proofs.RunFree.{NoMiss}
 

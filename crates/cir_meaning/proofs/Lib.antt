@@ -44,3 +44,15 @@ pub mod OwnWrites
 pub mod PartWrites
 pub mod Starting
 pub mod SignalRuns
+pub mod SetSignal
+pub mod Creating
+pub mod CreateRuns
+pub mod DeclareRuns
+pub mod SimpleRuns
+pub mod UndecidedRuns
+pub mod RunLaws
+pub mod Entries
+pub mod EntryStatements
+pub mod BranchRuns
+pub mod QuietRuns
+pub mod SignalDeclarations

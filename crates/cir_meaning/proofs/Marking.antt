@@ -43,7 +43,8 @@ put_entry (suc n) (suc m) a e (x ∷ xs) h = behind (put_entry n m a e xs h)
     behind (inl i) = inl (ap (λ (b : ℕ). suc b) i.0, i.1)
     behind (inr i) = inr (suc_ne n m i.0, i.1)
 
-pub set_at : {A : Type 0} (xs : List A) (k p : ℕ) (a b : A) → slice_get (slice_set xs k a) p ≡ Some b
+pub set_at : {A : Type 0} (xs : List A) (k p : ℕ) (a b : A)
+    → slice_get (slice_set xs k a) p ≡ Some b
     → ((k ≡ p) × (a ≡ b)) ⊎ ((k ≢ p) × (slice_get xs p ≡ Some b))
 set_at [] k p a b h = cc
 set_at (x ∷ xs) zero zero a b h = inl (refl, (let s : Some a ≡ Some b = h in cc))

@@ -1,7 +1,7 @@
 -- The number of an expression when it runs is what its value at compile time means, whatever is
 -- read.
 use Rattle.std.proofs.Common.{◌≡◌, ℕ, ◌%◌, Bool, true, List, [], ◌∷◌, ◌++◌, Option, Some, None, Ok, Result, Err, refl, sym, ap, subst, ◌∙◌, slice_get}
-use Rattle.std.specs.Prelude.{⊤, ◌≢◌, unwrap_or}
+use Rattle.std.specs.Prelude.{unwrap_or}
 use Rattle.gold_field.specs.declared.gold.TheConstants.{P}
 use Rattle.cir_ast.specs.declared.program.Meant.{Meant}
 use Rattle.cir_ast.specs.declared.program.Meant.TheVariants as meant

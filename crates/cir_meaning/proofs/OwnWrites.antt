@@ -1,15 +1,14 @@
 -- A write of a body's own signals in a run.
-use Rattle.std.proofs.Common.{◌≡◌, ◌≢◌, ◌⊎◌, inl, inr, ℕ, zero, suc, ◌+◌, Bool, true, false, not, List, [], ◌∷◌, ◌++◌, length, Option, Some, None, Ok, refl, sym, ap, subst, ◌∙◌, slice_get, slice_set}
-use Rattle.std.specs.Prelude.{⊤}
+use Rattle.std.proofs.Common.{◌≡◌, ◌≢◌, ℕ, ◌+◌, List, [], ◌∷◌, Option, Some, None, refl, sym, ap, ◌∙◌}
 use Rattle.std.specs.List.{AllByRecursion}
 use Rattle.cir_lc.specs.Number.{Assignment}
 use Rattle.cir_meaning.specs.Limits.{Counts}
 use Rattle.cir_meaning.specs.Source.{Equation, IsEqualAt}
 use Rattle.cir_meaning.specs.Arrays.{Datum}
 use Rattle.cir_meaning.specs.Values.{Value}
-use Rattle.cir_meaning.specs.Frame.{SignalEntry, Signals, Part, World, State, Maker, variable_at, entry_at}
+use Rattle.cir_meaning.specs.Frame.{SignalEntry, Signals, World, Maker, variable_at, entry_at}
 use Rattle.cir_meaning.specs.RunValues.{Numbers, stored}
-use Rattle.cir_meaning.specs.Run.{Wires, RunPart, Run, store_of, put_wire, put_wires}
+use Rattle.cir_meaning.specs.Run.{Wires, Run, store_of, put_wire, put_wires}
 use Rattle.cir_meaning.proofs.Rows.{all_append}
 use Rattle.cir_meaning.proofs.FineValues.{Fine}
 use Rattle.cir_meaning.proofs.Meaning.{means_in}

@@ -1,6 +1,5 @@
 -- A write of a component's inputs in a run.
-use Rattle.std.proofs.Common.{◌≡◌, ◌≢◌, ◌⊎◌, inl, inr, ℕ, zero, suc, ◌+◌, Bool, true, false, not, ◌&&◌, nat_eq, List, [], ◌∷◌, ◌++◌, length, Option, Some, None, is_some, Ok, refl, sym, ap, subst, ◌∙◌, slice_get, slice_set}
-use Rattle.std.specs.Prelude.{⊤}
+use Rattle.std.proofs.Common.{◌≡◌, ◌≢◌, ◌⊎◌, inl, inr, ℕ, zero, suc, Bool, true, false, not, ◌&&◌, nat_eq, List, [], ◌∷◌, ◌++◌, length, Option, Some, None, is_some, refl, sym, ap, subst, ◌∙◌, slice_get, slice_set}
 use Rattle.std.specs.List.{AllByRecursion}
 use Rattle.std.proofs.lemmas.Bool.{ne_eqb, eq-eqb, eqb-true}
 use Rattle.cir_lc.specs.Number.{Assignment}
@@ -15,7 +14,7 @@ use Rattle.cir_meaning.proofs.FineValues.{Fine}
 use Rattle.cir_meaning.proofs.Marking.{MarksOf, KeepsWires, set_at}
 use Rattle.cir_meaning.proofs.Writing.{get_set}
 use Rattle.cir_meaning.proofs.Holds.{Agrees, PartAgrees, Extends}
-use Rattle.cir_meaning.proofs.Standing.{PartStands, Stands, SameEntry, SameShapes, Debts, Pays, made_ports, pays_ports, ports_pay, is_late, is_done}
+use Rattle.cir_meaning.proofs.Standing.{PartStands, Stands, SameEntry, SameShapes, Debts, Pays, made_ports, pays_ports, ports_pay, is_done}
 use Rattle.cir_meaning.proofs.SignalWrites.{wrote, shapes_then}
 use Rattle.cir_meaning.proofs.OwnWrites.{same_in, agrees_before}
 

@@ -1,5 +1,5 @@
 -- A function that runs never misses a value: it ends, or stops as a program may.
-use Rattle.std.proofs.Common.{◌≡◌, ◌≢◌, ℕ, zero, suc, ◌-◌, ◌<◌, Bool, true, false, cond, List, [], ◌∷◌, ◌++◌, map, length, replicate, Option, Some, None, Result, Ok, Err, refl, sym, ap, subst, ◌∙◌, slice_get, slice_set, slice_index, arith}
+use Rattle.std.proofs.Common.{◌≡◌, ◌≢◌, ℕ, zero, suc, ◌-◌, ◌<◌, Bool, true, false, cond, List, [], ◌∷◌, ◌++◌, map, length, replicate, Option, Some, None, Result, Ok, Err, refl, sym, subst, slice_get, slice_set, slice_index, arith}
 use Rattle.std.specs.Prelude.{⊤, ◌==◌, unwrap_or}
 use Rattle.std.specs.List.{AllByRecursion}
 use Rattle.gold_field.specs.Operators.{unary_of as number_by, binary_of}
@@ -11,12 +11,11 @@ use Rattle.cir_ast.specs.Tree.{Expr, Number, Place, Call, Anonymous, Parentheses
 use Rattle.cir_meaning.specs.SignalFree.{IsVariable, IsFunction, IsFreeExpr, AreFree, AreFreeIndices, IsFreeAssign, IsFreeOption, IsFreeVariable, IsFreeFirst, IsFreeSimple, IsFree, AreFreeStatements, AreFunctionsFree}
 use Rattle.cir_meaning.specs.Tried.{next}
 use Rattle.cir_meaning.specs.Places.{is_inside, left_of, places_of}
-use Rattle.cir_meaning.specs.Arrays.{single, made, filled, put_items}
+use Rattle.cir_meaning.specs.Arrays.{single, made, put_items}
 use Rattle.cir_meaning.specs.Values.{and_number, or_number}
 use Rattle.cir_meaning.specs.Operators.{Operator, Strict, And, Or, operator_of, unary_of}
-use Rattle.cir_meaning.specs.Writing.{plain}
-use Rattle.cir_meaning.specs.RunValues.{Ran, Numbers, Environment, Store, stored, gives, number, number_in, numbers_in, place_in, index_numbers, dims_numbers, bounded, the_number, RunNamed, call_function, needs_right, result_number, unless_zero_divisor, when, gathered_numbers, assert_fails, fuel_spent, too_deep, zero_divisor, index_out}
-use Rattle.cir_meaning.specs.RunStatements.{StepFlow, StepGoing, StepReturned, step_goes, step_going, spend, step_set, step_plain, step_assign, step_value, declared, step_variable, step_variables, step_first, step_simple, step_turns, step_statement, step_statements, in_function, returned_number, run_function, run_call}
+use Rattle.cir_meaning.specs.RunValues.{Ran, Numbers, Store, stored, gives, number, number_in, numbers_in, place_in, index_numbers, dims_numbers, bounded, the_number, RunNamed, call_function, needs_right, result_number, unless_zero_divisor, when, assert_fails, fuel_spent, too_deep, zero_divisor, index_out}
+use Rattle.cir_meaning.specs.RunStatements.{StepFlow, StepGoing, StepReturned, step_goes, step_going, spend, step_set, step_assign, step_value, declared, step_variable, step_variables, step_first, step_simple, step_turns, step_statement, step_statements, in_function, returned_number, run_function, run_call}
 use Rattle.cir_meaning.proofs.KnownCalls.{all_get}
 
 unfoldable pub NoMiss : {A : Type 0} → (A → Type 0) → Result A ℕ → Type 0

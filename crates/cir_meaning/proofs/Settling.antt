@@ -1,17 +1,13 @@
 -- The numbers that the variables of a run have: known elements have their known numbers.
-use Rattle.std.proofs.Common.{◌≡◌, ◌⊎◌, inl, inr, ℕ, zero, suc, Bool, true, false, List, [], ◌∷◌, map, length, Option, Some, None, is_some, slice_get, slice_set, refl, sym, ap, subst, ◌∙◌}
-use Rattle.std.specs.Prelude.{⊤, unwrap_or}
+use Rattle.std.proofs.Common.{◌≡◌, ℕ, zero, suc, List, [], ◌∷◌, Option, Some, None, slice_get, slice_set, refl, sym, subst}
+use Rattle.std.specs.Prelude.{unwrap_or}
 use Rattle.std.specs.List.{AllByRecursion}
 use Rattle.cir_lc.specs.Number.{Assignment}
-use Rattle.cir_meaning.specs.Arrays.{Datum, single, put_items, filled, forgotten}
-use Rattle.cir_meaning.specs.Places.{elements}
-use Rattle.cir_meaning.specs.Limits.{is_too_large}
+use Rattle.cir_meaning.specs.Arrays.{Datum, single, put_items}
 use Rattle.cir_meaning.specs.Values.{Value, Known, Linear, Quadratic, Opaque}
-use Rattle.cir_meaning.specs.RunValues.{Numbers, Store, stored}
+use Rattle.cir_meaning.specs.RunValues.{Numbers, Store}
 use Rattle.cir_meaning.specs.Run.{settled, settled_items, settled_store, put_numbers}
 use Rattle.cir_meaning.proofs.Meaning.{Means}
-use Rattle.cir_meaning.proofs.Rows.{all_replicate}
-use Rattle.cir_meaning.proofs.Good.{either}
 use Rattle.cir_meaning.proofs.Same.{Rows, Same}
 use Rattle.cir_meaning.proofs.KnownValues.{KnownValue, KnownDatum}
 

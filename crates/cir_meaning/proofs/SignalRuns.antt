@@ -1,45 +1,37 @@
 -- An assignment to signals in a run.
-use Rattle.std.proofs.Common.{◌≡◌, ◌≢◌, ◌⊎◌, inl, inr, ℕ, zero, suc, ◌+◌, Bool, true, false, not, cond, List, [], ◌∷◌, ◌++◌, length, Option, Some, None, is_some, Ok, Err, refl, sym, ap, subst, ◌∙◌, slice_get, slice_set, arith}
-use Rattle.std.specs.Prelude.{⊤}
+use Rattle.std.proofs.Common.{◌≡◌, ◌≢◌, ◌⊎◌, inl, inr, ℕ, zero, suc, ◌+◌, Bool, true, false, not, List, [], ◌∷◌, ◌++◌, Option, Some, None, is_some, Ok, refl, sym, ap, subst, ◌∙◌, slice_get, slice_set, arith}
 use Rattle.std.proofs.lemmas.List.{append-nil}
 use Rattle.cir_ast.specs.declared.program.Meant.{Meant}
 use Rattle.cir_ast.specs.declared.program.Meant.TheVariants as meant
 use Rattle.cir_ast.specs.declared.operators.Arrow.{Arrow}
 use Rattle.cir_ast.specs.declared.operators.Direction.{Direction}
 use Rattle.cir_ast.specs.declared.refusal.Kind.TheVariants.{WrongKind, UnknownIndex, ReadBeforeWrite, ShapeDiffers}
-use Rattle.cir_ast.specs.Tree.{Expr, Accessors, done, index, member, Assign}
+use Rattle.cir_ast.specs.Tree.{Expr, Accessors, done, index, member}
 use Rattle.cir_lc.specs.Number.{Assignment}
-use Rattle.cir_meaning.specs.SignalFree.{AreCallsMeant, AreIndicesMeant}
-use Rattle.cir_meaning.specs.Tried.{Where, Tried, next, needed, found}
+use Rattle.cir_meaning.specs.Tried.{Where, next}
 use Rattle.cir_meaning.specs.Places.{all_known}
 use Rattle.cir_meaning.specs.Limits.{Counts}
-use Rattle.cir_meaning.specs.Arrays.{Datum, Scalar, Whole, Reach, reach, same_dims}
+use Rattle.cir_meaning.specs.Arrays.{Whole, reach, same_dims}
 use Rattle.cir_meaning.specs.Source.{Equation}
-use Rattle.cir_meaning.specs.Frame.{SignalEntry, Signals, Part, Frame, World, State, Context, Maker, entry_at, is_input, is_inner, is_fed}
+use Rattle.cir_meaning.specs.Frame.{SignalEntry, Signals, Part, World, State, Context, Maker, entry_at, is_input, is_inner, is_fed}
 use Rattle.cir_meaning.specs.Reading.{find_signal, told_signal, named_signal, part_at}
-use Rattle.cir_meaning.specs.Evaluate.{value_in, indices_in}
-use Rattle.cir_meaning.specs.Writing.{Target, signals_of, part_signals, with_part_signals, targeted, input_of, target_at, target_in, write_elements, SignalAssignment, signal_assignment, write_signal}
+use Rattle.cir_meaning.specs.Evaluate.{value_in}
+use Rattle.cir_meaning.specs.Writing.{Target, signals_of, part_signals, with_part_signals, targeted, target_at, target_in, SignalAssignment, signal_assignment, write_signal}
 use Rattle.cir_meaning.specs.Costs.{Cost}
-use Rattle.cir_meaning.specs.Steps.{stepped, signal_cost}
 use Rattle.cir_meaning.specs.Simple as simple
-use Rattle.cir_meaning.specs.RunValues.{Numbers, number_in}
-use Rattle.cir_meaning.specs.Run.{Wires, RunPart, Run, refusing, store_of, environment, put_wire, put_wires, put_ports, write_wires}
-use Rattle.cir_meaning.specs.RunSimple.{Running, with_known, started, started_at, signal_step, run_set_signal}
-use Rattle.cir_meaning.proofs.Good.{OnGood, good_ok, good_bad, good_next, good_on, good_needed, good_needed_as, good_found_as, good_is, good_weaker}
-use Rattle.cir_meaning.proofs.Pairs.{Pair, good_both}
-use Rattle.cir_meaning.proofs.Likes.{CallKeeps, Like, like_itself, value_like}
+use Rattle.cir_meaning.specs.Run.{Wires, RunPart, Run, put_wires}
+use Rattle.cir_meaning.specs.RunSimple.{Running, with_known, started}
+use Rattle.cir_meaning.proofs.Good.{OnGood, good_ok, good_bad, good_next, good_on, good_needed, good_needed_as, good_found_as, good_weaker}
+use Rattle.cir_meaning.proofs.Pairs.{good_both}
+use Rattle.cir_meaning.proofs.Likes.{CallKeeps, Like, value_like}
 use Rattle.cir_meaning.proofs.FineValues.{Fine}
-use Rattle.cir_meaning.proofs.FineStatements.{set_signal_fine}
-use Rattle.cir_meaning.proofs.Same.{Rows, Same, rows_count}
-use Rattle.cir_meaning.proofs.Sound.{Answers}
-use Rattle.cir_meaning.proofs.Numbered.{value_pair}
+use Rattle.cir_meaning.proofs.Same.{Rows, rows_count}
 use Rattle.cir_meaning.proofs.Marking.{MarksOf, KeepsWires}
 use Rattle.cir_meaning.proofs.Writing.{get_set, Marked, Placed, Tested, elements_marked, elements_placed, signals_added}
 use Rattle.cir_meaning.proofs.Holds.{Agrees, Extends, found_entry}
-use Rattle.cir_meaning.proofs.Goes.{Goes, goes_ok, goes_twice, goes_refusing, goes_step, pair_no}
+use Rattle.cir_meaning.proofs.Goes.{Goes, goes_ok}
 use Rattle.cir_meaning.proofs.Standing.{PartStands, Stands, SameEntry, SameShapes, changed}
-use Rattle.cir_meaning.proofs.VariableRuns.{Soundly, like_changed, fits, with_added, IsAdded, stepped_adds, indices_like, After}
-use Rattle.cir_meaning.proofs.StepRuns.{stands_like, pair_then}
+use Rattle.cir_meaning.proofs.VariableRuns.{Soundly, like_changed, with_added, IsAdded, stepped_adds, indices_like, After}
 use Rattle.cir_meaning.proofs.SignalWrites.{wrote, AllAt, Wrote, elements_wrote, shapes_itself}
 use Rattle.cir_meaning.proofs.OwnWrites.{wires_else, all_at, own_stands}
 use Rattle.cir_meaning.proofs.PartWrites.{part_stands, part_written, part_state, wrote_part, same_or_not}
@@ -207,7 +199,8 @@ wrote_added C t f s u h i = (
     added = i.0;
     counts = h.counts;
     is = i.1 ∙ ap (λ (z : State). with_added z i.0) h.is;
-    now = ap (λ (z : State). signals_of t.part z.frame) i.1 ∙ signals_added t.part s.frame i.0 ∙ h.now;
+    now = ap (λ (z : State). signals_of t.part z.frame) i.1 ∙ signals_added t.part s.frame i.0
+        ∙ h.now;
     shapes = h.shapes;
     shapes_back = h.shapes_back;
     fed = h.fed;
@@ -313,7 +306,7 @@ module _ (make : Option Maker) (given : Wires) (start : World) (functions : ℕ)
   module _ (r : Run) (h : Stands make given start None r) (a : SignalAssignment)
       (is : TargetIs r.known a.target) (values : List ℕ) (s : State) (fine : Fine s) where
     -- own signals
-    own_goes : (was_fed : Bool) → a.target.part ≡ None
+    pub own_goes : (was_fed : Bool) → a.target.part ≡ None
         → Written (Condition (Extends r) is.entry.first a.target.reach.places values) (λ d. true)
         a.target values r.own r.known s
         → Goes Then (Ok s) (Ok (with_known s
@@ -366,7 +359,7 @@ module _ (make : Option Maker) (given : Wires) (start : World) (functions : ℕ)
             entry_now.0 entry_now.1 agrees a.target.reach.places values g.placed)
 
     -- a component's input
-    part_goes : (j : ℕ) (p : Part) (x : RunPart) → a.target.part ≡ Some j
+    pub part_goes : (j : ℕ) (p : Part) (x : RunPart) → a.target.part ≡ Some j
         → slice_get r.known.frame.parts j ≡ Some p → slice_get r.parts j ≡ Some x
         → PartStands make (is_fed p.signals) p x
         → Written (Condition (Extends r) is.entry.first a.target.reach.places values) is_input

@@ -1,19 +1,19 @@
 -- The state behind a write of signals: other signals in one place, and more equations.
-use Rattle.std.proofs.Common.{◌≡◌, ◌≢◌, ◌⊎◌, inl, inr, ℕ, zero, suc, ◌+◌, Bool, true, false, not, ◌&&◌, cond, nat_eq, List, [], ◌∷◌, ◌++◌, length, Option, Some, None, Ok, refl, sym, ap, subst, ◌∙◌, slice_get, slice_set}
+use Rattle.std.proofs.Common.{◌≡◌, ◌≢◌, ◌⊎◌, inl, inr, ℕ, zero, suc, ◌+◌, Bool, true, false, not, ◌&&◌, cond, nat_eq, List, [], ◌∷◌, ◌++◌, length, Option, Some, None, refl, sym, ap, subst, ◌∙◌, slice_get, slice_set}
 use Rattle.std.specs.Prelude.{⊤}
 use Rattle.std.specs.List.{AllByRecursion, list_all}
-use Rattle.std.proofs.lemmas.List.{append-nil, append_assoc}
+use Rattle.std.proofs.lemmas.List.{append_assoc}
 use Rattle.std.proofs.lemmas.Bool.{eqb-true, eq-eqb}
 use Rattle.cir_ast.specs.declared.operators.Arrow.{Arrow}
 use Rattle.cir_ast.specs.declared.operators.Arrow.TheVariants.{Assign as AssignArrow, Constrain as ConstrainArrow}
 use Rattle.cir_ast.specs.declared.refusal.Kind.TheVariants.{ReadBeforeWrite, SecondWrite}
 use Rattle.cir_lc.specs.Number.{Assignment, signal}
-use Rattle.cir_meaning.specs.Tried.{Where, Tried, next}
+use Rattle.cir_meaning.specs.Tried.{Where}
 use Rattle.cir_meaning.specs.Limits.{Counts}
 use Rattle.cir_meaning.specs.Source.{Equation, IsEqualAt}
-use Rattle.cir_meaning.specs.Values.{Value, Linear, Parts, number_of}
+use Rattle.cir_meaning.specs.Values.{Value, Linear, number_of}
 use Rattle.cir_meaning.specs.Frame.{SignalEntry, Signals, Part, Frame, State, Context, is_input, is_written, is_all_written, is_fed, put_at, entry_at}
-use Rattle.cir_meaning.specs.Writing.{Target, signals_of, part_signals, with_part_signals, with_signals, marked, write_element, constrained, constrained_by, write_elements}
+use Rattle.cir_meaning.specs.Writing.{Target, signals_of, with_part_signals, with_signals, marked, write_element, constrained, constrained_by, write_elements}
 use Rattle.cir_meaning.proofs.Good.{OnGood, good_ok, good_next, good_needed_as, good_found_as, good_weaker}
 use Rattle.cir_meaning.proofs.Reaching.{and_true}
 use Rattle.cir_meaning.proofs.Rows.{all_append}
@@ -36,7 +36,8 @@ shapes_itself xs n e h = (e, h, same_itself e)
 pub shapes_then : (xs ys zs : Signals) → SameShapes xs ys → SameShapes ys zs → SameShapes xs zs
 shapes_then xs ys zs h g n e there =
     let one : (d : SignalEntry) × (entry_at ys n ≡ Some d) × SameEntry e d = h n e there in
-    let two : (d : SignalEntry) × (entry_at zs n ≡ Some d) × SameEntry one.0 d = g n one.0 one.1 in (
+    let two : (d : SignalEntry) × (entry_at zs n ≡ Some d) × SameEntry one.0 d =
+    g n one.0 one.1 in (
       two.0,
       two.1,
       (one.2.0 ∙ two.2.0, one.2.1 ∙ two.2.1, one.2.2 ∙ two.2.2),
@@ -50,7 +51,7 @@ set_length (x ∷ xs) (suc k) b = ap (λ (n : ℕ). suc n) (set_length xs k b)
 same_marked : (e : SignalEntry) (place : ℕ) → SameEntry e (marked e place)
 same_marked e place = (refl, refl, sym (set_length e.written place true))
 
-put_there : (n m : ℕ) (a e : SignalEntry) (xs : Signals) → n ≢ m → entry_at xs m ≡ Some e
+pub put_there : (n m : ℕ) (a e : SignalEntry) (xs : Signals) → n ≢ m → entry_at xs m ≡ Some e
     → entry_at (put_at n a xs) m ≡ Some e
 put_there zero zero a e xs ne h = absurd (ne refl)
 put_there zero (suc m) a e [] ne h = h
@@ -224,7 +225,8 @@ module _ (C E : Assignment → Type 0) (inside : (v : Assignment) → C v → E 
           is = ap (λ (u : State). record u {
             frame = with_signals t.part (put_at t.number (marked e place)
                 (signals_of t.part s.frame)) u.frame;
-          }) h.is ∙ ap (λ (x : Frame). record (wrote f t.part h.signals h.equations h.added h.counts)
+          }) h.is ∙ ap
+              (λ (x : Frame). record (wrote f t.part h.signals h.equations h.added h.counts)
               { frame = x }) (signals_again t.part h.signals
               (put_at t.number (marked e place) (signals_of t.part s.frame)) f.frame h.added);
           now = signals_put t.part t.number e (put_at t.number (marked e place)

@@ -1,7 +1,6 @@
 -- What holds of a run between its statements: its numbers, its components, and that each assignment
 -- with these numbers makes the equations equal.
-use Rattle.std.proofs.Common.{◌≡◌, ◌≢◌, ℕ, Bool, true, false, not, ◌&&◌, nat_eq, List, [], ◌∷◌, ◌++◌, length, Option, Some, None, is_some, slice_get, Ok, Err, refl, sym, ap, subst, ◌∙◌}
-use Rattle.std.specs.Prelude.{⊤}
+use Rattle.std.proofs.Common.{◌≡◌, ℕ, Bool, true, false, not, ◌&&◌, nat_eq, List, [], length, Option, Some, None, is_some, slice_get, Ok, Err, refl, sym, subst}
 use Rattle.std.specs.List.{AllByRecursion}
 use Rattle.cir_ast.specs.declared.refusal.Kind.TheVariants.{TooDeep}
 use Rattle.cir_lc.specs.Number.{Assignment}
@@ -15,7 +14,7 @@ use Rattle.cir_meaning.specs.Run.{Wires, Table, RunPart, Run, store_of}
 use Rattle.cir_meaning.proofs.FineValues.{Fine}
 use Rattle.cir_meaning.proofs.Same.{Same}
 use Rattle.cir_meaning.proofs.Marking.{KeepsWires}
-use Rattle.cir_meaning.proofs.Holds.{Agrees, PartAgrees, Extends, MarksSame, PartHolds, Holds}
+use Rattle.cir_meaning.proofs.Holds.{PartAgrees, Extends, MarksSame, Holds}
 
 -- the equations that came since hold where those before do
 abbrev pub Adds : Assignment → World → World → Type 0

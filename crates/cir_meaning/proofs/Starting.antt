@@ -1,15 +1,14 @@
 -- A component's body runs once its inputs are there.
-use Rattle.std.proofs.Common.{◌≡◌, ◌≢◌, ◌⊎◌, inl, inr, ℕ, zero, suc, Bool, true, false, not, ◌&&◌, cond, List, [], ◌∷◌, length, Option, Some, None, is_some, Ok, Err, refl, sym, ap, subst, ◌∙◌, slice_get, slice_set}
-use Rattle.std.specs.Prelude.{⊤}
+use Rattle.std.proofs.Common.{◌≡◌, ◌≢◌, ◌⊎◌, inl, inr, ℕ, zero, suc, Bool, true, false, cond, List, [], ◌∷◌, Option, Some, None, is_some, Ok, Err, refl, sym, ap, subst, ◌∙◌, slice_get, slice_set}
 use Rattle.std.specs.List.{AllByRecursion, list_all}
 use Rattle.cir_lc.specs.Number.{Assignment}
-use Rattle.cir_meaning.specs.Tried.{Where, Tried, next}
+use Rattle.cir_meaning.specs.Tried.{next}
 use Rattle.cir_meaning.specs.Frame.{SignalEntry, Signals, Part, World, State, Maker, variable_at, entry_at, is_input, is_all_written, is_fed}
 use Rattle.cir_meaning.specs.RunValues.{stored}
-use Rattle.cir_meaning.specs.Run.{Failure, Rejected, Stopped, RunTried, Wires, Table, RunPart, Run, store_of}
+use Rattle.cir_meaning.specs.Run.{Rejected, Stopped, RunTried, Wires, RunPart, Run, store_of}
 use Rattle.cir_meaning.specs.RunSimple.{Outcome, Runner, Running, with_outcome, run_part, started}
 use Rattle.cir_meaning.proofs.Reaching.{and_true}
-use Rattle.cir_meaning.proofs.Marking.{KeepsWires, set_at}
+use Rattle.cir_meaning.proofs.Marking.{KeepsWires}
 use Rattle.cir_meaning.proofs.Writing.{get_set}
 use Rattle.cir_meaning.proofs.Holds.{Agrees, PartAgrees, Extends}
 use Rattle.cir_meaning.proofs.Goes.{Goes, goes_ok}

@@ -1,47 +1,41 @@
 -- Statements of a run that write no variable: what is dropped, `assert`, `log` and `===`.
-use Rattle.std.proofs.Common.{◌≡◌, ◌≢◌, ℕ, zero, suc, ◌+◌, Bool, true, false, not, cond, List, [], ◌∷◌, ◌++◌, map, Option, Some, None, Result, Ok, Err, refl, sym, ap, subst, ◌∙◌, slice_get, slice_index}
-use Rattle.std.specs.Prelude.{⊤, ◌==◌}
-use Rattle.std.specs.Fmt.{decimal}
+use Rattle.std.proofs.Common.{◌≡◌, ℕ, Bool, true, false, cond, List, ◌++◌, Option, None, Result, Ok, Err, refl, sym, ap, subst, slice_index}
+use Rattle.std.specs.Prelude.{◌==◌}
 use Rattle.std.specs.List.{AllByRecursion}
-use Rattle.std.proofs.lemmas.Bool.{eqb-true}
-use Rattle.cir_ast.specs.declared.refusal.Kind.{Kind}
 use Rattle.cir_ast.specs.declared.refusal.Kind.TheVariants.{AssertFalse}
 use Rattle.cir_ast.specs.declared.program.Spot.{Spot}
 use Rattle.cir_ast.specs.declared.program.Meant.{Meant}
-use Rattle.cir_ast.specs.Tree.{Expr, LogArgument, Words, LogValue}
+use Rattle.cir_ast.specs.Tree.{Expr}
 use Rattle.cir_lc.specs.Number.{Assignment}
 use Rattle.cir_meaning.specs.SignalFree.{AreCallsMeant}
 use Rattle.cir_meaning.specs.Tried.{Where, Tried, next, refused}
 use Rattle.cir_meaning.specs.Limits.{Counts, nothing}
-use Rattle.cir_meaning.specs.Arrays.{Datum, Scalar, Whole, the_item}
+use Rattle.cir_meaning.specs.Arrays.{Scalar, Whole, the_item}
 use Rattle.cir_meaning.specs.Source.{Equation, IsEqualAt}
-use Rattle.cir_meaning.specs.Values.{Value, Known, Linear, Quadratic, Opaque, Parts, number_of, parts_of, difference_of, IsValue, class_of}
-use Rattle.cir_meaning.specs.Frame.{World, State, Context, Maker, at, adding, settle, counted}
+use Rattle.cir_meaning.specs.Values.{Value, Known, Linear, Quadratic, Opaque}
+use Rattle.cir_meaning.specs.Frame.{World, State, Maker, at, settle, counted}
 use Rattle.cir_meaning.specs.Evaluate.{scalar, value_in}
-use Rattle.cir_meaning.specs.Writing.{appended, constrained}
-use Rattle.cir_meaning.specs.Steps.{stepped, assert_cost, log_cost, logged_cells, equal_cost}
+use Rattle.cir_meaning.specs.Steps.{assert_cost}
 use Rattle.cir_meaning.specs.Simple as simple
-use Rattle.cir_meaning.specs.Statement.{decided, assert_value, logged, log_values}
-use Rattle.cir_meaning.specs.RunValues.{Ran, Numbers, Environment, Store, number, number_in, gives, constraint_fails, assert_fails}
-use Rattle.cir_meaning.specs.Run.{Wires, Run, RunTried, refusing, store_of, environment, stepping}
-use Rattle.cir_meaning.specs.RunSimple.{Running, with_known, run_known, run_counted, sides, run_equal}
-use Rattle.cir_meaning.specs.RunBodies.{asserted, assert_step, run_assert_value, run_assert, log_words, log_line, run_log}
-use Rattle.cir_meaning.proofs.Good.{OnGood, good_ok, good_bad, good_next, good_on, good_is, good_weaker}
+use Rattle.cir_meaning.specs.Statement.{decided, assert_value}
+use Rattle.cir_meaning.specs.RunValues.{Numbers, Environment, Store, number_in, assert_fails}
+use Rattle.cir_meaning.specs.Run.{Wires, Run, RunTried, store_of, environment}
+use Rattle.cir_meaning.specs.RunSimple.{Running, with_known, run_known, run_counted}
+use Rattle.cir_meaning.specs.RunBodies.{asserted, assert_step, run_assert}
+use Rattle.cir_meaning.proofs.Good.{OnGood, good_ok, good_bad, good_next, good_on, good_is}
 use Rattle.cir_meaning.proofs.Rows.{all_append}
-use Rattle.cir_meaning.proofs.Pairs.{Pair, pair_ok, pair_bad, pair_stop, pair_next, pair_good, good_both}
-use Rattle.cir_meaning.proofs.Likes.{CallKeeps, Like, like_itself, value_like}
-use Rattle.cir_meaning.proofs.FineValues.{FineContext, Fine, FineAnswer, value_fine}
-use Rattle.cir_meaning.proofs.FineStatements.{dropped_fine, equal_fine, assert_fine, log_fine}
+use Rattle.cir_meaning.proofs.Pairs.{Pair}
+use Rattle.cir_meaning.proofs.Likes.{Like, like_itself, value_like}
+use Rattle.cir_meaning.proofs.FineValues.{Fine, FineAnswer, value_fine}
+use Rattle.cir_meaning.proofs.FineStatements.{dropped_fine, assert_fine}
 use Rattle.cir_meaning.proofs.FineWriting.{counted_fine}
-use Rattle.cir_meaning.proofs.Meaning.{Means, number_at}
-use Rattle.cir_meaning.proofs.Same.{Same}
-use Rattle.cir_meaning.proofs.Sound.{Fitting, Answers, Ready, Whole', number_pair}
+use Rattle.cir_meaning.proofs.Sound.{Answers}
 use Rattle.cir_meaning.proofs.Numbered.{value_pair}
 use Rattle.cir_meaning.proofs.RunFree.{NoMiss, Any, no_ok, no_stop, no_next, no_if, no_weaker}
 use Rattle.cir_meaning.proofs.Holds.{Extends}
-use Rattle.cir_meaning.proofs.Goes.{Goes, goes_ok, goes_bad, goes_same, goes_refusing, goes_step, pair_no}
+use Rattle.cir_meaning.proofs.Goes.{Goes, goes_ok, goes_same, goes_refusing, goes_step, pair_no}
 use Rattle.cir_meaning.proofs.Standing.{Stands, changed, stands_changed}
-use Rattle.cir_meaning.proofs.VariableRuns.{Soundly, like_changed, fits, with_added, IsAdded, stepped_adds, After}
+use Rattle.cir_meaning.proofs.VariableRuns.{Soundly, like_changed, fits, IsAdded, stepped_adds, After}
 
 -- where nothing is new but what is counted
 pub stands_like : (make : Option Maker) (given : Wires) (start : World) (late : Option ℕ) (r : Run)
@@ -130,7 +124,8 @@ module _ (make : Option Maker) (given : Wires) (start : World) (functions : ℕ)
       goes_ok Then s (with_known s r) (
         refl,
         stands_like make given start None r s h
-            (good_is (λ x. Like r.known x) (go r.known) s e like) (good_is Fine (go r.known) s e fine),
+            (good_is (λ x. Like r.known x) (go r.known) s e like)
+            (good_is Fine (go r.known) s e fine),
       ))
 
   pub counted_goes : (spot : Spot) (r : Run) → Stands make given start None r
@@ -228,7 +223,8 @@ module _ (make : Option Maker) (given : Wires) (start : World) (functions : ℕ)
         stands_like make given start None r s h
             (added_like r.known x.1 s
             (good_is (λ y. Like r.known y.1) (value_in q.context w false Scalar e r.known) x is
-            (value_like r.known q.context sound.keeps w false Scalar e r.known (like_itself r.known)))
+            (value_like r.known q.context sound.keeps w false Scalar e r.known
+            (like_itself r.known)))
             (good_is (IsAdded x.1) (assert_value q.context w e r.known (the_item x.0) x.1) s es
             (assert_adds w e r.known (the_item x.0) x.1)))
             (good_is Fine (assert_value q.context w e r.known (the_item x.0) x.1) s es

@@ -3,11 +3,12 @@
 use Rattle.std.proofs.Common.{◌≡◌, ℕ, ◌+◌, ◌≤◌, Bool, true, false, cond, List, [], ◌∷◌, Ok, Err, refl, sym, subst, zero-le, arith}
 use Rattle.std.specs.Prelude.{⊤, ◌==◌, nat_le, min, ◌^◌, ◌-◌}
 use Rattle.std.specs.List.{AllByRecursion}
+use Rattle.std.proofs.Math.Nat.{min-le_left, min-le_right, le-min}
 use Rattle.std.proofs.lemmas.Bool.{leb-true, le-leb, eqb-true, eq-eqb}
 use Rattle.cir_ast.specs.declared.refusal.Kind.{Kind}
 use Rattle.cir_ast.specs.declared.refusal.Kind.TheVariants.{Limit}
 use Rattle.cir_meaning.specs.Tried.{Where, Refused, Tried, next, refused, needed}
-use Rattle.cir_meaning.specs.Limits.{Counts, nothing, Limited, limits, plus, tested, with_array, is_too_large, size_of}
+use Rattle.cir_meaning.specs.Limits.{Counts, nothing, Limited, limits, standing, count_sum, plus, tested, with_array, is_too_large, size_of}
 use Rattle.cir_meaning.specs.Frame.{State, adding, settle, one_statement, counted}
 use Rattle.cir_meaning.proofs.Good.{OnGood}
 
@@ -137,23 +138,30 @@ first_count n x y i e = at (y == 0) refl
 
 pub below_with_array : (dims : List ℕ) (x y : Counts) → Below x y
     → Below (with_array dims x) (with_array dims y)
-below_with_array dims x y h = at (is_too_large dims)
+below_with_array dims x y h = at (standing (size_of dims)) (is_too_large dims)
   where
-    at : (b : Bool)
-        → Below (cond b record x { elements = cond (x.elements == 0) (size_of dims) x.elements } x)
-        (cond b record y { elements = cond (y.elements == 0) (size_of dims) y.elements } y)
-    at true = record {
+    at : (n : ℕ) (b : Bool)
+        → Below (cond b record x { elements = cond (x.elements == 0) n x.elements } x)
+        (cond b record y { elements = cond (y.elements == 0) n y.elements } y)
+    at n true = record {
       signals = h.signals;
       constraints = h.constraints;
       terms = h.terms;
-      elements = first_count (size_of dims) x.elements y.elements h.elements;
+      elements = first_count n x.elements y.elements h.elements;
       cells = h.cells;
       steps = h.steps;
       nodes = h.nodes;
       reads = h.reads;
       statements = h.statements;
     }
-    at false = h
+    at n false = h
+
+-- counts that stand still are in order where those that go on are
+sums_less : (k l m n : ℕ) → k ≤ l → m ≤ n → count_sum k m ≤ count_sum l n
+sums_less k l m n u v =
+    let smaller : min (k + m) (2 ^ 64 - 1) ≤ k + m = min-le_left (k + m) (2 ^ 64 - 1) in
+    let less : min (k + m) (2 ^ 64 - 1) ≤ l + n = omega arith in
+    le-min less (min-le_right (k + m) (2 ^ 64 - 1))
 
 pub below_one : (x y : Counts) → Below x y → Below (one_statement x) (one_statement y)
 below_one x y h = record {
@@ -165,28 +173,22 @@ below_one x y h = record {
   steps = h.steps;
   nodes = h.nodes;
   reads = h.reads;
-  statements = both_sides h.statements;
+  statements = sums_less x.statements y.statements 1 1 h.statements (omega arith);
 }
-  where
-    both_sides : x.statements ≤ y.statements → x.statements + 1 ≤ y.statements + 1
-    both_sides l = omega arith
 
 below_plus : (x y a b : Counts) → Below x y → Below a b → Below (plus x a) (plus y b)
 below_plus x y a b h g = record {
-  signals = sum x.signals y.signals a.signals b.signals h.signals g.signals;
-  constraints = sum x.constraints y.constraints a.constraints b.constraints h.constraints
+  signals = sums_less x.signals y.signals a.signals b.signals h.signals g.signals;
+  constraints = sums_less x.constraints y.constraints a.constraints b.constraints h.constraints
       g.constraints;
-  terms = sum x.terms y.terms a.terms b.terms h.terms g.terms;
+  terms = sums_less x.terms y.terms a.terms b.terms h.terms g.terms;
   elements = g.elements;
-  cells = sum x.cells y.cells a.cells b.cells h.cells g.cells;
-  steps = sum x.steps y.steps a.steps b.steps h.steps g.steps;
-  nodes = sum x.nodes y.nodes a.nodes b.nodes h.nodes g.nodes;
-  reads = sum x.reads y.reads a.reads b.reads h.reads g.reads;
-  statements = sum x.statements y.statements a.statements b.statements h.statements g.statements;
+  cells = sums_less x.cells y.cells a.cells b.cells h.cells g.cells;
+  steps = sums_less x.steps y.steps a.steps b.steps h.steps g.steps;
+  nodes = sums_less x.nodes y.nodes a.nodes b.nodes h.nodes g.nodes;
+  reads = sums_less x.reads y.reads a.reads b.reads h.reads g.reads;
+  statements = sums_less x.statements y.statements a.statements b.statements h.statements g.statements;
 }
-  where
-    sum : (k l m n : ℕ) → k ≤ l → m ≤ n → k + m ≤ l + n
-    sum k l m n u v = omega arith
 
 below_emptied : (x y : Counts) → Below x y
     → Below (record x { elements = 0 }) (record y { elements = 0 })

@@ -1,7 +1,6 @@
 -- Assignments to variables in a run.
-use Rattle.std.proofs.Common.{◌≡◌, ℕ, zero, suc, Bool, true, false, not, cond, List, [], ◌∷◌, ◌++◌, map, Option, Some, None, Ok, Err, refl, sym, ap, subst, ◌∙◌, slice_get, slice_set}
-use Rattle.std.specs.Prelude.{⊤, ◌==◌, unwrap_or}
-use Rattle.std.specs.List.{AllByRecursion}
+use Rattle.std.proofs.Common.{◌≡◌, ℕ, zero, suc, Bool, true, false, not, cond, List, [], ◌∷◌, ◌++◌, Option, Some, None, Ok, refl, sym, ap, subst, ◌∙◌, slice_get, slice_set}
+use Rattle.std.specs.Prelude.{◌==◌, unwrap_or}
 use Rattle.cir_ast.specs.declared.program.Meant.{Meant}
 use Rattle.cir_ast.specs.declared.program.Meant.TheVariants as meant
 use Rattle.cir_ast.specs.declared.refusal.Kind.{Kind}
@@ -9,13 +8,13 @@ use Rattle.cir_ast.specs.declared.refusal.Kind.TheVariants.{ShapeDiffers}
 use Rattle.cir_ast.specs.Tree.{Expr, Accessors, done, index, member, Assign}
 use Rattle.cir_lc.specs.Number.{Assignment}
 use Rattle.cir_meaning.specs.SignalFree.{AreCallsMeant, AreIndicesMeant}
-use Rattle.cir_meaning.specs.Tried.{Where, Tried, next, refused}
+use Rattle.cir_meaning.specs.Tried.{Where, Tried, next}
 use Rattle.cir_meaning.specs.Places.{elements}
 use Rattle.cir_meaning.specs.Limits.{Counts}
-use Rattle.cir_meaning.specs.Arrays.{Datum, Scalar, Whole, Reach, reach, single, forgotten, is_known, is_all_known, same_dims, put_items, the_item}
-use Rattle.cir_meaning.specs.Values.{Value, Known, Opaque, known_number}
+use Rattle.cir_meaning.specs.Arrays.{Datum, Scalar, Whole, reach, single, forgotten, is_known, is_all_known, same_dims, put_items, the_item}
+use Rattle.cir_meaning.specs.Values.{Known, Opaque, known_number}
 use Rattle.cir_meaning.specs.Frame.{Signals, Part, ComponentEntry, World, State, Context, Maker, variable_at}
-use Rattle.cir_meaning.specs.Evaluate.{scalar, value_in, indices_in}
+use Rattle.cir_meaning.specs.Evaluate.{value_in, indices_in}
 use Rattle.cir_meaning.specs.Writing.{put_variable, written_datum, VariableAssignment, variable_assignment, write_variable, is_unknown}
 use Rattle.cir_meaning.specs.Costs.{Cost}
 use Rattle.cir_meaning.specs.Steps.{stepped, unless_faulty, variable_cost, new_cells, with_step}
@@ -36,10 +35,10 @@ use Rattle.cir_meaning.proofs.Rows.{all_map}
 use Rattle.cir_meaning.proofs.RunFree.{Calls}
 use Rattle.cir_meaning.proofs.Writing.{get_set}
 use Rattle.cir_meaning.proofs.Holds.{Extends, own_fit, part_fit}
-use Rattle.cir_meaning.proofs.KnownValues.{KnownDatum, all_pass}
+use Rattle.cir_meaning.proofs.KnownValues.{all_pass}
 use Rattle.cir_meaning.proofs.KnownCalls.{CallBoth}
 use Rattle.cir_meaning.proofs.CallsTold.{call_told}
-use Rattle.cir_meaning.proofs.Goes.{Goes, goes_ok, goes_bad, goes_twice, goes_refusing, goes_step, pair_no}
+use Rattle.cir_meaning.proofs.Goes.{Goes, goes_ok, goes_twice, goes_refusing, goes_step, pair_no}
 use Rattle.cir_meaning.proofs.Standing.{Stands, holds_of, changed, stands_changed}
 use Rattle.cir_meaning.proofs.Settling.{settle_of, same_settled, opaque_same, put_same, Variable, variable_of, set_variables, put_variables}
 
@@ -204,7 +203,8 @@ module _ (make : Option Maker) (given : Wires) (start : World) (functions : ℕ)
 
       like_a : Like r.known a.state
       like_a =
-          good_is (λ x. Like r.known x.state) (variable_assignment q.context w n accessors e r.known)
+          good_is (λ x. Like r.known x.state)
+          (variable_assignment q.context w n accessors e r.known)
           a is (assignment_like q.context sound.keeps r.known w n accessors e r.known
           (like_itself r.known))
 
@@ -228,12 +228,14 @@ module _ (make : Option Maker) (given : Wires) (start : World) (functions : ℕ)
           → Stands make given start None (record r { known = s; numbers = numbers })
       stands_after s x numbers es fine variables =
           let as_changed : s ≡ changed r.known
-          (slice_set r.known.frame.variables n (new_datum r.known n a)) x a.state.world.counts = es ∙
+          (slice_set r.known.frame.variables n (new_datum r.known n a)) x a.state.world.counts =
+          es ∙
           ap (λ (t : State). with_added t x) (written_state r.known n a like_a) in
           subst (λ t. Stands make given start None (record r { known = t; numbers = numbers }))
           (sym as_changed)
           (stands_changed make given start None r
-          (slice_set r.known.frame.variables n (new_datum r.known n a)) x a.state.world.counts numbers
+          (slice_set r.known.frame.variables n (new_datum r.known n a)) x a.state.world.counts
+          numbers
           h (subst Fine as_changed fine) variables)
 
       -- a step
@@ -262,11 +264,13 @@ module _ (make : Option Maker) (given : Wires) (start : World) (functions : ℕ)
             refl,
             stands_after s adds.0
                 (put_numbers n (stored y.0 n) r.numbers) adds.1 fine
-                (put_variables (Extends r) r.known.frame.variables r.numbers n (new_datum r.known n a)
+                (put_variables (Extends r) r.known.frame.variables r.numbers n
+                (new_datum r.known n a)
                 (stored y.0 n) (λ old there.
                 let has : (m : Numbers) × (slice_get (store_of r.known r.numbers) n ≡ Some m) =
                 settled_there r.known.frame.variables r.numbers n old there in
-                subst (λ x. Same (Extends r) (new_datum r.known n a) (settle_of (new_datum r.known n a)
+                subst (λ x. Same (Extends r) (new_datum r.known n a)
+                (settle_of (new_datum r.known n a)
                 (Some x)))
                 (sym (ap (λ (st : Store). stored st n) wr.stores ∙
                 stored_set (store_of r.known r.numbers) n has.0 wr.numbers has.1))
@@ -287,7 +291,8 @@ module _ (make : Option Maker) (given : Wires) (start : World) (functions : ℕ)
                 unstepped (Extends r) (variable_at r.known.frame n) a (slice_get r.numbers n)
                 a.reach.is_sure (not (elements (variable_at a.state.frame n).dims == 0)) refl known
                 (subst (λ d. Same (Extends r) d (settle_of d (slice_get r.numbers n))) (sym is_old)
-                (variable_of (Extends r) r.known.frame.variables r.numbers n old there (h.variables n))))
+                (variable_of (Extends r) r.known.frame.variables r.numbers n old there
+                (h.variables n))))
                 h.variables),
           )
 

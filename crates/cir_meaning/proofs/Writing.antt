@@ -63,7 +63,7 @@ appended_signals k w part x y s (Some p) =
     good_ok (λ s1. signals_of part s1.frame ≡ signals_of part s.frame) _
     (signals_added part s.frame _)
 
-constrained_signals : (k : Context) (w : Where) (part : Option ℕ) (arrow : Arrow) (x y : Value)
+pub constrained_signals : (k : Context) (w : Where) (part : Option ℕ) (arrow : Arrow) (x y : Value)
     (s : State)
     → OnGood (λ s1. signals_of part s1.frame ≡ signals_of part s.frame)
     (constrained_by k w arrow x y s)

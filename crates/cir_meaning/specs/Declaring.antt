@@ -9,7 +9,7 @@ use Rattle.cir_ast.specs.declared.refusal.Kind.TheVariants.{WrongKind, UnknownIn
 use Rattle.cir_ast.specs.Tree.{Expr, Parentheses, Call, Exprs, Accessors}
 use Rattle.cir_meaning.specs.Tried.{Where, Tried, next, refused, needed, found}
 use Rattle.cir_meaning.specs.Places.{elements, brackets, all_known}
-use Rattle.cir_meaning.specs.Limits.{with_array, is_too_large}
+use Rattle.cir_meaning.specs.Limits.{count_sum, with_array, is_too_large}
 use Rattle.cir_meaning.specs.Arrays.{Datum, Scalar, reach, filled}
 use Rattle.cir_meaning.specs.Values.{Known}
 use Rattle.cir_meaning.specs.Frame.{SignalEntry, Signals, Part, ComponentEntry, Frame, World, State, Context, next_number, more_in, is_input, put_at, entry_at, in_frame, adding}
@@ -46,9 +46,8 @@ with_row k direction name dims world = record world {
 abbrev pub declare_signal : Context → Spot → Direction → ℕ → List ℕ → List ℕ → State → State
 declare_signal k spot direction n name dims s =
     adding (λ c. with_array dims (record c {
-      signals = c.signals + elements dims;
-      cells = c.cells +
-          elements dims;
+      signals = count_sum c.signals (elements dims);
+      cells = count_sum c.cells (elements dims);
     })) record {
       frame =
           record (s.frame) {

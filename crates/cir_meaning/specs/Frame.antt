@@ -8,7 +8,7 @@ use Rattle.cir_ast.specs.declared.operators.Direction.TheVariants.{Inner, Input,
 use Rattle.cir_ast.specs.Program.{Program}
 use Rattle.cir_lc.specs.Number.{signal}
 use Rattle.cir_meaning.specs.Tried.{Where, Tried, next}
-use Rattle.cir_meaning.specs.Limits.{Counts, nothing, plus, limits, tested}
+use Rattle.cir_meaning.specs.Limits.{Counts, nothing, count_sum, plus, limits, tested}
 use Rattle.cir_meaning.specs.Arrays.{Datum, single}
 use Rattle.cir_meaning.specs.Values.{Value, Known, Linear}
 use Rattle.cir_meaning.specs.Source.{Equation}
@@ -121,10 +121,10 @@ size_in PrivateInputs s = s.private_inputs
 size_in Others s = s.others
 
 abbrev pub more_in : Group → ℕ → Sizes → Sizes
-more_in Outputs n s = record s { outputs = s.outputs + n }
-more_in PublicInputs n s = record s { public_inputs = s.public_inputs + n }
-more_in PrivateInputs n s = record s { private_inputs = s.private_inputs + n }
-more_in Others n s = record s { others = s.others + n }
+more_in Outputs n s = record s { outputs = count_sum s.outputs n }
+more_in PublicInputs n s = record s { public_inputs = count_sum s.public_inputs n }
+more_in PrivateInputs n s = record s { private_inputs = count_sum s.private_inputs n }
+more_in Others n s = record s { others = count_sum s.others n }
 
 abbrev pub next_number : Context → Group → World → ℕ
 next_number k group world = 1 + before_group k.group_size group + size_in group world.sizes
@@ -195,7 +195,7 @@ settle w s = next (tested limits w (plus s.world.counts s.frame.added)) (λ c.
     })
 
 abbrev pub one_statement : Counts → Counts
-one_statement c = record c { statements = c.statements + 1 }
+one_statement c = record c { statements = count_sum c.statements 1 }
 
 -- a statement or a turn is counted
 abbrev pub counted : Where → State → Tried State

@@ -50,18 +50,25 @@ limits =
     record { which = Reads; count = λ c. c.reads; most = 16777216 } ∷
     record { which = Statements; count = λ c. c.statements; most = 16777216 } ∷ []
 
+-- a count stands still at the greatest 64-bit number
+abbrev pub standing : ℕ → ℕ
+standing n = min n (2 ^ 64 - 1)
+
+abbrev pub count_sum : ℕ → ℕ → ℕ
+count_sum a b = standing (a + b)
+
 -- what a statement adds is counted at once; its arrays are tested by themselves
 abbrev pub plus : Counts → Counts → Counts
 plus c d = record {
-  signals = c.signals + d.signals;
-  constraints = c.constraints + d.constraints;
-  terms = c.terms + d.terms;
+  signals = count_sum c.signals d.signals;
+  constraints = count_sum c.constraints d.constraints;
+  terms = count_sum c.terms d.terms;
   elements = d.elements;
-  cells = c.cells + d.cells;
-  steps = c.steps + d.steps;
-  nodes = c.nodes + d.nodes;
-  reads = c.reads + d.reads;
-  statements = c.statements + d.statements;
+  cells = count_sum c.cells d.cells;
+  steps = count_sum c.steps d.steps;
+  nodes = count_sum c.nodes d.nodes;
+  reads = count_sum c.reads d.reads;
+  statements = count_sum c.statements d.statements;
 }
 
 -- the first limit that is passed is named, with the count that passes it
@@ -69,7 +76,7 @@ abbrev pub tested : List Limited → Where → Counts → Tried Counts
 tested [] w c = Ok c
 tested (l ∷ ls) w c =
     if nat_le (l.count c) l.most then tested ls w c
-    else refused w (Limit l.which (min (l.count c) (2 ^ 64 - 1)))
+    else refused w (Limit l.which (standing (l.count c)))
 
 -- the size of an array is the greatest of its number of elements and its dimensions
 abbrev pub size_of : List ℕ → ℕ
@@ -80,7 +87,6 @@ is_too_large dims = nat_lt 1048576 (size_of dims)
 
 abbrev pub with_array : List ℕ → Counts → Counts
 with_array dims c =
-    if is_too_large dims then record c {
-      elements = if c.elements == 0 then size_of dims else
-          c.elements;
-    } else c
+    if is_too_large dims
+    then record c { elements = if c.elements == 0 then standing (size_of dims) else c.elements }
+    else c

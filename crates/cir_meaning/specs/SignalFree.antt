@@ -115,6 +115,27 @@ abbrev mutual
       AreCallsMeant functions e × AreIndicesMeant functions rest
   AreIndicesMeant functions (member name rest) = AreIndicesMeant functions rest
 
+-- what is evaluated when a statement runs; a template's arguments aren't
+abbrev pub IsSetMeant : ℕ → Meant → Accessors Meant → Expr Meant → Type 0
+IsSetMeant functions (meant.Component n) accessors e = ⊤
+IsSetMeant functions m accessors e =
+    AreIndicesMeant functions accessors × AreCallsMeant functions e
+
+abbrev pub IsAssignMeant : ℕ → Assign Meant → Type 0
+IsAssignMeant functions (Set name m accessors e) = IsSetMeant functions m accessors e
+IsAssignMeant functions (Compound name m accessors op e) =
+    AreIndicesMeant functions accessors × AreCallsMeant functions e
+IsAssignMeant functions (Left name m accessors arrow e) = AreCallsMeant functions e
+IsAssignMeant functions (Increment name m accessors) = AreIndicesMeant functions accessors
+IsAssignMeant functions (Decrement name m accessors) = AreIndicesMeant functions accessors
+
+abbrev pub IsVariableMeant : ℕ → Variable Meant → Type 0
+IsVariableMeant functions v = OptionMeant v.value
+  where
+    OptionMeant : Option (Expr Meant) → Type 0
+    OptionMeant None = ⊤
+    OptionMeant (Some e) = IsSetMeant functions v.meant done e
+
 -- of each function
 abbrev pub AreFunctionsFree : Program → Type 0
 AreFunctionsFree p =

@@ -8,7 +8,7 @@ use Rattle.cir_ast.specs.declared.refusal.Kind.{Kind}
 use Rattle.cir_ast.specs.Tree.{Expr, Accessors, Variable, Assign, Set, Compound, Left, Increment, Decrement, First, FirstVars, FirstAssign, LogArgument, Words, LogValue, Simple, Vars, Assigned, Statement, Block, If, IfElse, While, For, Return, Assert, Log, Ended, Statements, empty, then_more}
 use Rattle.cir_meaning.specs.Tried.{Where, Tried, refused}
 use Rattle.cir_meaning.specs.Places.{elements, numbers_from}
-use Rattle.cir_meaning.specs.Limits.{Counts}
+use Rattle.cir_meaning.specs.Limits.{Counts, standing, count_sum}
 use Rattle.cir_meaning.specs.Arrays.{is_known}
 use Rattle.cir_meaning.specs.Frame.{State, Context, variable_at, adding}
 use Rattle.cir_meaning.specs.Writing.{VariableAssignment}
@@ -30,11 +30,11 @@ distinct (c ∷ cs) = if list_any (same_cell c) cs then distinct cs else 1 + dis
 
 abbrev pub with_step : Cost → (cells too_many : ℕ) → Counts → Counts
 with_step cost cells too_many c = record c {
-  cells = c.cells + cells;
-  steps = c.steps + 1;
-  nodes = c.nodes + cost.nodes;
-  reads = c.reads + distinct cost.reads;
-  elements = if c.elements == 0 then too_many else c.elements;
+  cells = count_sum c.cells cells;
+  steps = count_sum c.steps 1;
+  nodes = count_sum c.nodes cost.nodes;
+  reads = count_sum c.reads (distinct cost.reads);
+  elements = if c.elements == 0 then standing too_many else c.elements;
 }
 
 abbrev pub unless_faulty : Where → Option Kind → Tried State → Tried State

@@ -12,6 +12,7 @@ use Rattle.cir_meaning.specs.Operators.{compound_of}
 use Rattle.cir_lc.specs.Number.{signal}
 use Rattle.cir_meaning.specs.Tried.{Where, Tried, next, refused, needed, found}
 use Rattle.cir_meaning.specs.Places.{elements, all_known}
+use Rattle.cir_meaning.specs.Limits.{count_sum}
 use Rattle.cir_meaning.specs.Arrays.{Datum, Whole, Reach, reach, forgotten, is_all_known, same_dims, put_items}
 use Rattle.cir_meaning.specs.Values.{Value, Linear, Parts, difference_of, parts_of, number_of}
 use Rattle.cir_meaning.specs.Source.{terms_of}
@@ -145,9 +146,8 @@ abbrev pub appended : Context → Where → Value → Value → State → Option
 appended k w x y s None = refused w NonQuadratic
 appended k w x y s (Some p) =
     Ok (adding (λ c. record c {
-      constraints = c.constraints + 1;
-      terms = c.terms + terms_of
-          (all_numbers k) p;
+      constraints = count_sum c.constraints 1;
+      terms = count_sum c.terms (terms_of (all_numbers k) p);
     })
     (record s {
       world = record (s.world) {

@@ -1,7 +1,8 @@
 //! Laws over the values of expressions and the constraints of a source, each the contract of a
 //! function that does nothing.
 
-ghost use Rattle.std.specs.Prelude.{◌≡◌, ◌≢◌, ◌↔◌, ◌+◌, ◌<◌, ℕ, Some, Ok, List, All, length, sum_by};
+ghost use Rattle.std.specs.Prelude.{◌≡◌, ◌≢◌, ◌↔◌, ◌+◌, ◌<◌, ℕ, true, Some, Ok, Err, List, All, length, sum_by};
+ghost use Rattle.std.specs.List.{list_all};
 ghost use Rattle.gold_field.specs.declared.form.Constraint.{Constraint};
 ghost use Rattle.gold_field.specs.declared.operators.Op1.{Op1};
 ghost use Rattle.gold_field.specs.declared.operators.Op2.{Op2};
@@ -15,6 +16,13 @@ ghost use Rattle.cir_meaning.specs.Values.{Known as KnownValue, Decided, Shaded,
 ghost use Rattle.cir_meaning.specs.Values.{and_number, or_number, choice_number};
 ghost use Rattle.cir_ast.specs.Program.{Program};
 ghost use Rattle.cir_meaning.specs.Compile.{Circuit, Satisfies, compiled};
+ghost use Rattle.cir_meaning.specs.SignalFree.{AreFunctionsFree};
+ghost use Rattle.cir_meaning.specs.Tried.{Where};
+ghost use Rattle.cir_meaning.specs.Arrays.{Datum, is_all_known};
+ghost use Rattle.cir_meaning.specs.Frame.{World};
+ghost use Rattle.cir_meaning.specs.Bodies.{call_at};
+ghost use Rattle.cir_meaning.specs.RunValues.{Numbers, missing};
+ghost use Rattle.cir_meaning.specs.RunStatements.{run_call};
 ghost use Rattle.cir_meaning.specs.Source.{Equation, IsDifference, IsEqualAt, IsSource, all_terms};
 
 /// The class of an operator's result is the table's, whatever the numbers are.
@@ -121,4 +129,21 @@ pub fn equations_are_differences()
 pub fn list_is_satisfied()
     ensures { (p : Program) (c : Circuit) (n : ℕ) (ks : List Constraint) (s : Assignment) → compiled p ≡ Ok c →
         IsSource n c.equations ks → Satisfies p s ↔ All (Holds s.at) ks }
+{}
+
+/// A call with known arguments is known in each element that it gives, in a program whose functions
+/// have no signals in them.
+pub fn known_calls_are_known()
+    ensures { (p : Program) (size room n : ℕ) (w : Where) (arguments : List Datum)
+        (world after : World) (d : Datum) → AreFunctionsFree p →
+        list_all is_all_known arguments ≡ true →
+        call_at p size room w n arguments world ≡ Ok (d, after) → is_all_known d ≡ true }
+{}
+
+/// A function that is called when the program runs ends, or stops as a program may: it asks for no
+/// value that isn't there.
+pub fn functions_never_miss()
+    ensures { (p : Program) (room f units stop : ℕ) (arguments : List Numbers) →
+        AreFunctionsFree p → f < length p.functions →
+        run_call p room f arguments units ≡ Err stop → stop ≢ missing }
 {}

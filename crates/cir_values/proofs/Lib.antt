@@ -1,3 +1,4 @@
 pub mod Once
 pub mod ReadBack
 pub mod Rows
+pub mod Within
