@@ -2,7 +2,7 @@
 use Rattle.std.specs.Prelude.{◌≡◌, Option, Some, None, Result, Ok, Err}
 use Rattle.cir_ast.specs.declared.refusal.Form.TheVariants.{LogPlace}
 use Rattle.cir_ast.specs.declared.refusal.Kind.TheVariants.{UnknownControl, NotInProfile}
-use Rattle.cir_known.specs.Unknown.{Fault}
+use Rattle.cir_meaning.specs.Unknown.{Fault}
 use Rattle.cir_known.specs.declared.faults.UnknownFault.{UnknownFault}
 use Rattle.cir_known.specs.declared.faults.UnknownFault.TheVariants.{Control, Log, OutOfMemory}
 
@@ -12,5 +12,8 @@ Tells (Ok u) fault = fault ≡ None
 Tells (Err (Control line column)) fault =
     fault ≡ Some record { spot = record { line = line; column = column }; kind = UnknownControl }
 Tells (Err (Log line column)) fault =
-    fault ≡ Some record { spot = record { line = line; column = column }; kind = NotInProfile LogPlace }
+    fault ≡ Some record {
+      spot = record { line = line; column = column };
+      kind = NotInProfile LogPlace;
+    }
 Tells (Err OutOfMemory) fault = ⊥

@@ -1,2 +1,1 @@
-pub mod Unknown
 pub mod Answers

@@ -1,6 +1,8 @@
 ghost use Rattle.std.specs.Prelude.{◌≡◌};
-ghost use Rattle.cir_ast.specs.Tree.{bare_assign, bare_first, bare_simple, bare_statement, bare_block};
-ghost use Rattle.cir_known.specs.Unknown.{meant_fault, assign_fault, first_fault, simple_fault, fault_of, fault_in};
+ghost use Rattle.cir_ast.specs.Tree.{bare_assign, bare_first, bare_simple, bare_statement};
+ghost use Rattle.cir_ast.specs.Tree.{bare_block};
+ghost use Rattle.cir_meaning.specs.Unknown.{meant_fault, assign_fault, first_fault, simple_fault};
+ghost use Rattle.cir_meaning.specs.Unknown.{fault_of, fault_in};
 ghost use Rattle.cir_known.specs.Answers.{Tells};
 
 use cir_ast::program::{Assign, Block, FirstForm, Meant, Simple, Spot, Statement, StatementForm};
@@ -16,9 +18,10 @@ pub enum UnknownFault {
     OutOfMemory,
 }
 
-/// Names the first statement of a block, in source order, that may not stand under an unknown condition.
-/// What may stand there: declarations of variables, assignments to variables, `assert`, and `if`, `while`,
-/// `for` and blocks of such statements. The head of a `for` comes before its body.
+/// Names the first statement of a block, in source order, that may not stand under an unknown
+/// condition. What may stand there: declarations of variables, assignments to variables, `assert`,
+/// and `if`, `while`, `for` and blocks of such statements. The head of a `for` comes before its
+/// body.
 #[cycle(allowed)]
 pub fn allowed_unknown(block: &Block) -> Result<(), UnknownFault>
     ensures { Tells result (fault_in (bare_block block.now)) }
@@ -103,7 +106,8 @@ fn allowed_simple(spot: Spot, simple: &Simple) -> Result<(), UnknownFault>
     }
 }
 
-fn allowed_assign(spot: Spot, assign: &Assign) -> Result<(), UnknownFault>
+/// The same of an assignment at this place.
+pub fn allowed_assign(spot: Spot, assign: &Assign) -> Result<(), UnknownFault>
     ensures { Tells result (assign_fault spot (bare_assign assign.now)) }
 {
     match assign {

@@ -14,10 +14,12 @@ use Rattle.cir_values.specs.declared.value.Value.TheVariants.{Known, Linear, Qua
 use Rattle.cir_meaning.specs.Values.{IsValue}
 use Rattle.cir_values.specs.Meant.{meant, IsValueWithin}
 
-pub at_linear : (n : ℕ) (v : Value) (f : List Term) → v ≡ Linear f → IsValueWithin n v → IsWithin n f
+pub at_linear : (n : ℕ) (v : Value) (f : List Term) → v ≡ Linear f → IsValueWithin n v
+    → IsWithin n f
 at_linear n v f e h = subst (λ (v : Value). IsValueWithin n v) e h
 
-pub at_quadratic : (n : ℕ) (v : Value) (q : Quad) → v ≡ Quadratic q → IsValueWithin n v → IsQuadWithin n q
+pub at_quadratic : (n : ℕ) (v : Value) (q : Quad) → v ≡ Quadratic q → IsValueWithin n v
+    → IsQuadWithin n q
 at_quadratic n v q e h = subst (λ (v : Value). IsValueWithin n v) e h
 
 -- the numbers of a value are numbers of the field
@@ -25,7 +27,8 @@ pub is_value : (n : ℕ) (v : Value) → IsValueWithin n v → IsValue (meant v)
 unfolding value_of
 is_value n (Known k) h = h
 is_value n (Linear f) h = λ s. mod-lt _ (lit< tt)
-is_value n (Quadratic q) h = (λ s. mod-lt _ (lit< tt), λ s. mod-lt _ (lit< tt), λ s. mod-lt _ (lit< tt))
+is_value n (Quadratic q) h =
+    (λ s. mod-lt _ (lit< tt), λ s. mod-lt _ (lit< tt), λ s. mod-lt _ (lit< tt))
 is_value n Opaque h = tt
 
 -- the number of no term, and of one term of signal 0
@@ -36,22 +39,29 @@ none_at s = value-total s [] ∙ ap (λ (n : ℕ). n % P) (total-nil s.at)
 pub none_value : (f : List Term) → f ≡ [] → value_of f ≡ constant 0
 none_value f e = ap value_of e ∙ (λ i s. none_at s i)
 
-single_at : (k : ℕ) (s : Assignment) → k < P → value_of (record { signal = 0; coef = k } ∷ []) s ≡ constant k s
+single_at : (k : ℕ) (s : Assignment) → k < P → value_of (record { signal = 0; coef = k } ∷ []) s
+    ≡ constant k s
 unfolding constant
 single_at k s h =
     let all : total s.at (record { signal = 0; coef = k } ∷ []) ≡ k =
-    total-cons s.at (record { signal = 0; coef = k }) [] ∙ omega (arith, total-nil s.at, ap (λ (n : ℕ). k * n) s.one) in
-    value-total s (record { signal = 0; coef = k } ∷ []) ∙ ap (λ (n : ℕ). n % P) all ∙ mod-eq_of_lt {n = k} {m = P} h
+    total-cons s.at (record { signal = 0; coef = k }) []
+    ∙ omega (arith, total-nil s.at, ap (λ (n : ℕ). k * n) s.one) in
+    value-total s (record { signal = 0; coef = k } ∷ []) ∙ ap (λ (n : ℕ). n % P) all
+    ∙ mod-eq_of_lt {n = k} {m = P} h
 
-pub single_value : (k : ℕ) (f : List Term) → k < P → f ≡ record { signal = 0; coef = k } ∷ [] → value_of f ≡ constant k
+pub single_value : (k : ℕ) (f : List Term) → k < P → f ≡ record { signal = 0; coef = k } ∷ []
+    → value_of f ≡ constant k
 single_value k f h e = ap value_of e ∙ (λ i s. single_at k s h i)
 
-signal_at : (k : ℕ) (s : Assignment) → value_of (record { signal = k; coef = 1 } ∷ []) s ≡ signal k s
+signal_at : (k : ℕ) (s : Assignment) → value_of (record { signal = k; coef = 1 } ∷ []) s
+    ≡ signal k s
 unfolding signal
 signal_at k s =
     let all : total s.at (record { signal = k; coef = 1 } ∷ []) ≡ s.at k =
     total-cons s.at (record { signal = k; coef = 1 }) [] ∙ omega (arith, total-nil s.at) in
-    value-total s (record { signal = k; coef = 1 } ∷ []) ∙ ap (λ (n : ℕ). n % P) all ∙ mod-eq_of_lt {n = s.at k} {m = P} (s.below k)
+    value-total s (record { signal = k; coef = 1 } ∷ []) ∙ ap (λ (n : ℕ). n % P) all
+    ∙ mod-eq_of_lt {n = s.at k} {m = P} (s.below k)
 
-pub signal_value : (k : ℕ) (f : List Term) → f ≡ record { signal = k; coef = 1 } ∷ [] → value_of f ≡ signal k
+pub signal_value : (k : ℕ) (f : List Term) → f ≡ record { signal = k; coef = 1 } ∷ []
+    → value_of f ≡ signal k
 signal_value k f e = ap value_of e ∙ (λ i s. signal_at k s i)

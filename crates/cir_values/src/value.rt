@@ -118,7 +118,8 @@ pub fn sum(alloc: Global, x: Value, y: Value) -> Result<Value, AllocError>
 
 fn known_sum(alloc: Global, j: Gold, y: Value) -> Result<Value, AllocError>
     ensures value { IfOk result (λ v. meant v ≡ sum_of (KnownValue j) (meant y)) }
-    ensures within { IfOk result (λ v. (n : ℕ) → 0 < n → j < P → IsValueWithin n y → IsValueWithin n v) }
+    ensures within { IfOk result (λ v. (n : ℕ) → 0 < n → j < P → IsValueWithin n y
+        → IsValueWithin n v) }
 {
     match y {
         Value::Known(k) => Ok(Value::Known(j.add(k))),
@@ -139,7 +140,8 @@ fn known_sum(alloc: Global, j: Gold, y: Value) -> Result<Value, AllocError>
 
 fn linear_sum(alloc: Global, f: Lc, y: Value) -> Result<Value, AllocError>
     ensures value { IfOk result (λ v. meant v ≡ sum_of (LinearValue (value_of f)) (meant y)) }
-    ensures within { IfOk result (λ v. (n : ℕ) → 0 < n → IsWithin n f → IsValueWithin n y → IsValueWithin n v) }
+    ensures within { IfOk result (λ v. (n : ℕ) → 0 < n → IsWithin n f → IsValueWithin n y
+        → IsValueWithin n v) }
 {
     match y {
         Value::Known(k) => {
@@ -161,8 +163,11 @@ fn linear_sum(alloc: Global, f: Lc, y: Value) -> Result<Value, AllocError>
 }
 
 fn quadratic_sum(alloc: Global, q: Quad, y: Value) -> Result<Value, AllocError>
-    ensures value { IfOk result (λ v. meant v ≡ sum_of (QuadraticValue (value_of q.a) (value_of q.b) (value_of q.c)) (meant y)) }
-    ensures within { IfOk result (λ v. (n : ℕ) → 0 < n → IsQuadWithin n q → IsValueWithin n y → IsValueWithin n v) }
+    ensures value { IfOk result
+        (λ v. meant v ≡ sum_of (QuadraticValue (value_of q.a) (value_of q.b) (value_of q.c))
+        (meant y)) }
+    ensures within { IfOk result (λ v. (n : ℕ) → 0 < n → IsQuadWithin n q → IsValueWithin n y
+        → IsValueWithin n v) }
 {
     let Quad { a, b, c } = q;
     match y {
@@ -262,7 +267,8 @@ pub fn times_known(alloc: Global, x: Value, k: Gold) -> Result<Value, AllocError
 
 fn linear_product(alloc: Global, f: Lc, y: Value) -> Result<Value, AllocError>
     ensures value { IfOk result (λ v. meant v ≡ product_of (LinearValue (value_of f)) (meant y)) }
-    ensures within { IfOk result (λ v. (n : ℕ) → 0 < n → IsWithin n f → IsValueWithin n y → IsValueWithin n v) }
+    ensures within { IfOk result (λ v. (n : ℕ) → 0 < n → IsWithin n f → IsValueWithin n y
+        → IsValueWithin n v) }
 {
     match y {
         Value::Known(k) => {
@@ -278,8 +284,11 @@ fn linear_product(alloc: Global, f: Lc, y: Value) -> Result<Value, AllocError>
 }
 
 fn quadratic_product(alloc: Global, q: Quad, y: Value) -> Result<Value, AllocError>
-    ensures value { IfOk result (λ v. meant v ≡ product_of (QuadraticValue (value_of q.a) (value_of q.b) (value_of q.c)) (meant y)) }
-    ensures within { IfOk result (λ v. (n : ℕ) → 0 < n → IsQuadWithin n q → IsValueWithin n y → IsValueWithin n v) }
+    ensures value { IfOk result
+        (λ v. meant v ≡ product_of (QuadraticValue (value_of q.a) (value_of q.b) (value_of q.c))
+        (meant y)) }
+    ensures within { IfOk result (λ v. (n : ℕ) → 0 < n → IsQuadWithin n q → IsValueWithin n y
+        → IsValueWithin n v) }
 {
     match y {
         Value::Known(k) => {

@@ -1,0 +1,10 @@
+pub mod Arms
+pub mod Copied
+pub mod Declared
+pub mod Going
+pub mod Listed
+pub mod Steps
+pub mod Trees
+pub mod Turns
+pub mod Without
+pub mod Writes

@@ -1,0 +1,3 @@
+pub mod Lifts
+pub mod Made
+pub mod Turned
