@@ -1,4 +1,5 @@
 pub mod Circuits
 pub mod Meaning
+pub mod OneFile
 pub mod Simplified
 pub mod Wires

@@ -4,6 +4,7 @@
 mod compiling;
 mod fault;
 mod file;
+pub mod laws;
 
 pub use cir_simplify::Level;
 pub use compiling::compile;

@@ -4,3 +4,4 @@ pub mod Leading
 pub mod Numbers
 pub mod Progress
 pub mod Compiling
+pub mod OneCircuit

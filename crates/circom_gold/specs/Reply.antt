@@ -1,11 +1,10 @@
 -- The reply of the program to the words, over the files.
-use Rattle.std.specs.Prelude.{◌≡◌, ℕ, List, length, Option, Some, None, Result, Ok, ⊤}
+use Rattle.std.specs.Prelude.{◌≡◌, ℕ, List, length, Option, Some, None, Ok, ⊤}
 use Rattle.out_io.specs.Contents.{Contents}
 use Rattle.iden_files.specs.File.{File, InLimits}
 use Rattle.iden_files.specs.Spelling.{r1cs_bytes}
 use Rattle.circom_words.specs.Lines.{compiled_line}
 use Rattle.circom_words.specs.Words.{Command, Options, check, compile, prove, public, audit}
-use Rattle.circom_words.specs.declared.answer.Refusal.{Refusal}
 use Rattle.circom_files.specs.Check.{check_of}
 use Rattle.circom_files.specs.Files.{r1cs_in}
 use Rattle.circom_files.specs.Proving.{Audits, Proves, public_of}
@@ -41,12 +40,8 @@ pub record WritesConstraintsOf (files : Contents) (source : List ℕ) (options :
 abbrev pub IsInLimits : Contents → List ℕ → Type 0
 IsInLimits files r1cs = (f : File) → r1cs_in files r1cs ≡ Ok f → InLimits f
 
--- the files decide what the command finds: for a source, that it compiles to one file, or has one
--- refusal
+-- the limits under which the files decide what the command finds
 abbrev pub IsDecided : Contents → Option Command → Type 0
-IsDecided files (Some (compile source out options)) =
-    (a b : Result File Refusal) → Compiles files source options a → Compiles files source options b
-    → a ≡ b
 IsDecided files (Some (prove r1cs wtns out options)) = IsInLimits files r1cs
 IsDecided files (Some (audit r1cs publics proof)) = IsInLimits files r1cs
 IsDecided files _ = ⊤
