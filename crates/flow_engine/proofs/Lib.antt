@@ -1,5 +1,4 @@
 pub mod Laws
 pub mod Orders
 pub mod Starts
-pub mod Backs
 pub mod Whole

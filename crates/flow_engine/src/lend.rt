@@ -1,7 +1,5 @@
-// Cutting seats for workers, lending them, and taking them back.
-ghost use Rattle.std.specs.Prelude.{◌≡◌, ℕ, ◌+◌, ◌<◌, ◌≤◌, All, None, IfOk, OnSome, length};
-ghost use Rattle.std.specs.Prelude.{vec_len};
-ghost use Rattle.flow_board.specs.Seats.{first_seat};
+// Cutting seats for workers, handing them out, and taking them back.
+ghost use Rattle.std.specs.Prelude.{◌≡◌, ◌+◌, ◌≤◌, All, None, IfOk, OnSome, vec_len};
 ghost use Rattle.flow_engine.specs.Task.{answers_of};
 ghost use Rattle.flow_engine.specs.Lent.{IsFresh, IsBack};
 
@@ -38,29 +36,20 @@ pub fn cut_seats(
     Ok(seats)
 }
 
-// Lets a worker run with each of the seats.
-fn lend<R: Threads + Wait + Sync, G: Gate>(
+// Works with a seat that no other thread has near its own, and gives it back: a seat changes at each
+// step, and seats side by side in memory would slow each other.
+fn work_apart<R: Wait, G: Gate>(
     rt: &R,
     alloc: Global,
     job: &Job<'_, '_, '_, G>,
-    seats: &mut [WorkSeat],
-)
+    mut seat: WorkSeat,
+) -> WorkSeat
     requires flow { job.now.board.now.flow ≡ answers_of job.now.answers.now }
-    requires some { 0 < length seats.old }
-    requires fresh { All (IsFresh job.now.board.now) seats.old }
-    ensures { All (IsBack job.now.board.now) seats.new }
+    requires fresh { IsFresh job.now.board.now seat }
+    ensures { IsBack job.now.board.now result }
 {
-    let count = seats.len();
-    thread::for_each_mut(
-        rt,
-        seats,
-        count,
-        &|_: usize, one: &mut WorkSeat|
-            requires { (job.now.board.now.flow ≡ answers_of job.now.answers.now)
-                × IsFresh job.now.board.now one.now }
-            ensures { IsBack job.entry.now.board.now one.exit.now }
-        { work(rt, alloc, job, one) },
-    );
+    work(rt, alloc, job, &mut seat);
+    seat
 }
 
 /// Lets a worker run with each of the seats, and gives them back.
@@ -68,16 +57,22 @@ pub fn lend_all<R: Threads + Wait + Sync, G: Gate>(
     rt: &R,
     alloc: Global,
     job: &Job<'_, '_, '_, G>,
-    mut seats: Vec<WorkSeat>,
-) -> Vec<WorkSeat>
+    seats: Vec<WorkSeat>,
+) -> Result<Vec<WorkSeat>, AllocError>
     requires flow { job.now.board.now.flow ≡ answers_of job.now.answers.now }
-    requires some { 0 < vec_len seats }
     requires fresh { All (IsFresh job.now.board.now) seats.items }
-    ensures back { All (IsBack job.now.board.now) result.items }
-    ensures each { vec_len result ≡ vec_len seats }
+    ensures back { IfOk result (λ back. All (IsBack job.now.board.now) back.items) }
+    ensures each { IfOk result (λ back. vec_len back ≡ vec_len seats) }
 {
-    lend(rt, alloc, job, &mut seats);
-    seats
+    thread::map_vec(
+        rt,
+        seats,
+        &|seat: WorkSeat|
+            requires { (job.now.board.now.flow ≡ answers_of job.now.answers.now)
+                × IsFresh job.now.board.now seat }
+            ensures { IsBack job.entry.now.board.now result }
+        { work_apart(rt, alloc, job, seat) },
+    )
 }
 
 /// Takes all seats in. None where one still holds a strand, because its worker found no memory.

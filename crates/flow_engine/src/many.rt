@@ -57,7 +57,6 @@ fn run_board<R: Threads + Wait + Sync, G: Gate>(
     gate: &G,
 ) -> Result<Words, AllocError>
     requires same { own ≡ answers.now }
-    requires some { 0 < workers }
     requires few { workers ≤ 64 }
     ensures { IfOk result (AreClosed (answers_of answers.now)) }
 {
@@ -73,7 +72,7 @@ fn run_board<R: Threads + Wait + Sync, G: Gate>(
         pool: &pool,
         gate,
     };
-    let seats = lend_all(rt, alloc, &job, seats);
+    let seats = lend_all(rt, alloc, &job, seats)?;
     if take_back(&board, &mut seat, seats).is_none() {
         return Err(AllocError);
     }

@@ -3,7 +3,7 @@ use std::sync::{Condvar, Mutex, Wait};
 
 /// `next_some` hands out at most so many strands beside the one that is asked for, and no more than
 /// one in `SPARED` of those that are left.
-const MOST: usize = 32;
+const MOST: usize = 256;
 
 const SPARED: usize = 64;
 
