@@ -1,6 +1,6 @@
 -- What the values of a written file mean.
 use Rattle.std.proofs.Common.{◌≡◌, ℕ, suc, ◌+◌, ◌*◌, ◌%◌, ◌<◌, ◌≤◌, nat_le, Bool, true, false, cond, List, [], ◌∷◌, Result, Ok, Err, refl, ap, sym, ◌∙◌, subst, arith, inl, inr}
-use Rattle.std.specs.Prelude.{All, IsErrAnd, Option, Some, None, sum_by, length, slice_index, slice_index_or, ◌↔◌}
+use Rattle.std.specs.Prelude.{All, IsErrAnd, Option, sum_by, length, slice_index, slice_index_or, ◌↔◌}
 use Rattle.std.proofs.lemmas.Bool.{cases_lt}
 use Rattle.std.proofs.lemmas.List.Sums.{sum_by-cons}
 use Rattle.gold_field.specs.Form.{Holds, value_at, SignalsBelow, ConstraintBelow}
@@ -12,6 +12,7 @@ use Rattle.out_io.specs.Contents.{Contents}
 use Rattle.cir_ast.specs.Program.{Program}
 use Rattle.cir_lc.specs.Number.{Assignment}
 use Rattle.out_io.specs.Calls.{Told}
+use Rattle.out_io.proofs.Telling.{told_on}
 use Rattle.cir_sources.specs.declared.fault.LoadFault.{LoadFault}
 use Rattle.cir_sources.specs.declared.fault.LoadFault.TheVariants as load
 use Rattle.cir_names.specs.Loading.{Loads, IsLoaded, IsLoadFault}
@@ -178,11 +179,6 @@ means p level c simple end good below ends wires satisfied w values = (
         by_labels keeps (1 + c.signals) (file_of c simple) c.constraints (omega arith) below
         (wires.wires ∙ ap (kept_below keeps) same) refl law w values
 
-told_map : (contents : Option Contents) (P Q : Contents → Type 0)
-    → ((files : Contents) → P files → Q files) → Told contents P → Told contents Q
-told_map None P Q f h = tt
-told_map (Some files) P Q f h = f files h
-
 -- a source that isn't loaded isn't compiled
 pub not_loaded : (contents : Option Contents) (task : Task) (failed : Type 0)
     (r : Result File CompileFault) (f : LoadFault)
@@ -195,7 +191,7 @@ not_loaded contents task failed (Err e) f h s = subst
     from : (f : LoadFault) → Loads contents task.name task.library failed (Err f)
         → Compiles contents task failed (Err (of_load f))
     from load.Missing s = s
-    from (load.Refused r) s = told_map contents
+    from (load.Refused r) s = told_on contents
         (λ files. IsLoadFault files task.name task.library r) (λ files. IsRefused files task r)
         (λ files l. inl l) s
     from load.Fault s = s
@@ -214,7 +210,7 @@ not_written contents task failed program (Err e) f h l w = subst
     from : (f : CompileFault) → Writes program task.level (Err f)
         → Compiles contents task failed (Err f)
     from fault.Missing w = absurd w
-    from (fault.Refused r) w = told_map contents
+    from (fault.Refused r) w = told_on contents
         (λ files. IsLoaded files task.name task.library program) (λ files. IsRefused files task r)
         (λ files k. inr (program, k, w)) l
     from fault.Fault w = absurd w
@@ -224,6 +220,6 @@ pub compiled : (contents : Option Contents) (task : Task) (program : Program) (f
     → Told contents (λ files. IsLoaded files task.name task.library program)
     → IsWritten program task.level f → Told contents (λ files. IsCompiled files task f)
 compiled contents task program f l w =
-    told_map contents (λ files. IsLoaded files task.name task.library program)
+    told_on contents (λ files. IsLoaded files task.name task.library program)
     (λ files. IsCompiled files task f)
     (λ files k. record { program = program; loaded = k; written = w }) l

@@ -1,10 +1,12 @@
 -- From code's sources to their program, or to its refusal.
-use Rattle.std.proofs.Common.{◌≡◌, ◌∙◌, ℕ, ◌≤◌, List, [], ◌∷◌, Result, Ok, Err, Option, Some, None}
-use Rattle.std.proofs.Common.{refl, ap, sym, subst, arith}
+use Rattle.std.proofs.Common.{◌≡◌, ◌∙◌, ℕ, ◌≤◌, List, [], ◌∷◌, Ok, Err, Option, Some, None}
+use Rattle.std.proofs.Common.{◌⊎◌, inl, inr, refl, ap, sym, subst}
 use Rattle.std.specs.Prelude.{map, All}
 use Rattle.std.specs.List.{AllByRecursion}
-use Rattle.std.specs.Option.{option_map}
 use Rattle.std.proofs.lemmas.List.Elements.{All-head, All-tail}
+use Rattle.out_io.specs.Calls.{Told}
+use Rattle.out_io.specs.Contents.{Contents}
+use Rattle.out_io.proofs.Telling.{told_on}
 use Rattle.cir_ast.specs.declared.program.Meant.{Meant}
 use Rattle.cir_ast.specs.declared.program.Spot.{Spot}
 use Rattle.cir_ast.specs.declared.refusal.Kind.TheVariants.{Duplicate}
@@ -23,10 +25,11 @@ use Rattle.cir_sources.specs.declared.fault.LoadFault.{LoadFault}
 use Rattle.cir_sources.specs.declared.fault.LoadFault.TheVariants as load
 use Rattle.cir_sources.specs.Includes.{Source, seen}
 use Rattle.cir_sources.specs.Steps.{Refuses}
-use Rattle.cir_sources.specs.Loading.{IsDecoded, AreSources}
+use Rattle.cir_sources.specs.Loading.{AreAll, AreSources, IsDecoded, IsFirstFault, IsIncludeFault}
+use Rattle.cir_sources.specs.Loading.{Loads as Reads}
 use Rattle.cir_names.specs.Programs.{tree_of, definitions_from, names_of, AreTrees, name_fault}
 use Rattle.cir_names.specs.Programs.{refusal_of, IsProgramOf, IsNameFault}
-use Rattle.cir_names.specs.Loading.{Checks}
+use Rattle.cir_names.specs.Loading.{Checks, IsLoadFault, IsLoaded, Loads}
 use Rattle.cir_checks.proofs.UsedPrograms.{is_used}
 use Rattle.cir_names.proofs.Lows.{low_program}
 
@@ -102,3 +105,37 @@ refused_by sources P (load.Refused r) h f = f r h
 refused_by sources P load.OutOfMemory h f = tt
 refused_by sources P load.Missing h f = absurd h
 refused_by sources P load.Fault h f = absurd h
+
+-- the program of the sources that the files give
+pub loaded : (contents : Option Contents) (name : List ℕ) (library : Option (List ℕ))
+    (sources : List Source) (p : Program)
+    → Told contents (λ files. AreAll files name library sources) → IsProgramOf sources p
+    → Told contents (λ files. IsLoaded files name library p)
+loaded contents name library sources p all theirs =
+    told_on contents (λ files. AreAll files name library sources)
+    (λ files. IsLoaded files name library p)
+    (λ files are. record { sources = sources; all = are; theirs = theirs }) all
+
+-- the sources aren't loaded
+pub unread : (contents : Option Contents) (name : List ℕ) (library : Option (List ℕ))
+    (failed : Type 0) (e : LoadFault) → Reads contents name library failed (Err e)
+    → Loads contents name library failed (Err e)
+unread contents name library failed (load.Refused r) h =
+    told_on contents (λ files. IsFirstFault files name r ⊎ IsIncludeFault files name library r)
+    (λ files. IsLoadFault files name library r) (λ files refused. inl refused) h
+unread contents name library failed load.Missing h = h
+unread contents name library failed load.Fault h = h
+unread contents name library failed load.OutOfMemory h = tt
+
+-- they are of no program
+pub misnamed : (contents : Option Contents) (name : List ℕ) (library : Option (List ℕ))
+    (failed : Type 0) (sources : List Source) (e : LoadFault)
+    → Told contents (λ files. AreAll files name library sources) → Checks sources (Err e)
+    → Loads contents name library failed (Err e)
+misnamed contents name library failed sources (load.Refused r) all fault =
+    told_on contents (λ files. AreAll files name library sources)
+    (λ files. IsLoadFault files name library r)
+    (λ files are. inr record { sources = sources; all = are; fault = fault }) all
+misnamed contents name library failed sources load.Missing all fault = absurd fault
+misnamed contents name library failed sources load.Fault all fault = absurd fault
+misnamed contents name library failed sources load.OutOfMemory all fault = tt

@@ -10,7 +10,6 @@ use Rattle.std.proofs.lemmas.Bool.{or_cases}
 use Rattle.std.proofs.lemmas.List.{append-nil, append_assoc, map-append, length-append}
 use Rattle.std.proofs.lemmas.List.Folds.{list_any-append}
 use Rattle.std.proofs.lemmas.List.Elements.{All-nil, All-cons, All-head, All-tail, All-push}
-use Rattle.std.proofs.lemmas.List.Elements.{All-same}
 use Rattle.std.proofs.lemmas.Slice.Eq.{bytes_eq-Decides}
 use Rattle.out_io.specs.Contents.{Contents}
 use Rattle.cir_ast.specs.declared.refusal.Refusal.{Refusal}
@@ -148,14 +147,6 @@ leads_stops files name library all site rest r few leads e stop = record {
   stop = let P : ℕ → Type 0 = λ n. IsStop files library n site r
       in subst P (omega (arith, ap length leads.parts)) stop;
 }
-
--- the sources have files
-pub leads_sources : (files : Contents) (name : List ℕ) (library : Option (List ℕ))
-    (all : List Source) (left : List Site) → Leads files name library all left
-    → All (IsSource files) all
-leads_sources files name library all left leads =
-    All-same (IsSource files) all (leads.first ∷ leads.more) leads.parts
-    (All-cons (IsSource files) leads.first leads.more leads.source leads.sources)
 
 -- a name among those of sources has a file
 among_held : (files : Contents) (all : List Source) (q : List ℕ) → All (IsSource files) all

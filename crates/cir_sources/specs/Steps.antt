@@ -4,7 +4,7 @@ use Rattle.std.specs.Prelude.{reverse, if◌then◌else◌, ⊤, All, Option, No
 use Rattle.std.specs.Prelude.{Vec, String, string_bytes}
 use Rattle.std.specs.declared.alloc.Global.{Global}
 use Rattle.std.specs.List.{slice_split}
-use Rattle.std.specs.Str.{bytes_eq}
+use Rattle.std.specs.Str.{bytes_eq, IsUtf8}
 use Rattle.std.specs.BTreeSet.{BTreeSet, contains_text}
 use Rattle.out_io.specs.Contents.{Contents}
 use Rattle.cir_token.specs.declared.token.Token.{Token}
@@ -27,7 +27,7 @@ use Rattle.cir_sources.specs.Includes.{Source, seen_items, seen, IsFile, IsRead,
 use Rattle.cir_sources.specs.Includes.{includes_of, other_version, held, chosen, is_among}
 use Rattle.cir_sources.specs.Includes.{left_after}
 use Rattle.cir_sources.specs.Faults.{IsUnfit, IsFault, IsStop}
-use Rattle.out_io.specs.Calls.{Told}
+use Rattle.out_io.specs.Calls.{IfTold}
 use Rattle.cir_sources.specs.Loading.{AreSources}
 
 -- the segments that are kept, the last one first
@@ -67,20 +67,61 @@ abbrev pub Decodes : List ℕ → List ℕ → Result CodeSource LoadFault → T
 Decodes name bytes (Ok s) = (s.name ≡ name) × IsRead bytes (seen s).tree
 Decodes name bytes (Err e) = IsBad name bytes e
 
--- what is known of the file of this name: it is loaded, there is none, or these are its bytes
+-- what is known of the file of this name: it is loaded, there is none, or it was read
 abbrev pub Looks : Contents → BTreeSet (String Global) → List ℕ → Target → Type 0
 Looks files names name Loaded = contains_text names name ≡ true
 Looks files names name Absent = held files name ≡ None
-Looks files names name (Found found bytes) = (string_bytes found ≡ name)
-    × (contains_text names name ≡ false) × (held files name ≡ Some bytes.items)
+Looks files names name (Found found bytes) =
+    (string_bytes found ≡ name) × (contains_text names name ≡ false)
+
+-- none of these names has a file
+abbrev pub AreMissing : Contents → BTreeSet (String Global) → Type 0
+AreMissing files missing =
+    (q : List ℕ) → contains_text missing q ≡ true → held files q ≡ None
+
+-- the file that was found, if one was, is there with its bytes
+abbrev pub IsThere : Contents → Target → Type 0
+IsThere files Loaded = ⊤
+IsThere files Absent = ⊤
+IsThere files (Found name bytes) = held files (string_bytes name) ≡ Some bytes.items
+
+-- it is there, with whatever bytes
+abbrev pub HasFile : Contents → Target → Type 0
+HasFile files Loaded = ⊤
+HasFile files Absent = ⊤
+HasFile files (Found name bytes) =
+    (some : List ℕ) × (held files (string_bytes name) ≡ Some some)
+
+-- the file that was found, if one was, has a new name
+abbrev pub IsNew : BTreeSet (String Global) → BTreeSet (String Global) → Target → Type 0
+IsNew names missing Loaded = ⊤
+IsNew names missing Absent = ⊤
+IsNew names missing (Found name bytes) = IsUtf8 (string_bytes name)
+    × (contains_text names (string_bytes name) ≡ false)
+    × (contains_text missing (string_bytes name) ≡ false)
+
+-- no name is among both
+abbrev pub AreApart : BTreeSet (String Global) → BTreeSet (String Global) → Type 0
+AreApart names missing =
+    (q : List ℕ) → contains_text missing q ≡ true → contains_text names q ≡ false
+
+-- What a search adds to what is known of the files: names that have no file, and perhaps a file
+-- that it found. It asks for no name that is known. It learns what is so, where the store tells
+-- its contents.
+pub record Learns (contents : Option Contents) (names old new : BTreeSet (String Global))
+    (target : Target) : Type 0 where
+  pub more : (q : List ℕ) → contains_text old q ≡ true → contains_text new q ≡ true
+  pub apart : AreApart names old → AreApart names new
+  pub fresh : IsNew names new target
+  pub so : IfTold contents
+      (λ files. AreMissing files old → AreMissing files new × IsThere files target)
 
 -- each of these names has a file
 abbrev pub AreHeld : Contents → BTreeSet (String Global) → Type 0
 AreHeld files names =
     (q : List ℕ) → contains_text names q ≡ true → (bytes : List ℕ) × (held files q ≡ Some bytes)
 
--- the file that the include names, where each of these names has one: it is one of these, there is
--- none, or it is another one, with these bytes
+-- the file that the include names: it is one of these names, there is none, or it is another one
 abbrev pub Targets : Contents → BTreeSet (String Global) → Option (List ℕ) → Site → Target → Type 0
 Targets files names library site Loaded =
     (name : List ℕ) × (chosen files library site ≡ Some name) × (contains_text names name ≡ true)
@@ -88,12 +129,13 @@ Targets files names library site Absent = chosen files library site ≡ None
 Targets files names library site (Found name bytes) =
     (chosen files library site ≡ Some (string_bytes name))
     × (contains_text names (string_bytes name) ≡ false)
-    × (held files (string_bytes name) ≡ Some bytes.items)
 
-abbrev pub FindsTarget : Contents → BTreeSet (String Global) → Option (List ℕ) → Site → Target
-    → Type 0
-FindsTarget files names library site target =
-    AreHeld files names → Targets files names library site target
+-- what the search for an include's file answers, of all files that are as it has learned
+abbrev pub FindsTarget : BTreeSet (String Global) → BTreeSet (String Global) → Option (List ℕ)
+    → Site → Target → Type 0
+FindsTarget names missing library site target =
+    (files : Contents) → AreHeld files names → AreMissing files missing → HasFile files target
+    → Targets files names library site target
 
 -- the names of these sources
 abbrev pub names_of : List Source → List (List ℕ)
@@ -115,6 +157,7 @@ pub record Begins (l : Loading) : Type 0 where
   pub sources : all_of l ≡ []
   pub left : left_of l ≡ []
   pub names : (q : List ℕ) → contains_text l.names q ≡ false
+  pub missing : (q : List ℕ) → contains_text l.missing q ≡ false
 
 -- one more source, whose includes are followed first
 pub record Adds (old : Loading) (s : Source) (new : Loading) : Type 0 where
@@ -122,24 +165,25 @@ pub record Adds (old : Loading) (s : Source) (new : Loading) : Type 0 where
   pub left : left_of new ≡ includes_of s ++ left_of old
   pub names : (q : List ℕ)
       → contains_text new.names q ≡ (if bytes_eq s.name q then true else contains_text old.names q)
+  pub missing : new.missing ≡ old.missing
 
--- the include names this source of these bytes, which isn't loaded yet
-pub record IsNamed (files : Contents) (library : Option (List ℕ)) (names : BTreeSet (String Global))
-    (site : Site) (s : Source) (bytes : List ℕ) : Type 0 where
-  pub chosen_is : chosen files library site ≡ Some s.name
-  pub fresh : contains_text names s.name ≡ false
-  pub there : held files s.name ≡ Some bytes
+-- the search for the include's file found this, with these names that have no file
+pub record Searches (contents : Option Contents) (library : Option (List ℕ)) (old : Loading)
+    (site : Site) (missing : BTreeSet (String Global)) (target : Target) : Type 0 where
+  pub learns : Learns contents old.names old.missing missing target
+  pub finds : FindsTarget old.names missing library site target
 
 -- the include is followed: its file is loaded already, or it is loaded
 pub data IsFollowed (contents : Option Contents) (library : Option (List ℕ)) (old : Loading)
     (site : Site) (new : Loading) : Type 0 where
-  Skips : new ≡ old → Told contents (λ files. FindsTarget files old.names library site Loaded)
+  Skips : new ≡ record old { missing = new.missing }
+      → Searches contents library old site new.missing Loaded
       → IsFollowed contents library old site new
-  Loads : (s : Source) (bytes : List ℕ) → IsRead bytes s.tree → Adds old s new
-      → length (all_of old) < most_files
-      → Told contents (λ files. AreHeld files old.names
-      → IsNamed files library old.names site s bytes)
-      → IsFollowed contents library old site new
+  Loads : (s : Source) (name : String Global) (bytes : Vec ℕ Global)
+      → Searches contents library old site new.missing (Found name bytes)
+      → s.name ≡ string_bytes name
+      → IsRead bytes.items s.tree → Adds (record old { missing = new.missing }) s new
+      → length (all_of old) < most_files → IsFollowed contents library old site new
 
 -- the include names no file that is loaded, and can't be followed
 pub record CannotFollow (files : Contents) (library : Option (List ℕ)) (old : Loading) (site : Site)
@@ -148,12 +192,20 @@ pub record CannotFollow (files : Contents) (library : Option (List ℕ)) (old : 
       → contains_text old.names name ≡ false
   pub stop : IsStop files library (length (all_of old)) site r
 
+-- what was found, if anything, can't be followed, of all files that are as the search has learned
+pub record IsStopped (contents : Option Contents) (library : Option (List ℕ)) (old : Loading)
+    (site : Site) (missing : BTreeSet (String Global)) (r : Refusal) : Type 0 where
+  pub target : Target
+  pub learns : Learns contents old.names old.missing missing target
+  pub stops : (files : Contents) → AreHeld files old.names → AreMissing files missing
+      → IsThere files target → CannotFollow files library old site r
+
 -- what following an include answers
 abbrev pub Follows : Option Contents → Option (List ℕ) → Loading → Site → Loading → Type 0
     → Result Unit LoadFault → Type 0
 Follows contents library old site new failed (Ok u) = IsFollowed contents library old site new
 Follows contents library old site new failed (Err (fault.Refused r)) =
-    Told contents (λ files. AreHeld files old.names → CannotFollow files library old site r)
+    IsStopped contents library old site new.missing r
 Follows contents library old site new failed (Err fault.Missing) = ⊥
 Follows contents library old site new failed (Err fault.Fault) = failed
 Follows contents library old site new failed (Err fault.OutOfMemory) = ⊤
@@ -172,9 +224,25 @@ pub record Leads (files : Contents) (name : List ℕ) (library : Option (List �
       → left_after files library (name ∷ []) (includes_of first) (more ++ new)
       ≡ left_after files library (names_of all) left new
 
--- how far the loading has come
+-- what is known of the files: these sources are read from them, and these names have no file
+pub record Knows (files : Contents) (all : List Source) (missing : BTreeSet (String Global))
+    : Type 0 where
+  pub sources : All (IsSource files) all
+  pub missing_are : AreMissing files missing
+
+-- there are files from which these sources are read, with no other names
+pub record ArePossible (names : BTreeSet (String Global)) (all : List Source) : Type 0 where
+  pub files : Contents
+  pub sources : All (IsSource files) all
+  pub others : (q : List ℕ) → contains_text names q ≡ false → files q ≡ None
+
+-- How far the loading has come. What is known of the files is so where the store tells its
+-- contents, and else it can be so; and it is all that the loading rests on.
 pub record IsLoading (contents : Option Contents) (name : List ℕ) (library : Option (List ℕ))
-    (names : BTreeSet (String Global)) (all : List Source) (left : List Site) : Type 0 where
+    (names missing : BTreeSet (String Global)) (all : List Source) (left : List Site) : Type 0 where
   pub names_are : AreNames names all
+  pub apart : AreApart names missing
   pub sources : AreSources all
-  pub leads : Told contents (λ files. Leads files name library all left)
+  pub possible : ArePossible names all
+  pub so : IfTold contents (λ files. Knows files all missing)
+  pub leads : (files : Contents) → Knows files all missing → Leads files name library all left

@@ -23,6 +23,8 @@ struct Loading {
     sources: Vec<Source>,
     // The names of the sources.
     names: BTreeSet<String>,
+    // The names that were asked for and have no file.
+    missing: BTreeSet<String>,
     // The last one is followed first.
     pending: Vec<Site>,
 }
@@ -44,6 +46,7 @@ impl Loading {
         Loading {
             sources: Vec::new(alloc),
             names: BTreeSet::new(alloc),
+            missing: BTreeSet::new(alloc),
             pending: Vec::new(alloc),
         }
     }
@@ -76,7 +79,7 @@ impl Loading {
             (S.faults store.old) (S.faults store.new) (S.never_fails store.old)
             (S.never_fails store.new) }
     {
-        match search(alloc, store, &self.names, library, site)? {
+        match search(alloc, store, &self.names, &mut self.missing, library, site)? {
             Target::Loaded => Ok(()),
             Target::Absent => {
                 let file = site.file.as_slice();

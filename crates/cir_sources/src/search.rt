@@ -1,9 +1,9 @@
 //! The file that an include names.
 ghost use Rattle.std.specs.Prelude.{◌≡◌, IfOk};
 ghost use Rattle.std.specs.Option.{option_copied};
+ghost use Rattle.out_io.specs.Contents.{Contents};
 ghost use Rattle.out_io.specs.Faults.{CountsFaults};
-ghost use Rattle.out_io.specs.Calls.{Told};
-ghost use Rattle.cir_sources.specs.Steps.{Looks, FindsTarget};
+ghost use Rattle.cir_sources.specs.Steps.{AreMissing, FindsTarget, Learns, Looks};
 
 use crate::path::{beside, in_library};
 use crate::source::Site;
@@ -22,16 +22,19 @@ pub(crate) enum Target {
     Found { name: String, bytes: Vec<u8> },
 }
 
-// What lies under the name, which is read only where it isn't loaded. A name that isn't UTF-8 has
-// no file.
+// What lies under the name, which is read only where nothing is known of it. A name that isn't
+// UTF-8 has no file.
 fn look<S: Store>(
     alloc: Global,
     store: &mut S,
     names: &BTreeSet<String>,
+    missing: &mut BTreeSet<String>,
     name: &[u8],
 ) -> Result<Target, IoFault>
-    ensures looks { IfOk result
-        (λ target. Told (S.contents store.old) (λ files. Looks files names.now name.now target)) }
+    ensures learns { IfOk result
+        (λ target. Learns (S.contents store.old) names.now missing.old missing.new target) }
+    ensures looks { IfOk result (λ target. (files : Contents) →
+        AreMissing files missing.new → Looks files names.now name.now target) }
     ensures same { S.contents store.new ≡ S.contents store.old }
     ensures cause { CountsFaults (S.faults store.old) (S.faults store.new) result }
     ensures steady { S.never_fails store.old
@@ -43,8 +46,15 @@ fn look<S: Store>(
     if names.contains(text) {
         return Ok(Target::Loaded);
     }
+    if missing.contains(text) {
+        return Ok(Target::Absent);
+    }
     match store.read(alloc, text)? {
-        None => Ok(Target::Absent),
+        None => {
+            let name = String::from_str(alloc, text)?;
+            missing.insert(name)?;
+            Ok(Target::Absent)
+        }
         Some(bytes) => {
             let name = String::from_str(alloc, text)?;
             Ok(Target::Found { name, bytes })
@@ -52,28 +62,31 @@ fn look<S: Store>(
     }
 }
 
-/// The file that the include names: beside its own file, else in the folder of libraries.
+/// The file that the include names: beside its own file, else in the folder of libraries. Names
+/// that have no file are added to those that are missing, which aren't asked for again.
 pub(crate) fn search<S: Store>(
     alloc: Global,
     store: &mut S,
     names: &BTreeSet<String>,
+    missing: &mut BTreeSet<String>,
     library: Option<&str>,
     site: &Site,
 ) -> Result<Target, IoFault>
-    ensures targets { IfOk result
-        (λ target. Told (S.contents store.old)
-        (λ files. FindsTarget files names.now (option_copied library.entry) site.now target)) }
+    ensures learns { IfOk result
+        (λ target. Learns (S.contents store.old) names.now missing.old missing.new target) }
+    ensures targets { IfOk result (λ target.
+        FindsTarget names.now missing.new (option_copied library.entry) site.now target) }
     ensures same { S.contents store.new ≡ S.contents store.old }
     ensures cause { CountsFaults (S.faults store.old) (S.faults store.new) result }
     ensures steady { S.never_fails store.old
         → S.never_fails store.new × (S.faults store.new ≡ S.faults store.old) }
 {
     let name = beside(alloc, site)?;
-    let target = look(alloc, store, names, name.as_slice())?;
+    let target = look(alloc, store, names, missing, name.as_slice())?;
     match (target, library) {
         (Target::Absent, Some(folder)) => {
             let name = in_library(alloc, folder.as_bytes(), site)?;
-            let target = look(alloc, store, names, name.as_slice())?;
+            let target = look(alloc, store, names, missing, name.as_slice())?;
             Ok(target)
         }
         (target, _) => Ok(target),

@@ -1,8 +1,11 @@
 -- Proofs that are made are accepted, and what is accepted.
-use Rattle.std.proofs.Common.{◌≡◌, ◌≢◌, ◌==◌, ◌∙◌, ◌<◌, ◌↔◌, ℕ, Bool, true, false, List, All, length, slice_index, Option, Some, None, Result, Ok, Err, IfOk, if◌then◌else◌, refl, sym, ap, subst, arith}
+use Rattle.std.proofs.Common.{◌≡◌, ◌≢◌, ◌==◌, ◌∙◌, ◌<◌, ◌↔◌, ℕ, Bool, true, false, List, All}
+use Rattle.std.proofs.Common.{length, slice_index, Option, Some, None, Result, Ok, Err, IfOk}
+use Rattle.std.proofs.Common.{if◌then◌else◌, refl, sym, ap, subst, arith}
 use Rattle.gold_field.specs.declared.gold.TheConstants.{P}
 use Rattle.out_io.specs.Calls.{Told}
 use Rattle.out_io.specs.Contents.{Contents}
+use Rattle.out_io.proofs.Telling.{told_on}
 use Rattle.out_io.specs.declared.fault.IoFault.{IoFault}
 use Rattle.iden_files.specs.Failing.{first_failing_from}
 use Rattle.iden_files.specs.File.{File, IsFile, InLimits}
@@ -19,14 +22,16 @@ use Rattle.lig_prover.specs.Refusing.{failing, refusal_of}
 use Rattle.lig_prover.specs.declared.fault.ProveFault.{ProveFault}
 use Rattle.lig_prover.specs.declared.fault.ProveFault.TheVariants as faults
 use Rattle.circom_words.specs.declared.answer.Verdict.{Verdict}
-use Rattle.circom_words.specs.declared.answer.Verdict.TheVariants.{CountsDiffer, WireZero, ConstraintFails, Satisfied}
+use Rattle.circom_words.specs.declared.answer.Verdict.TheVariants.{CountsDiffer, WireZero}
+use Rattle.circom_words.specs.declared.answer.Verdict.TheVariants.{ConstraintFails, Satisfied}
 use Rattle.circom_words.specs.Lines.{verdict_status}
 use Rattle.circom_words.specs.Proving.{audit_status}
 use Rattle.circom_words.specs.Words.{ProveOptions}
 use Rattle.circom_words.specs.declared.answer.Refusal.{Refusal}
 use Rattle.circom_files.specs.Accepted.{IsAccepted, IsAcceptedFor, IsProofOf, WritesProof}
 use Rattle.circom_files.specs.Check.{verdict, satisfaction}
-use Rattle.circom_files.specs.Proving.{Audits, FoundIn, IsAudited, IsProved, Proves, offer_of, witness_of}
+use Rattle.circom_files.specs.Proving.{Audits, FoundIn, IsAudited, IsProved, Proves, offer_of}
+use Rattle.circom_files.specs.Proving.{witness_of}
 use Rattle.circom_files.specs.Reply.{Reply, audited, proved}
 use Rattle.circom_files.specs.Satisfaction.{Satisfies}
 use Rattle.circom_files.specs.Steps.{StepsTo}
@@ -108,15 +113,20 @@ pub writes_proof : (contents : Option Contents) (r1cs wtns out : List ℕ) (opti
     → ((proof : List ℕ) → outcome ≡ Made proof
     → Told contents (λ files. IsProofOf files r1cs wtns proof)) → r ≡ proved out outcome
     → r.status ≡ 0 → Told contents (λ files. WritesProof files r1cs wtns out r)
-writes_proof None r1cs wtns out options outcome r told accepts is zero = tt
-writes_proof (Some files) r1cs wtns out options (Made proof) r told accepts is zero = record {
-  bytes = proof;
-  file = ap (λ (x : Reply). x.file) is;
-  proof = accepts proof refl;
-}
-writes_proof (Some files) r1cs wtns out options (Unmade v) r told accepts is zero =
+writes_proof contents r1cs wtns out options (Made proof) r told accepts is zero =
+    told_on contents (λ files. IsProofOf files r1cs wtns proof)
+    (λ files. WritesProof files r1cs wtns out r)
+    (λ files made.
+    record { bytes = proof; file = ap (λ (x : Reply). x.file) is; proof = made })
+    (accepts proof refl)
+writes_proof contents r1cs wtns out options (Unmade v) r told accepts is zero =
     let status : verdict_status v ≡ 0 = sym (ap (λ (x : Reply). x.status) is) ∙ zero in
-    absurd (never_satisfied options (witness_of files r1cs wtns) v told (zero_satisfied v status))
+    told_on contents (λ files. Proves files r1cs wtns options (Ok (Unmade v)))
+    (λ files. WritesProof files r1cs wtns out r)
+    (λ files proves.
+    absurd (never_satisfied options (witness_of files r1cs wtns) v proves
+    (zero_satisfied v status)))
+    told
 
 -- a command that was stopped is no success
 pub unsuccessful : (P : CodeReply → Type 0) (stop : Stop) (result : Result CodeReply IoFault)
@@ -135,13 +145,21 @@ same_offer (Err r) x y p q = cc
 pub read_once : (contents : Option Contents) (r1cs publics proof : List ℕ) (o : Offer)
     (found : Audited) → InLimits o.file
     → Told contents (λ files. offer_of files r1cs publics proof ≡ Ok o) → IsAudited o found
-    → Told contents (λ files. IsAccepted files r1cs publics proof → found ≡ audits.Accepted)
-read_once None r1cs publics proof o found limits read is = tt
-read_once (Some files) r1cs publics proof o found limits read is = λ a.
-    let same : a.offer ≡ o =
-    same_offer (offer_of files r1cs publics proof) a.offer o a.read read in
-    one_verdict o limits found audits.Accepted is
-    (subst (λ x. IsAudited x audits.Accepted) same a.accepted)
+    → Told contents (λ files. Audits files r1cs publics proof (Ok found)
+    × (IsAccepted files r1cs publics proof → found ≡ audits.Accepted))
+read_once contents r1cs publics proof o found limits read is =
+    told_on contents (λ files. offer_of files r1cs publics proof ≡ Ok o)
+    (λ files. Audits files r1cs publics proof (Ok found)
+    × (IsAccepted files r1cs publics proof → found ≡ audits.Accepted))
+    (λ files e. (
+      subst (λ (x : Result Offer Refusal). FoundIn IsAudited x (Ok found)) (sym e) is,
+      λ a.
+          let same : a.offer ≡ o =
+          same_offer (offer_of files r1cs publics proof) a.offer o a.read e in
+          one_verdict o limits found audits.Accepted is
+          (subst (λ x. IsAudited x audits.Accepted) same a.accepted),
+    ))
+    read
 
 -- the offer on which a verdict was found
 found_offer : (read : Result Offer Refusal) (found : Audited)
@@ -167,34 +185,40 @@ zero_accepted audits.QuadColumn e = absurd (omega (arith, e))
 
 -- an audit is a success exactly where the offer is accepted
 pub says_accepted : (contents : Option Contents) (r1cs publics proof : List ℕ) (found : Audited)
-    (r : Reply) → Told contents (λ files. Audits files r1cs publics proof (Ok found))
-    → Told contents (λ files. IsAccepted files r1cs publics proof → found ≡ audits.Accepted)
-    → r ≡ audited found
+    (r : Reply) → Told contents (λ files. Audits files r1cs publics proof (Ok found)
+    × (IsAccepted files r1cs publics proof → found ≡ audits.Accepted)) → r ≡ audited found
     → Told contents (λ files. (r.status ≡ 0) ↔ IsAccepted files r1cs publics proof)
-says_accepted None r1cs publics proof found r told one is = tt
-says_accepted (Some files) r1cs publics proof found r told one is =
+says_accepted contents r1cs publics proof found r told is =
+    told_on contents (λ files. Audits files r1cs publics proof (Ok found)
+    × (IsAccepted files r1cs publics proof → found ≡ audits.Accepted))
+    (λ files. (r.status ≡ 0) ↔ IsAccepted files r1cs publics proof)
+    (λ files both.
     let status : r.status ≡ audit_status found = ap (λ (x : Reply). x.status) is in
-    let offer = found_offer (offer_of files r1cs publics proof) found told in (
+    let offer = found_offer (offer_of files r1cs publics proof) found both.0 in (
       λ zero. record {
         offer = offer.0;
         read = offer.1;
         accepted = subst (IsAudited offer.0) (zero_accepted found (sym status ∙ zero)) offer.2;
       },
-      λ a. status ∙ ap audit_status (one a),
-    )
+      λ a. status ∙ ap audit_status (both.1 a),
+    ))
+    told
 
 stopped_audit : (contents : Option Contents) (r1cs publics proof : List ℕ) (failed : Type 0)
     (stop : Stop) (r : CodeReply) → StepsTo (λ (v : Audited). v) contents
     (λ files found. Audits files r1cs publics proof found) failed (Err stop)
     → EndsBy stop (Ok r)
     → Told contents (λ files. (r.status ≡ 0) ↔ IsAccepted files r1cs publics proof)
-stopped_audit None r1cs publics proof failed stop r told e = tt
-stopped_audit (Some files) r1cs publics proof failed (Refused refusal) r told e = (
-  λ zero. absurd (omega (arith, ap (λ (x : Reply). x.status) e, zero)),
-  λ a. absurd (refused_offer (offer_of files r1cs publics proof) a.offer refusal told a.read),
-)
-stopped_audit (Some files) r1cs publics proof failed StoreFailed r told e = absurd e
-stopped_audit (Some files) r1cs publics proof failed OutOfMemory r told e = absurd e
+stopped_audit contents r1cs publics proof failed (Refused refusal) r told e =
+    told_on contents (λ files. Audits files r1cs publics proof (Err refusal))
+    (λ files. (r.status ≡ 0) ↔ IsAccepted files r1cs publics proof)
+    (λ files is. (
+      λ zero. absurd (omega (arith, ap (λ (x : Reply). x.status) e, zero)),
+      λ a. absurd (refused_offer (offer_of files r1cs publics proof) a.offer refusal is a.read),
+    ))
+    told
+stopped_audit contents r1cs publics proof failed StoreFailed r told e = absurd e
+stopped_audit contents r1cs publics proof failed OutOfMemory r told e = absurd e
 
 pub ended_audit : (contents : Option Contents) (r1cs publics proof : List ℕ) (failed : Type 0)
     (stop : Stop) (result : Result CodeReply IoFault) → StepsTo (λ (v : Audited). v) contents

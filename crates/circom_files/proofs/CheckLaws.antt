@@ -1,5 +1,7 @@
 -- The answers of `check`, and the constraints that hold.
-use Rattle.std.proofs.Common.{◌≡◌, ◌==◌, ℕ, zero, suc, ◌+◌, ◌<◌, ◌≤◌, Bool, true, false, List, [], ◌∷◌, length, slice_index, slice_get, Option, Some, None, IsSomeAnd, All, if◌then◌else◌, refl, ap, subst, ◌↔◌, arith}
+use Rattle.std.proofs.Common.{◌≡◌, ◌==◌, ℕ, zero, suc, ◌+◌, ◌<◌, ◌≤◌, Bool, true, false, List, []}
+use Rattle.std.proofs.Common.{◌∷◌, length, slice_index, slice_get, Option, Some, None, IsSomeAnd}
+use Rattle.std.proofs.Common.{All, if◌then◌else◌, refl, ap, subst, ◌↔◌, arith}
 use Rattle.std.proofs.lemmas.Bool.Decides.{Decides-eqb}
 use Rattle.std.proofs.lemmas.List.Elements.{All-nil, All-cons, All-head, All-tail}
 use Rattle.gold_field.specs.Form.{Holds}
@@ -9,7 +11,8 @@ use Rattle.iden_files.specs.File.{File}
 use Rattle.circom_files.specs.Check.{verdict, satisfaction}
 use Rattle.circom_files.specs.Satisfaction.{IsAssignment, Satisfies, IsLeastFailing, FailsFirstAt}
 use Rattle.circom_words.specs.declared.answer.Verdict.{Verdict}
-use Rattle.circom_words.specs.declared.answer.Verdict.TheVariants.{CountsDiffer, WireZero, ConstraintFails, Satisfied}
+use Rattle.circom_words.specs.declared.answer.Verdict.TheVariants.{CountsDiffer, WireZero}
+use Rattle.circom_words.specs.declared.answer.Verdict.TheVariants.{ConstraintFails, Satisfied}
 
 -- the first n constraints hold
 abbrev Pass : List ℕ → List Constraint → ℕ → Type 0

@@ -1,3 +1,5 @@
+pub mod Reading
+pub mod Offering
 pub mod Accepts
 pub mod CheckLaws
 pub mod Ended

@@ -1,5 +1,7 @@
 -- The values that a file of values holds are numbers of the field.
-use Rattle.std.proofs.Common.{◌≡◌, ◌<◌, ◌-◌, ◌*◌, ◌==◌, length, ℕ, zero, suc, Bool, true, false, List, [], ◌∷◌, All, Result, Ok, Err, if◌then◌else◌, nat_lt, refl, subst, arith}
+use Rattle.std.proofs.Common.{◌≡◌, ◌<◌, ◌-◌, ◌*◌, ◌==◌, length, ℕ, zero, suc, Bool, true, false}
+use Rattle.std.proofs.Common.{List, [], ◌∷◌, All, Result, Ok, Err, if◌then◌else◌, nat_lt, refl}
+use Rattle.std.proofs.Common.{subst, arith}
 use Rattle.std.proofs.lemmas.Bool.Decides.{nat_tests}
 use Rattle.std.proofs.lemmas.List.Elements.{All-nil, All-cons}
 use Rattle.binary_format.specs.Reading.{◌>>=◌, number_of, or_short, repeated, required}

@@ -12,7 +12,8 @@ use Rattle.lig_proof.specs.declared.verdict.Verdict.{Verdict as Audited}
 use Rattle.circom_words.specs.Words.{ProveOptions}
 use Rattle.circom_words.specs.declared.answer.Refusal.{Refusal}
 use Rattle.circom_files.specs.Files.{bytes_in, accepted, r1cs_in, wtns_in, publics_in}
-use Rattle.circom_files.specs.Proving.{FoundIn, IsAudited, IsProved, Audits, Proves, offer_of, witness_of}
+use Rattle.circom_files.specs.Proving.{FoundIn, IsAudited, IsProved, Audits, Proves, offer_of}
+use Rattle.circom_files.specs.Proving.{witness_of}
 use Rattle.circom_files.specs.declared.outcome.Witness.{Witness}
 use Rattle.circom_files.specs.declared.outcome.Offer.{Offer}
 use Rattle.circom_files.specs.declared.outcome.Outcome.{Outcome}

@@ -1,5 +1,5 @@
 -- What one step of a command did.
-use Rattle.std.specs.Prelude.{◌≡◌, ℕ, List, Option, Result, Ok, Err}
+use Rattle.std.specs.Prelude.{◌≡◌, ℕ, List, Option, IfSome, Result, Ok, Err}
 use Rattle.out_io.specs.Calls.{Told}
 use Rattle.out_io.specs.Contents.{Contents}
 use Rattle.iden_files.specs.declared.fault.FileFault.{FileFault}
@@ -8,7 +8,8 @@ use Rattle.circom_words.specs.declared.answer.Refusal.{Refusal}
 use Rattle.circom_words.specs.declared.answer.Refusal.TheVariants.{BadFile, BadInput}
 use Rattle.wit_input.specs.declared.fault.InputFault.{InputFault}
 use Rattle.wit_input.specs.declared.fault.InputFault.TheVariants as input
-use Rattle.circom_files.specs.Files.{bad_publics}
+use Rattle.circom_files.specs.Files.{bad_publics, bytes_in}
+use Rattle.circom_files.specs.declared.inputs.Read.{Read}
 use Rattle.circom_files.specs.declared.stop.Stop.{Stop}
 use Rattle.circom_files.specs.declared.stop.Stop.TheVariants.{Refused, StoreFailed, OutOfMemory}
 
@@ -21,6 +22,24 @@ Steps view contents meaning failed (Err (Refused refusal)) =
     Told contents (λ files. meaning files ≡ Err refusal)
 Steps view contents meaning failed (Err StoreFailed) = failed
 Steps view contents meaning failed (Err OutOfMemory) = Unit {0}
+
+-- these bytes are there under the name
+abbrev pub WasRead : Contents → Read → Type 0
+WasRead files read = bytes_in files read.name.now ≡ Ok read.bytes.now
+
+-- the one, and the other if there is one
+abbrev pub WereRead : Read → Option Read → Contents → Type 0
+WereRead first second files = WasRead files first × IfSome second (WasRead files)
+
+-- The same of a step before which something was told of the contents: that is so still.
+abbrev pub StepsFrom : {X Y : Type 0} → (X → Y) → Option Contents → (Contents → Type 0)
+    → (Contents → Result Y Refusal) → Type 0 → Result X Stop → Type 0
+StepsFrom view contents Before meaning failed (Ok x) =
+    Told contents Before → Told contents (λ files. Before files × (meaning files ≡ Ok (view x)))
+StepsFrom view contents Before meaning failed (Err (Refused refusal)) =
+    Told contents Before → Told contents (λ files. Before files × (meaning files ≡ Err refusal))
+StepsFrom view contents Before meaning failed (Err StoreFailed) = failed
+StepsFrom view contents Before meaning failed (Err OutOfMemory) = Unit {0}
 
 -- the command ends for this fault of the file under the name; memory may lack for the name
 abbrev pub Refuses : List ℕ → FileFault → Stop → Type 0

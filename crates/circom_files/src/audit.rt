@@ -10,7 +10,7 @@ ghost use Rattle.circom_files.specs.Reply.{Says, audited};
 ghost use Rattle.circom_files.specs.Shown.{shown};
 ghost use Rattle.circom_files.specs.Steps.{Steps, StepsTo};
 
-use crate::inputs::{bytes_in, publics_in, r1cs_from};
+use crate::inputs::{Read, bytes_after, bytes_in, publics_from, r1cs_from};
 use crate::outcome::Offer;
 use crate::reply::Reply;
 use crate::stop::Stop;
@@ -58,7 +58,8 @@ fn verdict_in<R: Threads + AllocGlobal + Sync, S: Store>(
         (λ files found. Audits files r1cs.now publics.now proof.now found)
         (Rose (S.faults store.old) (S.faults store.new)) result }
     ensures one { IfOk result (λ verdict. Told (S.contents store.old)
-        (λ files. IsAccepted files r1cs.now publics.now proof.now → verdict ≡ Accepted)) }
+        (λ files. Audits files r1cs.now publics.now proof.now (Ok verdict)
+        × (IsAccepted files r1cs.now publics.now proof.now → verdict ≡ Accepted))) }
     ensures store { OnlyReads (S.contents store.old) (S.contents store.new)
         (S.faults store.old) (S.faults store.new)
         (S.never_fails store.old) (S.never_fails store.new) }
@@ -82,7 +83,6 @@ fn verdict_on<R: Threads + AllocGlobal + Sync>(rt: &R, offer: &Offer) -> Result<
 }
 
 // The file of constraints, the public values and the proof.
-#[tactic(auto, unfolding(crate::specs::Proving::offer_of))]
 fn offer_in<S: Store>(
     alloc: Global,
     r1cs: &str,
@@ -100,8 +100,17 @@ fn offer_in<S: Store>(
 {
     let bytes = bytes_in(alloc, store, r1cs)?;
     let file = r1cs_from(alloc, r1cs, bytes.as_slice())?;
-    let values = publics_in(alloc, store, publics)?;
-    let offered = bytes_in(alloc, store, proof)?;
+    let first = Read {
+        name: r1cs,
+        bytes: bytes.as_slice(),
+    };
+    let text = bytes_after(alloc, store, first, None, publics)?;
+    let values = publics_from(alloc, text.as_slice())?;
+    let second = Read {
+        name: publics,
+        bytes: text.as_slice(),
+    };
+    let offered = bytes_after(alloc, store, first, Some(second), proof)?;
     Ok(Offer {
         bytes: Items::of(bytes),
         file,

@@ -8,7 +8,7 @@ ghost use Rattle.circom_files.specs.Shown.{shown};
 ghost use Rattle.circom_files.specs.Steps.{Steps};
 ghost use Rattle.out_io.specs.declared.fault.IoFault.TheVariants.{Failed};
 
-use crate::inputs::{r1cs_in, wtns_in};
+use crate::inputs::witness_in;
 use crate::reply::Reply;
 use crate::stop::Stop;
 use circom_words::Verdict;
@@ -38,7 +38,6 @@ pub fn check_reply<'w, S: Store>(
 }
 
 // Whether the values in one file satisfy the constraints in the other.
-#[tactic(auto, unfolding(crate::specs::Check::check_of))]
 fn check<S: Store>(alloc: Global, r1cs: &str, wtns: &str, store: &mut S) -> Result<Verdict, Stop>
     ensures step { Steps (λ verdict. verdict) (S.contents store.old)
         (λ files. check_of files r1cs.now wtns.now)
@@ -47,9 +46,8 @@ fn check<S: Store>(alloc: Global, r1cs: &str, wtns: &str, store: &mut S) -> Resu
         (S.faults store.old) (S.faults store.new)
         (S.never_fails store.old) (S.never_fails store.new) }
 {
-    let file = r1cs_in(alloc, store, r1cs)?;
-    let values = wtns_in(alloc, store, wtns)?;
-    Ok(verdict(&file, values.as_slice()))
+    let witness = witness_in(alloc, r1cs, wtns, store)?;
+    Ok(verdict(&witness.file, witness.values.as_slice()))
 }
 
 // By the count of values, then wire 0, which stands for 1, then the constraints.

@@ -4,9 +4,13 @@ ghost use Rattle.iden_files.specs.File.{InLimits};
 ghost use Rattle.std.specs.Prelude.{◌<◌, All, IfOk};
 ghost use Rattle.gold_field.specs.declared.gold.TheConstants.{P};
 ghost use Rattle.iden_files.specs.ReadR1cs.{r1cs_of};
-ghost use Rattle.circom_files.specs.Files.{accepted, bytes_in, publics_in, r1cs_in, wtns_in};
-ghost use Rattle.circom_files.specs.Steps.{Gets, Steps, Refuses, RefusesPublics};
+ghost use Rattle.iden_files.specs.ReadWtns.{wtns_of};
+ghost use Rattle.wit_input.specs.Publics.{publics_of};
+ghost use Rattle.circom_files.specs.Files.{accepted, accepted_publics, bytes_in};
+ghost use Rattle.circom_files.specs.Proving.{witness_of};
+ghost use Rattle.circom_files.specs.Steps.{Gets, Refuses, RefusesPublics, Steps, StepsFrom, WereRead};
 
+use crate::outcome::Witness;
 use crate::stop::Stop;
 use circom_words::{BadInput, Refusal};
 use gold_field::Gold;
@@ -15,6 +19,13 @@ use items::Items;
 use out_io::Store;
 use std::alloc::Global;
 use wit_input::{InputFault, read_publics};
+
+/// The bytes that were read under a name.
+#[derive(Clone, Copy)]
+pub struct Read<'n> {
+    pub name: &'n str,
+    pub bytes: &'n [u8],
+}
 
 /// The bytes under the name.
 pub fn bytes_in<S: Store>(alloc: Global, store: &mut S, name: &str) -> Result<Vec<u8>, Stop>
@@ -30,6 +41,32 @@ pub fn bytes_in<S: Store>(alloc: Global, store: &mut S, name: &str) -> Result<Ve
             name: Items::from_slice(alloc, name.as_bytes())?,
         })),
     }
+}
+
+/// The bytes under the name, which is read only where it isn't one of those that were read before.
+pub fn bytes_after<S: Store>(
+    alloc: Global,
+    store: &mut S,
+    first: Read<'_>,
+    second: Option<Read<'_>>,
+    name: &str,
+) -> Result<Vec<u8>, Stop>
+    ensures step { StepsFrom (λ v. v.items) (S.contents store.old)
+        (WereRead first.entry second.entry) (λ files. bytes_in files name.now)
+        (Rose (S.faults store.old) (S.faults store.new)) result }
+    ensures store { OnlyReads (S.contents store.old) (S.contents store.new)
+        (S.faults store.old) (S.faults store.new)
+        (S.never_fails store.old) (S.never_fails store.new) }
+{
+    if first.name == name {
+        return Ok(Vec::from_slice(alloc, first.bytes)?);
+    }
+    if let Some(second) = second {
+        if second.name == name {
+            return Ok(Vec::from_slice(alloc, second.bytes)?);
+        }
+    }
+    bytes_in(alloc, store, name)
 }
 
 // Why the file isn't read.
@@ -60,51 +97,56 @@ pub fn r1cs_from(alloc: Global, name: &str, bytes: &[u8]) -> Result<R1cs, Stop>
     }
 }
 
-/// The file of constraints under the name.
-#[tactic(auto, unfolding(crate::specs::Files::r1cs_in))]
-pub fn r1cs_in<S: Store>(alloc: Global, store: &mut S, name: &str) -> Result<R1cs, Stop>
-    ensures step { Steps (λ file. file) (S.contents store.old) (λ files. r1cs_in files name.now)
-        (Rose (S.faults store.old) (S.faults store.new)) result }
-    ensures limits { IfOk result InLimits }
-    ensures store { OnlyReads (S.contents store.old) (S.contents store.new)
-        (S.faults store.old) (S.faults store.new)
-        (S.never_fails store.old) (S.never_fails store.new) }
-{
-    let bytes = bytes_in(alloc, store, name)?;
-    r1cs_from(alloc, name, bytes.as_slice())
-}
-
-/// The values under the name.
-#[tactic(auto, unfolding(crate::specs::Files::wtns_in))]
-pub fn wtns_in<S: Store>(alloc: Global, store: &mut S, name: &str) -> Result<Vec<Gold>, Stop>
-    ensures step { Steps (λ v. v.items) (S.contents store.old) (λ files. wtns_in files name.now)
-        (Rose (S.faults store.old) (S.faults store.new)) result }
+/// The values in the bytes that were read under the name.
+pub fn wtns_from(alloc: Global, name: &str, bytes: &[u8]) -> Result<Vec<Gold>, Stop>
+    ensures step { Gets (λ v. v.items) (accepted name.now (wtns_of bytes.now)) result }
     ensures numbers { IfOk result (λ v. All (λ value. value < P) v.items) }
-    ensures store { OnlyReads (S.contents store.old) (S.contents store.new)
-        (S.faults store.old) (S.faults store.new)
-        (S.never_fails store.old) (S.never_fails store.new) }
 {
-    let bytes = bytes_in(alloc, store, name)?;
-    match read_wtns(alloc, bytes.as_slice()) {
+    match read_wtns(alloc, bytes) {
         Ok(values) => Ok(values),
         Err(fault) => Err(refused(alloc, name, fault)),
     }
 }
 
-/// The public values under the name.
-#[tactic(auto, unfolding(crate::specs::Files::publics_in))]
-pub fn publics_in<S: Store>(alloc: Global, store: &mut S, name: &str) -> Result<Vec<Gold>, Stop>
-    ensures step { Steps (λ v. v.items) (S.contents store.old) (λ files. publics_in files name.now)
+/// The public values in bytes that were read.
+pub fn publics_from(alloc: Global, bytes: &[u8]) -> Result<Vec<Gold>, Stop>
+    ensures { Gets (λ v. v.items) (accepted_publics (publics_of bytes.now)) result }
+{
+    match read_publics(alloc, bytes) {
+        Ok(values) => Ok(values),
+        Err(fault) => Err(refused_publics(alloc, fault)),
+    }
+}
+
+/// The file of constraints and the values.
+pub fn witness_in<S: Store>(
+    alloc: Global,
+    r1cs: &str,
+    wtns: &str,
+    store: &mut S,
+) -> Result<Witness, Stop>
+    ensures step { Steps (λ w. w) (S.contents store.old)
+        (λ files. witness_of files r1cs.now wtns.now)
         (Rose (S.faults store.old) (S.faults store.new)) result }
+    ensures limits { IfOk result (λ w. InLimits w.file) }
+    ensures numbers { IfOk result (λ w. All (λ value. value < P) w.values) }
     ensures store { OnlyReads (S.contents store.old) (S.contents store.new)
         (S.faults store.old) (S.faults store.new)
         (S.never_fails store.old) (S.never_fails store.new) }
 {
-    let bytes = bytes_in(alloc, store, name)?;
-    match read_publics(alloc, bytes.as_slice()) {
-        Ok(values) => Ok(values),
-        Err(fault) => Err(refused_publics(alloc, fault)),
-    }
+    let bytes = bytes_in(alloc, store, r1cs)?;
+    let file = r1cs_from(alloc, r1cs, bytes.as_slice())?;
+    let read = Read {
+        name: r1cs,
+        bytes: bytes.as_slice(),
+    };
+    let text = bytes_after(alloc, store, read, None, wtns)?;
+    let values = wtns_from(alloc, wtns, text.as_slice())?;
+    Ok(Witness {
+        bytes: Items::of(bytes),
+        file,
+        values: Items::of(values),
+    })
 }
 
 // Why the public values aren't read.

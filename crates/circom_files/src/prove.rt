@@ -13,7 +13,7 @@ ghost use Rattle.circom_files.specs.Shown.{shown};
 ghost use Rattle.circom_files.specs.Steps.{Steps, StepsTo};
 ghost use Rattle.circom_files.specs.declared.outcome.Outcome.TheVariants.{Made};
 
-use crate::inputs::{bytes_in, r1cs_from, wtns_in};
+use crate::inputs::witness_in;
 use crate::outcome::{Outcome, Witness};
 use crate::reply::Reply;
 use crate::stop::Stop;
@@ -72,33 +72,6 @@ fn outcome_in<R: Threads + AllocGlobal + Sync, S: Store>(
     let witness = witness_in(alloc, r1cs, wtns, store)?;
     let outcome = outcome_of(rt, &witness, options)?;
     Ok(outcome)
-}
-
-// The file of constraints and the values.
-#[tactic(auto, unfolding(crate::specs::Proving::witness_of))]
-fn witness_in<S: Store>(
-    alloc: Global,
-    r1cs: &str,
-    wtns: &str,
-    store: &mut S,
-) -> Result<Witness, Stop>
-    ensures step { Steps (λ w. w) (S.contents store.old)
-        (λ files. witness_of files r1cs.now wtns.now)
-        (Rose (S.faults store.old) (S.faults store.new)) result }
-    ensures limits { IfOk result (λ w. InLimits w.file) }
-    ensures numbers { IfOk result (λ w. All (λ value. value < P) w.values) }
-    ensures store { OnlyReads (S.contents store.old) (S.contents store.new)
-        (S.faults store.old) (S.faults store.new)
-        (S.never_fails store.old) (S.never_fails store.new) }
-{
-    let bytes = bytes_in(alloc, store, r1cs)?;
-    let file = r1cs_from(alloc, r1cs, bytes.as_slice())?;
-    let values = wtns_in(alloc, store, wtns)?;
-    Ok(Witness {
-        bytes: Items::of(bytes),
-        file,
-        values: Items::of(values),
-    })
 }
 
 // The proof that the values satisfy the file, or what is wrong with them.

@@ -7,7 +7,7 @@ ghost use Rattle.circom_files.specs.Reply.{Says, published};
 ghost use Rattle.circom_files.specs.Shown.{shown};
 ghost use Rattle.circom_files.specs.Steps.{Steps};
 
-use crate::inputs::{r1cs_in, wtns_in};
+use crate::inputs::witness_in;
 use crate::outcome::Published;
 use crate::reply::Reply;
 use crate::stop::Stop;
@@ -40,7 +40,6 @@ pub fn public_reply<'w, S: Store>(
 }
 
 // The public values, or what is wrong with the values.
-#[tactic(auto, unfolding(crate::specs::Proving::public_of))]
 fn published_in<S: Store>(
     alloc: Global,
     r1cs: &str,
@@ -54,9 +53,9 @@ fn published_in<S: Store>(
         (S.faults store.old) (S.faults store.new)
         (S.never_fails store.old) (S.never_fails store.new) }
 {
-    let file = r1cs_in(alloc, store, r1cs)?;
-    let values = wtns_in(alloc, store, wtns)?;
-    Ok(published_values(alloc, &file, values.as_slice())?)
+    let witness = witness_in(alloc, r1cs, wtns, store)?;
+    let found = published_values(alloc, &witness.file, witness.values.as_slice())?;
+    Ok(found)
 }
 
 // By the count of values, then wire 0.

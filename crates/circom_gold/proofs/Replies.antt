@@ -4,6 +4,7 @@ use Rattle.std.proofs.Math.Seq.{take-length}
 use Rattle.std.proofs.lemmas.List.{append-nil}
 use Rattle.std.proofs.lemmas.Result.{IfOk-weaker}
 use Rattle.std.specs.declared.alloc.AllocError.{AllocError}
+use Rattle.out_io.proofs.Telling.{told_on}
 use Rattle.out_io.specs.Calls.{Course, HasFailed, Told}
 use Rattle.out_io.specs.Contents.{Contents, Changes}
 use Rattle.out_io.specs.declared.fault.IoFault.{IoFault}
@@ -18,7 +19,6 @@ use Rattle.circom_words.specs.Proving.{audit_status}
 use Rattle.lig_proof.specs.declared.verdict.Verdict.{Verdict as Audited}
 use Rattle.lig_proof.specs.declared.verdict.Verdict.TheVariants as audits
 use Rattle.circom_files.specs.Accepted.{HoldsProof, IsAccepted, WritesProof}
-use Rattle.circom_files.specs.Proving.{Audits, Proves}
 use Rattle.circom_files.specs.Reply.{Reply, NewFile, Says, said, checked, proved, published, audited, store_failed}
 use Rattle.circom_files.specs.declared.outcome.Outcome.{Outcome}
 use Rattle.circom_files.specs.declared.outcome.Outcome.TheVariants.{Made, Unmade}
@@ -28,7 +28,7 @@ use Rattle.circom_gold.specs.Reply.{Answers, WritesConstraintsOf, compiled}
 use Rattle.circom_gold.specs.Run.{Ends, Stays, Leaves, LeavesInPart, Puts, Replies, Writing}
 use Rattle.circom_files.specs.Shown.{shown}
 use Rattle.circom_files.specs.Stops.{EndsBy}
-use Rattle.circom_words.specs.Words.{Command, Options, ProveOptions, check, compile, prove, public, audit}
+use Rattle.circom_words.specs.Words.{Command, Options, check, compile, prove, public, audit}
 use Rattle.circom_words.specs.declared.answer.Refusal.{Refusal}
 use Rattle.circom_words.specs.declared.answer.Verdict.{Verdict}
 use Rattle.circom_words.specs.declared.answer.Verdict.TheVariants.{CountsDiffer, WireZero, ConstraintFails, Satisfied}
@@ -61,25 +61,28 @@ pub writes : (contents : Option Contents) (source : List ℕ) (options : Options
     (f : File) (r : Reply) → Told contents (λ files. Compiles files source options (Ok f))
     → r ≡ compiled out f → r1cs_of (r1cs_bytes f) ≡ Ok f
     → Told contents (λ files. WritesConstraintsOf files source options out r)
-writes None source options out f r told is read = tt
-writes (Some files) source options out f r told is read = record {
-  bytes = r1cs_bytes f;
-  file = ap (λ (x : Reply). x.file) is;
-  constraints = record {
-    file = f;
-    read = read;
-    program = told.program;
-    source_means = record {
-      loaded = told.loaded;
-      built = told.written.built;
-    };
-    exactly = λ values are.
-        let means = told.written.means values are in (
-          (λ holds. let s = means.0 holds in (s.0, s.1.agrees, s.2)),
-          (λ found. means.1 (found.0, record { agrees = found.1 }, found.2)),
-        );
-  };
-}
+writes contents source options out f r told is read =
+    told_on contents (λ files. Compiles files source options (Ok f))
+    (λ files. WritesConstraintsOf files source options out r)
+    (λ files compiles. record {
+      bytes = r1cs_bytes f;
+      file = ap (λ (x : Reply). x.file) is;
+      constraints = record {
+        file = f;
+        read = read;
+        program = compiles.program;
+        source_means = record {
+          loaded = compiles.loaded;
+          built = compiles.written.built;
+        };
+        exactly = λ values are.
+            let means = compiles.written.means values are in (
+              (λ holds. let s = means.0 holds in (s.0, s.1.agrees, s.2)),
+              (λ found. means.1 (found.0, record { agrees = found.1 }, found.2)),
+            );
+      };
+    })
+    told
 
 -- all of the bytes are a prefix of them
 pub front_of_all : (bytes : List ℕ) (old new : Option (List ℕ)) → IsAppended bytes old new
@@ -226,6 +229,22 @@ proof_written result old new sink r1cs wtns out r writes leaves puts =
     (λ exit put zero.
     holds_proof old new r1cs wtns out r
     (writes (status_of_success r sink exit put zero)) leaves) puts
+
+-- the names that an audit is given
+abbrev audit_names : Option Command → List ℕ × List ℕ × List ℕ
+audit_names (Some (audit r1cs publics proof)) = (r1cs, publics, proof)
+audit_names _ = ([], [], [])
+
+-- what is told of an audit is told of the same one
+pub same_audit : (result : Result CodeReply IoFault) (old : Option Contents)
+    (a b d r1cs publics proof : List ℕ)
+    → Some (audit a b d) ≡ Some (audit r1cs publics proof)
+    → IfOk result (λ r. Told old (λ files. (r.status ≡ 0) ↔ IsAccepted files a b d))
+    → IfOk result (λ r. Told old
+    (λ files. (r.status ≡ 0) ↔ IsAccepted files r1cs publics proof))
+same_audit result old a b d r1cs publics proof same told =
+    subst (λ (n : List ℕ × List ℕ × List ℕ). IfOk result (λ r. Told old
+    (λ files. (r.status ≡ 0) ↔ IsAccepted files n.0 n.1 n.2))) (ap audit_names same) told
 
 -- an exit that isn't 3 is the status of the audit
 pub audit_told : (result : Result ℕ AllocError) (old : Option Contents) (sink : Course (List ℕ))

@@ -3,10 +3,15 @@ use Rattle.std.specs.Prelude.{◌≡◌, ◌≤◌, ℕ, Option, None, Some, ⊤
 use Rattle.out_io.specs.Contents.{Contents}
 use Rattle.out_io.specs.Faults.{Rose}
 
--- this holds of the contents, where the store tells them
+-- this holds of the contents; of some contents, where the store doesn't tell what it holds
 abbrev pub Told : Option Contents → (Contents → Type 0) → Type 0
-Told None P = ⊤
+Told None P = (files : Contents) × P files
 Told (Some files) P = P files
+
+-- this holds of the contents, where the store tells them
+abbrev pub IfTold : Option Contents → (Contents → Type 0) → Type 0
+IfTold None P = ⊤
+IfTold (Some files) P = P files
 
 -- the count of faults never falls, and stands still where no call fails
 pub record Counting (before after : ℕ) (quiet still_quiet : Type 0) : Type 0 where

@@ -1,10 +1,11 @@
-use Rattle.std.proofs.Common.{arith, ap, vec_len, reverse}
+use Rattle.std.proofs.Common.{None, arith, ap, vec_len, reverse}
 use Rattle.std.proofs.lemmas.Result.{err_from_is_err_and}
 use Rattle.std.proofs.lemmas.List.{nil_from_length}
 use Rattle.std.specs.Option.{option_copied}
+use Rattle.out_io.proofs.Telling.{found_told, rose_on}
 use Rattle.cir_sources.specs.Steps.{all_of, left_of}
 use Rattle.cir_sources.proofs.Program.{first_bad, first_loads, top_of, stops, goes_on, ends}
-use Rattle.cir_sources.proofs.Program.{gets_smaller, rose_on, reads_on}
+use Rattle.cir_sources.proofs.Program.{gets_smaller, reads_on}
 use Rattle.cir_sources.proofs.loading.sources.Goals as goal
 
 pub returns-in_err-source-clause-loads : goal.returns-in_err-source-clause-loads
@@ -16,6 +17,10 @@ returns-in_err-source-clause-loads g c =
     (option_copied c.args.library) _ c.in-Some.bytes c.in_err-source.field-0.0
     (rw c.in-Some.is at c.in_ok-bytes.ensures.found)
     (rw c.as_bytes.ensures.value at c.in_err-source.ensures))
+
+pub returns-in_default-clause-loads : goal.returns-in_default-clause-loads
+returns-in_default-clause-loads g c =
+    found_told _ c.args.name.now None (rw c.in_default.is at c.in_ok-bytes.ensures.found)
 
 pub loop-site-init : goal.loop-site-init
 loop-site-init g c = record {
@@ -71,6 +76,7 @@ loop-site-preserved g c = record {
 pub returns-clause-loads : goal.returns-clause-loads
 returns-clause-loads g c =
     ends _ c.args.name.now (option_copied c.args.library) c.loop-site.loading.names
+    c.loop-site.loading.missing
     (all_of c.loop-site.loading) (left_of c.loop-site.loading) c.loop-site.invariant.loading
     (ap reverse
     (nil_from_length c.loop-site.loading.pending.items

@@ -8,7 +8,8 @@ use Rattle.cir_sources.proofs.loading.sources.Given as goal
 abbrev pub invariant-loop-site : goal.invariant-loop-site
 invariant-loop-site g l = record {
   loading : IsLoading (g.S.Store.contents l.fn.store) l.fn.name
-      (option_copied l.library) l.loading.names (all_of l.loading) (left_of l.loading);
+      (option_copied l.library) l.loading.names l.loading.missing (all_of l.loading)
+      (left_of l.loading);
   store : OnlyReads (g.S.Store.contents l.fn.store) (g.S.Store.contents l.store)
       (g.S.Store.faults l.fn.store) (g.S.Store.faults l.store) (g.S.Store.never_fails l.fn.store)
       (g.S.Store.never_fails l.store);

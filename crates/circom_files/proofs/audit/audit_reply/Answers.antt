@@ -22,8 +22,8 @@ returns-in-Err-clause-says g c =
 pub returns-in_ok-audited-in-Ok-clause-accepted : goal.returns-in_ok-audited-in-Ok-clause-accepted
 returns-in_ok-audited-in-Ok-clause-accepted g c =
     says_accepted (g.S.Store.contents c.args.store.now) c.args.r1cs.now c.args.publics.now
-    c.args.proof.now c.in-Ok.verdict (shown c.in_ok-audited-in-Ok.field-0) c.in-Ok.ensures.step
-    c.in-Ok.ensures.one c.in_ok-audited-in-Ok.ensures
+    c.args.proof.now c.in-Ok.verdict (shown c.in_ok-audited-in-Ok.field-0) c.in-Ok.ensures.one
+    c.in_ok-audited-in-Ok.ensures
 
 pub returns-in-Err-clause-accepted : goal.returns-in-Err-clause-accepted
 returns-in-Err-clause-accepted g c =

@@ -1,6 +1,0 @@
-use Rattle.circom_files.proofs.Numbers.{values_below}
-use Rattle.circom_files.proofs.inputs.wtns_in.Goals as goal
-
-pub returns-in-Ok-clause-numbers : goal.returns-in-Ok-clause-numbers
-returns-in-Ok-clause-numbers g c =
-    values_below c.as_slice.result.now c.in-Ok.values.items c.in-Ok.ensures.exact
