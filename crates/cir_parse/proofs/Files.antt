@@ -24,7 +24,7 @@ use Rattle.cir_parse.specs.Answers.{ReadsItem, ParsesWhole}
 use Rattle.cir_parse.specs.Contract.{IsTree, NoItem, IsFirstUnread}
 use Rattle.cir_parse.specs.Marking.{marked, all_marked, marked_item, marked_items, marked_file}
 use Rattle.cir_parse.specs.Reading.{item}
-use Rattle.cir_parse.proofs.Parts.{Of}
+use Rattle.cir_simple_statement.proofs.Parts.{Of}
 use Rattle.cir_parse.proofs.Whole.{IsLowItem, item_sound, item_undo}
 
 pub item_some : (R : Type 0) (i : Item R) → 1 ≤ length (item_tokens i)

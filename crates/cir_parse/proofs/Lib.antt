@@ -1,13 +1,7 @@
-pub mod Declared
 pub mod Files
 pub mod Nested
-pub mod Parts
 pub mod Plainly
 pub mod Seen
 pub mod Steps
-pub mod Tuples
-pub mod Undone
 pub mod Unnested
-pub mod Unwritten
 pub mod Whole
-pub mod Written

@@ -11,8 +11,7 @@ use Rattle.cir_token.specs.declared.token.Symbol.TheVariants as symbol
 use Rattle.cir_ast.specs.Tree.{FirstVars, FirstAssign, Words, LogValue, Block, If, IfElse, While}
 use Rattle.cir_ast.specs.Tree.{For, Return, Assert, Log, Ended, as_statements}
 use Rattle.cir_ast.specs.Plain.{PlainExpr as Expr, PlainAssign as Assign, PlainFirst as First}
-use Rattle.cir_ast.specs.Plain.{PlainLogArgument as LogArgument, PlainSimple as Simple}
-use Rattle.cir_ast.specs.Plain.{PlainStatement as Statement}
+use Rattle.cir_ast.specs.Plain.{PlainLogArgument as LogArgument, PlainStatement as Statement}
 use Rattle.cir_ast.specs.Print.{tokens_of, list_tokens, variable_tokens, assign_tokens}
 use Rattle.cir_ast.specs.Print.{first_tokens, argument_tokens, simple_tokens}
 use Rattle.cir_ast.specs.Print.{enclosed as enclosed_tokens, ended, for_tokens, statement_tokens}
@@ -26,15 +25,19 @@ use Rattle.cir_expression.specs.Front.{Tokens, next, tail, begins, begins_word}
 use Rattle.cir_expression.specs.Reading.{expression}
 use Rattle.cir_expression.proofs.Front.{AllOf, all_map, if_all, otherwise_all, begins_is}
 use Rattle.cir_expression.proofs.Front.{begins_word_is, all_at}
-use Rattle.cir_parse.specs.Front.{after, closed, made, enclosed, separated, optional, words_at}
-use Rattle.cir_parse.specs.Reading.{variable, assign, simple, argument, first, condition, head}
-use Rattle.cir_parse.specs.Reading.{plain, marked_by, statements_by, rest_by, if_by, while_by}
-use Rattle.cir_parse.specs.Reading.{for_by, statement_by, statement, block}
-use Rattle.cir_parse.proofs.Parts.{Of, next_then, made_all, closed_all, after_all, enclosed_all}
-use Rattle.cir_parse.proofs.Parts.{separated_all, optional_all, each_shaped, each_low, words_all}
-use Rattle.cir_parse.proofs.Declared.{IsLow, expression_of, IsLowVariable, variable_sound}
-use Rattle.cir_parse.proofs.Declared.{IsLowAssign, assign_sound, IsLowSimple}
-use Rattle.cir_parse.proofs.Written.{simple_sound}
+use Rattle.cir_simple_statement.specs.Front.{after, closed, made, enclosed, separated, optional}
+use Rattle.cir_simple_statement.specs.Front.{words_at}
+use Rattle.cir_simple_statement.specs.Reading.{variable, assign, simple}
+use Rattle.cir_parse.specs.Reading.{argument, first, condition, head, plain, marked_by}
+use Rattle.cir_parse.specs.Reading.{statements_by, rest_by, if_by, while_by, for_by, statement_by}
+use Rattle.cir_parse.specs.Reading.{statement, block}
+use Rattle.cir_simple_statement.proofs.Parts.{Of, next_then, made_all, closed_all, after_all}
+use Rattle.cir_simple_statement.proofs.Parts.{enclosed_all, separated_all, optional_all}
+use Rattle.cir_simple_statement.proofs.Parts.{each_shaped, each_low, words_all}
+use Rattle.cir_simple_statement.proofs.Declared.{IsLow, expression_of, IsLowVariable}
+use Rattle.cir_simple_statement.proofs.Declared.{variable_sound, IsLowAssign, assign_sound}
+use Rattle.cir_simple_statement.proofs.Declared.{IsLowSimple}
+use Rattle.cir_simple_statement.proofs.Written.{simple_sound}
 
 abbrev IsLowArgument : ℕ → LogArgument → Type 0
 IsLowArgument room a = FitsArgument a × (argument_height a ≤ room)

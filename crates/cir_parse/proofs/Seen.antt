@@ -1,6 +1,5 @@
 -- Lists of trees whose names lose their meanings.
 use Rattle.std.proofs.Common.{◌≡◌, List, [], ◌∷◌, map, refl, ap, subst, ◌∙◌, Result, Ok, Err}
-use Rattle.std.proofs.lemmas.Simd.{map-map}
 use Rattle.cir_ast.specs.declared.marked.File.{File as CodeFile}
 use Rattle.cir_ast.specs.declared.marked.Statement.{Statement as CodeStatement}
 use Rattle.cir_ast.specs.Tree.{then_more, as_statements, bare_statement, bare_file}
@@ -11,10 +10,6 @@ use Rattle.cir_parse.specs.declared.fault.ParseFault.TheVariants as fault
 use Rattle.cir_parse.specs.Answers.{seen_statement}
 use Rattle.cir_parse.specs.Contract.{IsTree, Parses, ParsesMarked}
 use Rattle.cir_parse.proofs.Plainly.{file_same}
-
-pub seen_map : {A B C : Type 0} (g : B → C) (f : A → B) (list items : List A) → list ≡ items
-    → map g (map f list) ≡ map (λ x. g (f x)) items
-seen_map g f list items same = map-map g f list ∙ ap (map (λ x. g (f x))) same
 
 all_seen : {S N : Type 0} (list : List (CodeStatement S N))
     → plain_statements (as_statements (map bare_statement list))

@@ -16,10 +16,9 @@ use Rattle.cir_ast.specs.Tree.{Log, Ended, empty, then_more, as_statements}
 use Rattle.cir_ast.specs.Plain.{PlainExpr as Expr, PlainAssign as Assign, PlainFirst as First}
 use Rattle.cir_ast.specs.Plain.{PlainLogArgument as LogArgument, PlainSimple as Simple}
 use Rattle.cir_ast.specs.Plain.{PlainStatement as Statement, PlainStatements as Statements}
-use Rattle.cir_ast.specs.Print.{left_symbol, right_symbol, tokens_of, list_tokens, place_tokens}
-use Rattle.cir_ast.specs.Print.{assign_tokens, first_tokens, argument_tokens, slot_tokens}
-use Rattle.cir_ast.specs.Print.{target_tokens, source_tokens, simple_tokens, statement_tokens}
-use Rattle.cir_ast.specs.Print.{statements_tokens, block_tokens}
+use Rattle.cir_ast.specs.Print.{right_symbol, tokens_of, list_tokens, place_tokens, assign_tokens}
+use Rattle.cir_ast.specs.Print.{first_tokens, argument_tokens, target_tokens, simple_tokens}
+use Rattle.cir_ast.specs.Print.{statement_tokens, statements_tokens, block_tokens}
 use Rattle.cir_ast.specs.Shape.{Fits, Each, IsShapedAssign, IsShapedFirst, FitsArgument}
 use Rattle.cir_ast.specs.Shape.{IsShapedSimple, ends_open, IsShapedStatement, AreShapedStatements}
 use Rattle.cir_ast.specs.Height.{height_of, highest, assign_height, first_height, argument_height}
@@ -28,13 +27,13 @@ use Rattle.cir_expression.specs.Front.{Tokens, begins, begins_word}
 use Rattle.cir_expression.specs.Reading.{starts}
 use Rattle.cir_expression.proofs.Front.{not_start, expression_starts}
 use Rattle.cir_expression.proofs.Undo.{expression_undo}
-use Rattle.cir_parse.specs.Front.{after, words_at}
+use Rattle.cir_simple_statement.specs.Front.{after, words_at}
 use Rattle.cir_parse.specs.Marking.{step_on, first_on, marked, all_marked}
 use Rattle.cir_parse.specs.Reading.{argument, first, condition, head, plain, statements_by}
 use Rattle.cir_parse.specs.Reading.{statement, block}
-use Rattle.cir_parse.proofs.Parts.{Undoes, optional_undo, each_of}
-use Rattle.cir_parse.proofs.Undone.{variables_undo, assign_undo}
-use Rattle.cir_parse.proofs.Unwritten.{simple_undo, no_word}
+use Rattle.cir_simple_statement.proofs.Parts.{Undoes, optional_undo, each_of}
+use Rattle.cir_simple_statement.proofs.Undone.{variables_undo, assign_undo}
+use Rattle.cir_simple_statement.proofs.Unwritten.{simple_undo, no_word}
 
 -- an expression is no string
 no_words : (e : Expr) (rest : Tokens) → words_at (tokens_of e ++ rest) ≡ None

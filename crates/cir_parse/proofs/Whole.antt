@@ -24,15 +24,17 @@ use Rattle.cir_expression.proofs.Front.{AllOf, all_map, if_all, begins_is, begin
 use Rattle.cir_expression.proofs.Front.{behind_all, behind_word_all, name_all}
 use Rattle.cir_expression.proofs.Sound.{AreArguments, arguments_sound}
 use Rattle.cir_expression.proofs.Undo.{arguments_undo}
-use Rattle.cir_parse.specs.Front.{after, closed, made, separated, optional, words_at, number_at}
+use Rattle.cir_simple_statement.specs.Front.{after, closed, made, separated, optional, words_at}
+use Rattle.cir_simple_statement.specs.Front.{number_at}
 use Rattle.cir_parse.specs.Marking.{all_marked, marked_item}
 use Rattle.cir_parse.specs.Reading.{block, parameters, language_at, pragma, template, function}
 use Rattle.cir_parse.specs.Reading.{public_names, instance, main, item}
-use Rattle.cir_parse.proofs.Parts.{Of, next_then, made_all, closed_all, after_all, enclosed_all}
-use Rattle.cir_parse.proofs.Parts.{separated_all, optional_all, words_all, number_all, Undoes}
-use Rattle.cir_parse.proofs.Parts.{ends_bracket, separated_undo, optional_undo}
+use Rattle.cir_simple_statement.proofs.Parts.{Of, next_then, made_all, closed_all, after_all}
+use Rattle.cir_simple_statement.proofs.Parts.{enclosed_all, separated_all, optional_all, words_all}
+use Rattle.cir_simple_statement.proofs.Parts.{number_all, Undoes, ends_bracket, separated_undo}
+use Rattle.cir_simple_statement.proofs.Parts.{optional_undo}
 use Rattle.cir_parse.proofs.Nested.{IsLowBlock, block_sound}
-use Rattle.cir_parse.proofs.Undone.{exprs_list, exprs_same}
+use Rattle.cir_simple_statement.proofs.Undone.{exprs_list, exprs_same}
 use Rattle.cir_parse.proofs.Unnested.{statements_same, block_undo}
 
 abbrev Any : {A : Type 0} → A → Type 0

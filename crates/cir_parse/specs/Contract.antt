@@ -2,7 +2,7 @@
 use Rattle.std.specs.Prelude.{◌≡◌, ◌≤◌, ◌<◌, ℕ, ◌++◌, length, take, drop, Some, None, Result, Ok}
 use Rattle.std.specs.Prelude.{Err, ⊤}
 use Rattle.cir_ast.specs.declared.marked.File.{File as CodeFile}
-use Rattle.cir_ast.specs.Tree.{File, Item, bare_file}
+use Rattle.cir_ast.specs.Tree.{File, bare_file}
 use Rattle.cir_ast.specs.Plain.{PlainFile, PlainItem, plain_file}
 use Rattle.cir_ast.specs.Print.{file_tokens, item_tokens}
 use Rattle.cir_ast.specs.Shape.{IsShaped, IsShapedItem}

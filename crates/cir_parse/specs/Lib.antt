@@ -1,5 +1,4 @@
 pub mod Limits
-pub mod Front
 pub mod Reading
 pub mod Marking
 pub mod Marks

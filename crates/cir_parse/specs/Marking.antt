@@ -1,6 +1,6 @@
 -- The marks that reading gives: each item and each statement, and both in the head of a `for`, get
 -- the mark of the tokens from them on.
-use Rattle.std.specs.Prelude.{List, [], ◌∷◌, ◌++◌}
+use Rattle.std.specs.Prelude.{[], ◌∷◌, ◌++◌}
 use Rattle.cir_token.specs.declared.token.TokenKind.TheVariants as token
 use Rattle.cir_token.specs.declared.token.Reserved.TheVariants as word
 use Rattle.cir_token.specs.declared.token.Symbol.TheVariants as symbol

@@ -6,11 +6,11 @@ ghost use Rattle.cir_ast.specs.Tree.{Include as IncludeTree};
 ghost use Rattle.cir_expression.specs.Front.{name_at};
 ghost use Rattle.cir_expression.specs.Answers.{kinds, Reads, Takes, Passes};
 ghost use Rattle.cir_parse.specs.Answers.{seen_item};
-ghost use Rattle.cir_parse.specs.Front.{after, closed, made, separated, number_at, words_at};
+ghost use Rattle.cir_simple_statement.specs.Front.{after, closed, made, separated, number_at};
+ghost use Rattle.cir_simple_statement.specs.Front.{words_at};
 ghost use Rattle.cir_parse.specs.Reading.{parameters, language_at, pragma, template, function};
 ghost use Rattle.cir_parse.specs.Reading.{public_names, instance, main, item};
 
-use crate::declarations::names;
 use crate::marks::Marks;
 use crate::statements::{block, words};
 use cir_ast::marked::{
@@ -18,6 +18,7 @@ use cir_ast::marked::{
 };
 use cir_ast::{Blank, Text};
 use cir_expression::{Reader, Stop};
+use cir_simple_statement::names;
 use cir_token::{Reserved, Symbol, TokenKind};
 use items::Items;
 use std::alloc::Global;

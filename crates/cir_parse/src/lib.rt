@@ -1,8 +1,6 @@
 //! From tokens to the tree that prints them.
 #![tactic(auto)]
 
-mod assignments;
-mod declarations;
 mod fault;
 mod item;
 pub mod laws;
@@ -11,7 +9,6 @@ mod making;
 mod marks;
 mod parsing;
 mod statements;
-mod targets;
 
 pub use fault::{MAX_HEIGHT, ParseFault};
 pub use marks::{Marks, Nothing, Spots};

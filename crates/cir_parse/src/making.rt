@@ -2,7 +2,8 @@
 ghost use Rattle.std.specs.Prelude.{◌≡◌, ◌++◌, ◌∷◌, [], map, IfOk, OnOk};
 ghost use Rattle.cir_ast.specs.Tree.{as_statements, Block, If, IfElse, While, For};
 ghost use Rattle.cir_expression.specs.Answers.{seen};
-ghost use Rattle.cir_parse.specs.Answers.{seen_first, seen_assign, seen_statement};
+ghost use Rattle.cir_simple_statement.specs.Answers.{seen_assign};
+ghost use Rattle.cir_parse.specs.Answers.{seen_first, seen_statement};
 
 use cir_ast::marked::{Expr, First, Statement, StatementForm, Step};
 use items::Items;

@@ -1,25 +1,25 @@
 //! Statements and blocks, as functions that read on.
-ghost use Rattle.std.specs.Prelude.{◌<◌, ◌^◌, ◌+◌, [], length, map};
+ghost use Rattle.std.specs.Prelude.{◌<◌, ◌^◌, ◌+◌, [], map};
 ghost use Rattle.cir_ast.specs.Tree.{Block, as_statements};
 ghost use Rattle.cir_expression.specs.Answers.{kinds, Reads, seen};
 ghost use Rattle.cir_token.specs.declared.token.Symbol.TheVariants.{Semicolon, OpenParenthesis};
 ghost use Rattle.cir_token.specs.declared.token.Symbol.TheVariants.{CloseParenthesis};
 ghost use Rattle.cir_expression.specs.Reading.{expression};
-ghost use Rattle.cir_parse.specs.Front.{after, closed, made, separated, optional, enclosed};
-ghost use Rattle.cir_parse.specs.Front.{words_at};
-ghost use Rattle.cir_parse.specs.Reading.{assign, first, condition, marked_by, head, argument};
-ghost use Rattle.cir_parse.specs.Reading.{returned, asserted, logged, simply, plain, statement};
-ghost use Rattle.cir_parse.specs.Reading.{if_by, else_by, while_by, for_by, rest_by, block};
-ghost use Rattle.cir_parse.specs.Answers.{seen_assign, seen_first, seen_argument, seen_head};
-ghost use Rattle.cir_parse.specs.Answers.{seen_statement};
+ghost use Rattle.cir_simple_statement.specs.Front.{after, closed, made, separated, optional};
+ghost use Rattle.cir_simple_statement.specs.Front.{enclosed, words_at};
+ghost use Rattle.cir_simple_statement.specs.Reading.{assign};
+ghost use Rattle.cir_parse.specs.Reading.{first, condition, marked_by, head, argument, returned};
+ghost use Rattle.cir_parse.specs.Reading.{asserted, logged, simply, plain, statement, if_by};
+ghost use Rattle.cir_parse.specs.Reading.{else_by, while_by, for_by, rest_by, block};
+ghost use Rattle.cir_simple_statement.specs.Answers.{seen_assign};
+ghost use Rattle.cir_parse.specs.Answers.{seen_first, seen_argument, seen_head, seen_statement};
 
-use crate::assignments::{assign, simple};
-use crate::declarations::variables;
 use crate::making::{Chosen, Head, add, block_of, for_of, if_else_of, if_of, while_of};
 use crate::marks::Marks;
 use cir_ast::marked::{Expr, First, FirstForm, LogArgument, Statement, StatementForm, Step, Vars};
 use cir_ast::{Blank, Text};
 use cir_expression::{Reader, Stop};
+use cir_simple_statement::{assign, simple, variables};
 use cir_token::{Reserved, Symbol, TokenKind};
 use items::Items;
 use std::alloc::Global;

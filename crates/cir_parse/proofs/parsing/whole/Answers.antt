@@ -13,7 +13,7 @@ use Rattle.cir_parse.specs.Limits.{most_height}
 use Rattle.cir_parse.specs.Marking.{marked_file}
 use Rattle.cir_parse.specs.Reading.{item}
 use Rattle.cir_parse.proofs.Files.{IsSoFar, ended, one_more, shorter, refuses}
-use Rattle.cir_parse.proofs.Seen.{seen_map}
+use Rattle.cir_simple_statement.proofs.Seen.{seen_map}
 use Rattle.cir_parse.proofs.parsing.whole.Goals as goal
 
 -- a tree that its marks leave as it is

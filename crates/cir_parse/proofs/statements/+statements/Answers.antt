@@ -4,8 +4,9 @@ use Rattle.std.specs.Prelude.{map}
 use Rattle.cir_parse.specs.Answers.{seen_statement}
 use Rattle.cir_expression.specs.Answers.{kinds}
 use Rattle.cir_parse.specs.Reading.{statement}
-use Rattle.cir_parse.proofs.Steps.{exits, begun_block, no_more_statements, no_statement}
-use Rattle.cir_parse.proofs.Steps.{no_statement_left, one_statement, if_is}
+use Rattle.cir_simple_statement.proofs.Steps.{exits}
+use Rattle.cir_parse.proofs.Steps.{begun_block, no_more_statements, no_statement, no_statement_left}
+use Rattle.cir_parse.proofs.Steps.{one_statement, if_is}
 use Rattle.cir_parse.proofs.statements.+statements.Goals as goal
 
 pub rest_of_block-returns-then-begins : goal.rest_of_block-returns-then-begins

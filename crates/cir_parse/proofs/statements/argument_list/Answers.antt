@@ -5,7 +5,8 @@ use Rattle.cir_parse.specs.Answers.{seen_argument}
 use Rattle.cir_parse.specs.Reading.{argument}
 use Rattle.cir_expression.specs.Answers.{kinds}
 use Rattle.cir_parse.proofs.statements.argument_list.Goals as goal
-use Rattle.cir_parse.proofs.Steps.{exits, no_element, last_element, more_elements, begun_list}
+use Rattle.cir_simple_statement.proofs.Steps.{exits, no_element, last_element, more_elements}
+use Rattle.cir_simple_statement.proofs.Steps.{begun_list}
 
 pub loop-init : goal.loop-init
 loop-init g c =

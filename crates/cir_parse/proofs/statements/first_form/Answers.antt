@@ -1,9 +1,10 @@
 use Rattle.std.proofs.Common.{refl, sym, ap, ◌∙◌}
 use Rattle.cir_ast.specs.Tree.{bare_variable}
 use Rattle.cir_ast.specs.Plain.{plain_variable}
-use Rattle.cir_parse.specs.Front.{separated}
-use Rattle.cir_parse.specs.Reading.{variable, first}
-use Rattle.cir_parse.proofs.Seen.{seen_map}
+use Rattle.cir_simple_statement.specs.Front.{separated}
+use Rattle.cir_simple_statement.specs.Reading.{variable}
+use Rattle.cir_parse.specs.Reading.{first}
+use Rattle.cir_simple_statement.proofs.Seen.{seen_map}
 use Rattle.cir_parse.proofs.statements.first_form.Goals as goal
 
 pub returns-in_ok-variables : goal.returns-in_ok-variables

@@ -1,7 +1,7 @@
 use Rattle.std.proofs.Common.{refl}
 use Rattle.cir_ast.specs.Tree.{bare_argument}
 use Rattle.cir_ast.specs.Plain.{plain_argument}
-use Rattle.cir_parse.proofs.Seen.{seen_map}
+use Rattle.cir_simple_statement.proofs.Seen.{seen_map}
 use Rattle.cir_parse.proofs.statements.logged.Goals as goal
 
 pub returns : goal.returns

@@ -1,0 +1,8 @@
+pub mod Declared
+pub mod Parts
+pub mod Seen
+pub mod Steps
+pub mod Tuples
+pub mod Undone
+pub mod Unwritten
+pub mod Written

@@ -1,0 +1,40 @@
+use Rattle.std.proofs.Common.{◌+◌, ◌-◌, ◌∙◌, sym, length, arith}
+use Rattle.std.proofs.lemmas.List.{map-append}
+use Rattle.std.specs.Prelude.{map}
+use Rattle.cir_simple_statement.specs.Answers.{seen_variable}
+use Rattle.cir_simple_statement.specs.Reading.{variable}
+use Rattle.cir_expression.specs.Answers.{kinds}
+use Rattle.cir_simple_statement.proofs.declarations.variables.Goals as goal
+use Rattle.cir_simple_statement.proofs.Steps.{exits, no_element, last_element, more_elements}
+use Rattle.cir_simple_statement.proofs.Steps.{begun_list, no_element_left}
+
+pub loop-init : goal.loop-init
+loop-init g c =
+    rw c.new-variables.ensures.items (begun_list (variable c.args.room) c.args.reader.now.rest.now)
+
+pub returns-in_err-variable : goal.returns-in_err-variable
+returns-in_err-variable g c =
+    exits _ _ _ _ _ c.from_residual.ensures.1
+    (no_element _ (length c.args.reader.now.rest.now - c.loop.counter) (variable c.args.room)
+    (map seen_variable c.loop.variables.items) (kinds c.loop.reader.rest.now) _
+    (omega arith) c.loop.invariant c.in_err-variable.ensures)
+
+pub returns-then-not-begins : goal.returns-then-not-begins
+returns-then-not-begins g c = rw (c.in_ok-push.ensures.items, map-append)
+    (last_element (length c.args.reader.now.rest.now - c.loop.counter) (variable c.args.room)
+    (map seen_variable c.loop.variables.items) (kinds c.loop.reader.rest.now) _ _ _
+    (omega arith) c.loop.invariant
+    c.in_ok-variable.ensures (sym c.begins.ensures ∙ c.if-not-begins.true))
+
+pub loop-preserved : goal.loop-preserved
+loop-preserved g c = rw (c.in_ok-push.ensures.items, map-append, c.skip.ensures)
+    (more_elements (length c.args.reader.now.rest.now - c.loop.counter)
+    (length c.args.reader.now.rest.now - (c.loop.counter + 1)) (variable c.args.room)
+    (map seen_variable c.loop.variables.items) (kinds c.loop.reader.rest.now) _ _ _
+    (omega arith) (omega arith) c.loop.invariant
+    c.in_ok-variable.ensures (sym c.begins.ensures ∙ c.if-not-begins.false))
+
+pub returns : goal.returns
+returns g c = c.loop.invariant
+    ∙ no_element_left (length c.args.reader.now.rest.now - c.loop.counter)
+    (variable c.args.room) _ _ (omega arith)

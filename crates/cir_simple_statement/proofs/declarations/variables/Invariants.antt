@@ -1,0 +1,13 @@
+use Rattle.std.proofs.Common.{◌≡◌, ◌-◌, length}
+use Rattle.std.specs.Prelude.{map}
+use Rattle.cir_simple_statement.specs.Answers.{seen_variable}
+use Rattle.cir_simple_statement.specs.Reading.{variable}
+use Rattle.cir_expression.specs.Answers.{kinds}
+use Rattle.cir_simple_statement.specs.Front.{separated, separated_by}
+use Rattle.cir_simple_statement.proofs.declarations.variables.Given as goal
+
+abbrev pub invariant-loop : goal.invariant-loop
+invariant-loop g l =
+    separated (variable l.room) (kinds l.fn.reader.rest.now)
+    ≡ separated_by (length l.fn.reader.rest.now - l.counter) (variable l.room)
+    (map seen_variable l.variables.items) (kinds l.reader.rest.now)
