@@ -9,6 +9,3 @@ mod program;
 pub use circom_files::check_laws;
 pub use laws::one_reply;
 pub use program::{run, run_in_memory};
-
-#[cfg(test)]
-mod tests;

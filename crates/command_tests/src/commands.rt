@@ -1,5 +1,5 @@
 // The program's answers on files made by hand: the circuit c = a * b, with the wires 1, c, a and b.
-use super::run;
+use circom_gold::run;
 use out_io::{MemSink, MemStore};
 use std::alloc::Global;
 use std::test::Fail;
@@ -55,6 +55,18 @@ fn store(alloc: Global, r1cs: &[u8], values: &[u8]) -> Result<MemStore, Fail> {
     Ok(store)
 }
 
+// The exit status of the words over the store.
+fn status_of<R: Threads + AllocGlobal + Sync>(
+    rt: &R,
+    alloc: Global,
+    words: &[String],
+    store: &mut MemStore,
+    out: &mut MemSink,
+) -> Result<u8, Fail> {
+    let status = run(rt, alloc, words, store, out)?;
+    Ok(status)
+}
+
 #[test]
 fn check_answers_by_count_then_wire_0_then_constraints(rt: HostRuntime) -> Result<(), Fail> {
     let alloc = rt.alloc();
@@ -90,7 +102,7 @@ fn check_answers_by_count_then_wire_0_then_constraints(rt: HostRuntime) -> Resul
         let mut store = store(alloc, r1cs, values)?;
         let mut out = MemSink::new(alloc);
         assert_eq!(rt;
-            run(&rt, alloc, words.as_slice(), &mut store, &mut out)?,
+            status_of(&rt, alloc, words.as_slice(), &mut store, &mut out)?,
             status,
             "{line}"
         );
@@ -106,7 +118,10 @@ fn names_a_file_that_is_not_there(rt: HostRuntime) -> Result<(), Fail> {
     let mut store = store(alloc, &R1CS, &[1, 33, 3, 11])?;
     let mut out = MemSink::new(alloc);
     let words = split(alloc, "check no.r1cs m.wtns")?;
-    assert_eq!(rt; run(&rt, alloc, words.as_slice(), &mut store, &mut out)?, 1);
+    assert_eq!(rt;
+        status_of(&rt, alloc, words.as_slice(), &mut store, &mut out)?,
+        1
+    );
     assert_eq!(rt;
         out.bytes.as_slice(),
         b"refused: no.r1cs: no such file\n".as_slice()
@@ -136,7 +151,7 @@ fn run_words<R: Threads + AllocGlobal + Sync>(
     if sink_fails {
         out.fail.push(0)?;
     }
-    let status = run(rt, alloc, words.as_slice(), store, &mut out)?;
+    let status = status_of(rt, alloc, words.as_slice(), store, &mut out)?;
     Ok(Ran {
         status,
         text: out.bytes,
@@ -245,7 +260,7 @@ fn words_without_a_reading_get_the_usage_line(rt: HostRuntime) -> Result<(), Fai
         let mut store = store(alloc, &R1CS, &[1, 33, 3, 11])?;
         let mut out = MemSink::new(alloc);
         assert_eq!(rt;
-            run(&rt, alloc, words.as_slice(), &mut store, &mut out)?,
+            status_of(&rt, alloc, words.as_slice(), &mut store, &mut out)?,
             64
         );
         assert_eq!(rt; out.bytes.as_slice(), usage.as_bytes());
@@ -291,7 +306,10 @@ fn compile_writes_a_file_that_check_accepts(rt: HostRuntime) -> Result<(), Fail>
     let mut store = source_store(alloc, PRODUCT)?;
     let mut out = MemSink::new(alloc);
     let words = split(alloc, "compile t.circom m.r1cs")?;
-    assert_eq!(rt; run(&rt, alloc, words.as_slice(), &mut store, &mut out)?, 0);
+    assert_eq!(rt;
+        status_of(&rt, alloc, words.as_slice(), &mut store, &mut out)?,
+        0
+    );
     assert_eq!(rt;
         out.bytes.as_slice(),
         b"compiled: wires 4, constraints 1\n".as_slice()
@@ -303,7 +321,10 @@ fn compile_writes_a_file_that_check_accepts(rt: HostRuntime) -> Result<(), Fail>
     )?;
     let mut out = MemSink::new(alloc);
     let words = split(alloc, "check m.r1cs m.wtns")?;
-    assert_eq!(rt; run(&rt, alloc, words.as_slice(), &mut store, &mut out)?, 0);
+    assert_eq!(rt;
+        status_of(&rt, alloc, words.as_slice(), &mut store, &mut out)?,
+        0
+    );
     assert_eq!(rt; out.bytes.as_slice(), b"satisfied\n".as_slice());
     Ok(())
 }
@@ -317,7 +338,7 @@ fn line_of<R: Threads + AllocGlobal + Sync>(
     let words = split(alloc, "compile t.circom m.r1cs")?;
     let mut store = source_store(alloc, source)?;
     let mut out = MemSink::new(alloc);
-    let status = run(rt, alloc, words.as_slice(), &mut store, &mut out)?;
+    let status = status_of(rt, alloc, words.as_slice(), &mut store, &mut out)?;
     let refused = out.bytes.as_slice().starts_with(b"refused: ");
     if (status == 1) != refused || out.calls != 1 {
         return Err(Fail::new("the status and the line disagree"));
@@ -446,7 +467,7 @@ fn line_over<R: Threads + AllocGlobal + Sync>(
     }
     let mut out = MemSink::new(alloc);
     let words = split(alloc, words)?;
-    run(rt, alloc, words.as_slice(), &mut store, &mut out)?;
+    status_of(rt, alloc, words.as_slice(), &mut store, &mut out)?;
     Ok(out.bytes)
 }
 
