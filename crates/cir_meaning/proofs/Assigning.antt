@@ -11,7 +11,7 @@ use Rattle.cir_meaning.specs.Places.{all_known, places_of}
 use Rattle.cir_meaning.specs.Arrays.{Datum, Scalar, Whole, reach, single, same_dims, put_items}
 use Rattle.cir_meaning.specs.Values.{Value, Known, Opaque, known_number}
 use Rattle.cir_meaning.specs.Frame.{State, Context, variable_at}
-use Rattle.cir_meaning.specs.SignalFree.{AreCallsMeant, AreIndicesMeant}
+use Rattle.cir_meaning.specs.Scoped.{Scope, AreIndicesMeant, IsSetMeant}
 use Rattle.cir_meaning.specs.Evaluate.{value_in, indices_in}
 use Rattle.cir_meaning.specs.Writing.{VariableAssignment, variable_assignment, written_datum}
 use Rattle.cir_meaning.specs.RunValues.{Numbers, Ran, Environment, Store, stored, number_in, index_numbers, bounded, gives}
@@ -44,14 +44,15 @@ module _ (E : Assignment → Type 0) where
       rows_put ps vs (slice_set old p v) ns (slice_set olds p n) h.1 (rows_set old olds p v n g h.0)
 
   -- whatever the numbers are, an opaque value has them
-  rows_forgotten : (old : List Value) (olds : List ℕ) → length olds ≡ length old
+  pub rows_forgotten : (old : List Value) (olds : List ℕ) → length olds ≡ length old
       → Rows E (map (λ v. Opaque) old) olds
   rows_forgotten [] [] e = tt
   rows_forgotten [] (n ∷ ns) e = cc
   rows_forgotten (v ∷ vs) [] e = cc
   rows_forgotten (v ∷ vs) (n ∷ ns) e = (tt, rows_forgotten vs ns (cc))
 
-  put_count : (places : List ℕ) (ns olds : List ℕ) → length (put_items places ns olds) ≡ length olds
+  pub put_count : (places : List ℕ) (ns olds : List ℕ) → length (put_items places ns olds)
+      ≡ length olds
   put_count [] ns olds = refl
   put_count (p ∷ ps) [] olds = refl
   put_count (p ∷ ps) (n ∷ ns) olds = put_count ps ns (slice_set olds p n) ∙ set_count olds p n
@@ -79,13 +80,13 @@ module _ (E : Assignment → Type 0) where
   )
 
 module _ (E : Assignment → Type 0) (k : Context) (fine : FineContext k) (w : Where)
-    (functions : ℕ) (f : State) (env : Environment) (store : Store)
-    (fit : Fitting E k w functions f env store) where
+    (scope : Scope) (f : State) (env : Environment) (store : Store)
+    (fit : Fitting E k w scope f env store) where
   -- indices, with what comes behind them
   pub indices_pair : {A B : Type 0} (R : A → B × ℕ → Type 0) (shaded : Bool)
       (os : List (Option ℕ)) (ns : List ℕ) (accessors : Accessors Meant) (s : State) (u : ℕ)
       (go : List (Option ℕ) → Accessors Meant → State → Tried A) (on : List ℕ → ℕ → Ran B)
-      → AreIndicesMeant functions accessors → IndicesSame os ns → Ready E k fine f s
+      → AreIndicesMeant scope accessors → IndicesSame os ns → Ready E k fine f s
       → ((os : List (Option ℕ)) (ns : List ℕ) (rest : Accessors Meant) (s : State) (u : ℕ) →
       IndicesSame os ns → Ready E k fine f s → Pair R (go os rest s) (on ns u))
       → Pair R (indices_in k w shaded os accessors s go) (index_numbers env store ns accessors u on)
@@ -96,7 +97,7 @@ module _ (E : Assignment → Type 0) (k : Context) (fine : FineContext k) (w : W
       number_pair E k fine f R (value_in k w shaded Scalar e s) (number_in env store e u) _ _
       (pair_good FineAnswer (Answers E f) (value_in k w shaded Scalar e s) (number_in env store e u)
       (value_fine k fine w shaded Scalar e s l.1)
-      (value_pair E k fine w functions f env store fit shaded Scalar e s u t.0 l))
+      (value_pair E k fine w scope f env store fit shaded Scalar e s u t.0 l))
       (λ x s1 n u1 i m l1. indices_pair R shaded (os ++ known_number x ∷ []) (ns ++ n ∷ []) rest
       s1 u1 go on t.1
       (indices_more os ns (known_number x) n h (index_same E x n m)) l1 g)
@@ -110,23 +111,23 @@ module _ (E : Assignment → Type 0) (k : Context) (fine : FineContext k) (w : W
 
   pub assignment_pair : (n : ℕ) (accessors : Accessors Meant) (e : Expr Meant)
       (s : State) (u : ℕ)
-      → AreIndicesMeant functions accessors → AreCallsMeant functions e → Ready E k fine f s
+      → IsSetMeant scope (meant.Variable n) accessors e → Ready E k fine f s
       → Pair (λ a y. Writes n a y.0) (variable_assignment k w n accessors e s)
       (step_set env (meant.Variable n) accessors e store u)
-  assignment_pair n accessors e s u ti te l =
+  assignment_pair n accessors e s u is l =
       pair_next (Whole' E k fine f) (λ a y. Writes n a y.0) (value_in k w false Whole e s)
       (number_in env store e u) _ _
       (pair_good FineAnswer (Answers E f) (value_in k w false Whole e s) (number_in env store e u)
       (value_fine k fine w false Whole e s l.1)
-      (value_pair E k fine w functions f env store fit false Whole e s u te l))
-      (λ x y p. indices_pair (λ a z. Writes n a z.0) false [] [] accessors x.1 y.1 _ _ ti tt
+      (value_pair E k fine w scope f env store fit false Whole e s u is.2 l))
+      (λ x y p. indices_pair (λ a z. Writes n a z.0) false [] [] accessors x.1 y.1 _ _ is.1 tt
       (p.1.1, p.0.1) (λ os ns rest s2 u2 h l2.
       at x y os ns s2 u2 p.1.0 h l2))
     where
       old_numbers : (s2 : State) → Like f s2 → Same E (variable_at s2.frame n) (stored store n)
       old_numbers s2 like =
           subst (λ vs. Same E (unwrap_or (slice_get vs n) (single (Known 0))) (stored store n))
-          (sym like.0) (fit.variables n)
+          (sym like.0) (fit.variables n is.0)
 
       old_is : (s2 : State) → Like f s2 → variable_at s2.frame n ≡ variable_at f.frame n
       old_is s2 like = ap (λ vs. unwrap_or (slice_get vs n) (single (Known 0))) like.0
@@ -186,6 +187,6 @@ module _ (E : Assignment → Type 0) (k : Context) (fine : FineContext k) (w : W
                 (places_of (variable_at s2.frame n).dims (map Some ns)) (variable_at f.frame n) x.0
                 (stored store n) y.0
                 (λ sure. ap (λ is. places_of (variable_at s2.frame n).dims is)
-                (all_same os ns h sure)) (fit.variables n) same);
+                (all_same os ns h sure)) (fit.variables n is.0) same);
             ready = l2;
           })))

@@ -4,6 +4,7 @@ use Rattle.std.specs.Prelude.{◌==◌}
 use Rattle.cir_ast.specs.declared.program.Spot.{Spot}
 use Rattle.cir_ast.specs.declared.program.Meant.{Meant}
 use Rattle.cir_ast.specs.Tree.{Expr}
+use Rattle.cir_meaning.specs.Scoped.{Scope}
 use Rattle.cir_meaning.specs.Tried.{Tried, next}
 use Rattle.cir_meaning.specs.Arrays.{Scalar, the_item}
 use Rattle.cir_meaning.specs.Values.{Value, Known, Linear, Quadratic, Opaque}
@@ -22,14 +23,14 @@ use Rattle.cir_meaning.proofs.Standing.{Stands}
 use Rattle.cir_meaning.proofs.VariableRuns.{Soundly, After}
 use Rattle.cir_meaning.proofs.StepRuns.{stands_like, settle_like, counted_goes}
 
-module _ (make : Option Maker) (given : Wires) (start : World) (functions : ℕ) (q : Running)
-    (sound : Soundly functions q) where
+module _ (make : Option Maker) (given : Wires) (start : World) (scope : Scope) (q : Running)
+    (sound : Soundly scope q) where
   abbrev Then : State → Run → Type 0
-  Then = After make given start functions q sound
+  Then = After make given start scope q sound
 
   -- a statement of a template goes on
   abbrev pub AfterFlow : Flow → Run → Type 0
-  AfterFlow (Going s) r = After make given start functions q sound s r
+  AfterFlow (Going s) r = After make given start scope q sound s r
   AfterFlow (Returned d world) r = ⊥
 
   abbrev pub Flows : (State → Tried Flow) → (Run → RunTried Run) → Type 0
@@ -58,7 +59,7 @@ module _ (make : Option Maker) (given : Wires) (start : World) (functions : ℕ)
   going_flow (Returned d world) r go on p f = absurd p
 
   -- a condition changes nothing but what is counted
-  condition_like : (spot : Spot) (c : Expr Meant) (s : State)
+  pub condition_like : (spot : Spot) (c : Expr Meant) (s : State)
       → OnGood (λ x. Like s x.1) (condition q.context spot c s)
   condition_like spot c s =
       good_next (λ x. Like s x.1) (λ x. Like s x.1)
@@ -69,7 +70,7 @@ module _ (make : Option Maker) (given : Wires) (start : World) (functions : ℕ)
       (settle_like s (at q.context spot) x.1 l)
       (λ t g. good_ok (λ y. Like s y.1) (the_item x.0, t) g))
 
-  condition_stands : (spot : Spot) (c : Expr Meant) (r : Run) → Stands make given start None r
+  pub condition_stands : (spot : Spot) (c : Expr Meant) (r : Run) → Stands make given start None r
       → (x : Value × State) → condition q.context spot c r.known ≡ Ok x
       → Stands make given start None (with_known x.1 r)
   condition_stands spot c r h x e =
@@ -104,7 +105,7 @@ module _ (make : Option Maker) (given : Wires) (start : World) (functions : ℕ)
       → Flows (branch q.context spot c f t u) (run_branch q spot c g i j)
   branch_flow spot c f t u g i j hf ht hu r h =
       then_flow (counted (at q.context spot) r.known) (run_counted q spot r) _ _
-      (counted_goes make given start functions q sound spot r h)
+      (counted_goes make given start scope q sound spot r h)
       (condition_flow spot c f t u g i j hf ht hu)
 
   -- turns
@@ -122,7 +123,7 @@ module _ (make : Option Maker) (given : Wires) (start : World) (functions : ℕ)
       (run_turns n q spot c run_body run_unknown))) run_unknown
       (λ r1 h1. goes_ok AfterFlow (Going r1.known) r1 (refl, h1)) (λ r1 h1.
       then_flow (counted (at q.context spot) r1.known) (run_counted q spot r1) _ _
-      (counted_goes make given start functions q sound spot r1 h1) (λ r2 h2.
+      (counted_goes make given start scope q sound spot r1 h1) (λ r2 h2.
       goes_next AfterFlow AfterFlow (body r2.known) (run_body r2) _ _ (hb r2 h2)
       (λ f r3 p. going_flow f r3 (turns n q.context spot c body unknown)
       (run_turns n q spot c run_body run_unknown) p

@@ -4,6 +4,7 @@ use Rattle.std.specs.List.{AllByRecursion}
 use Rattle.cir_ast.specs.declared.program.Meant.{Meant}
 use Rattle.cir_ast.specs.Tree.{Expr, Accessors}
 use Rattle.cir_lc.specs.Number.{Assignment}
+use Rattle.cir_meaning.specs.Scoped.{Scope}
 use Rattle.cir_meaning.specs.Tried.{Where, next}
 use Rattle.cir_meaning.specs.Source.{IsEqualAt}
 use Rattle.cir_meaning.specs.Frame.{Part, World, State, Maker, variable_at, in_frame}
@@ -15,6 +16,7 @@ use Rattle.cir_meaning.proofs.Good.{good_is}
 use Rattle.cir_meaning.proofs.Likes.{Like, like_itself}
 use Rattle.cir_meaning.proofs.FineValues.{Fine}
 use Rattle.cir_meaning.proofs.FineWriting.{FineCreation, creation_fine, create_fine}
+use Rattle.cir_meaning.proofs.KnownValues.{KnownStore}
 use Rattle.cir_meaning.proofs.Holds.{Extends}
 use Rattle.cir_meaning.proofs.Goes.{Goes, goes_ok, goes_same, goes_refusing}
 use Rattle.cir_meaning.proofs.Standing.{PartStands, Stands, Adds, Debts, Pays, made_of, world_of, is_done, changed}
@@ -23,15 +25,16 @@ use Rattle.cir_meaning.proofs.PartWrites.{other_done, itself_late}
 use Rattle.cir_meaning.proofs.VariableRuns.{Soundly, like_changed, After}
 use Rattle.cir_meaning.proofs.StepRuns.{stands_like}
 use Rattle.cir_meaning.proofs.Starting.{BodiesRun, started_goes}
-use Rattle.cir_meaning.proofs.Creating.{get_more, get_last, get_either, get_below, one_longer, opened_shapes, opened_shapes_back, opened_marks, creation_like, Created, create_at_is}
+use Rattle.cir_meaning.proofs.Creating.{get_more, get_last, get_either, get_below, one_longer, opened_shapes, opened_shapes_back, opened_marks, creation_like, creation_known, Created, create_at_is}
 
-module _ (given : Wires) (start : World) (functions : ℕ) (q : Running)
-    (sound : Soundly functions q) (bodies : BodiesRun q.context.make q.body) where
+module _ (given : Wires) (start : World) (scope : Scope) (q : Running)
+    (sound : Soundly scope q) (bodies : BodiesRun q.context.make q.body) where
   abbrev Then : State → Run → Type 0
-  Then = After q.context.make given start functions q sound
+  Then = After q.context.make given start scope q sound
 
   module _ (w : Where) (r : Run) (h : Stands q.context.make given start None r) (c : Creation)
-      (place : ℕ) (like : Like r.known c.state) (s : State) (fine : Fine s)
+      (place : ℕ) (like : Like r.known c.state) (known : KnownStore c.arguments)
+      (finely : FineCreation c) (s : State) (fine : Fine s)
       (made : Created q.context w c place s) where
     abbrev part : Part
     part = record {
@@ -73,6 +76,7 @@ module _ (given : Wires) (start : World) (functions : ℕ) (q : Running)
       signals = made.signals;
       after = made.world;
       made = made_is;
+      begins = (known, finely.0, finely.1.1);
       shapes = opened_shapes made.signals;
       shapes_back = opened_shapes_back made.signals;
       inputs = opened_marks made.signals;
@@ -157,7 +161,7 @@ module _ (given : Wires) (start : World) (functions : ℕ) (q : Running)
         }))) (sym as_state)
         (subst (λ o. Goes Then (Ok state) (started q (length r.parts) false o after))
         (sym last_part)
-        (started_goes q.context.make given start functions q sound bodies after (length r.parts)
+        (started_goes q.context.make given start scope q sound bodies after (length r.parts)
         part new_run false last_part (get_last r.parts new_run) after_stands))
 
   pub create_goes : (w : Where) (n : ℕ) (accessors : Accessors Meant) (e : Expr Meant) (r : Run)
@@ -167,24 +171,30 @@ module _ (given : Wires) (start : World) (functions : ℕ) (q : Running)
   create_goes w n accessors e r h =
       goes_same Then (creation q.context w n accessors e r.known) (create q.context w) _ (λ c ec.
       goes_refusing Then (create q.context w c) _ (λ s es.
-      by_places c (good_is (λ x. Like r.known x.state)
+      by_places c (good_is (λ x. KnownStore x.arguments)
+      (creation q.context w n accessors e r.known) c ec
+      (creation_known q.context w n accessors e r.known))
+      (good_is FineCreation (creation q.context w n accessors e r.known) c ec
+      (creation_fine q.context sound.fine w n accessors e r.known h.fine))
+      (good_is (λ x. Like r.known x.state)
       (creation q.context w n accessors e r.known) c ec
       (creation_like q.context sound.keeps r.known w n accessors e r.known (like_itself r.known)))
       s (good_is Fine (create q.context w c) s es (create_fine q.context sound.fine w c
       (good_is FineCreation (creation q.context w n accessors e r.known) c ec
       (creation_fine q.context sound.fine w n accessors e r.known h.fine)))) c.places es))
     where
-      by_places : (c : Creation) → Like r.known c.state → (s : State) → Fine s
+      by_places : (c : Creation) → KnownStore c.arguments → FineCreation c
+          → Like r.known c.state → (s : State) → Fine s
           → (places : List ℕ) → create_each q.context w c places ≡ Ok s
           → Goes Then (Ok s) (run_created q w c places s r)
-      by_places c like s fine [] es =
+      by_places c known finely like s fine [] es =
           let same : c.state ≡ s = cc in
           goes_ok Then s (with_known s r) (
             refl,
             stands_like q.context.make given start None r s h
                 (subst (λ t. Like r.known t) same like) fine,
           )
-      by_places c like s fine (place ∷ places) es =
-          created_goes w r h c place like s fine
+      by_places c known finely like s fine (place ∷ places) es =
+          created_goes w r h c place like known finely s fine
           (good_is (Created q.context w c place) (create_at q.context w c place) s es
           (create_at_is q.context w c place))

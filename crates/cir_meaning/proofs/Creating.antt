@@ -1,18 +1,21 @@
 -- The creation of a component in a run.
-use Rattle.std.proofs.Common.{◌≡◌, ◌≢◌, ◌⊎◌, inl, inr, ℕ, zero, suc, Bool, true, false, cond, List, [], ◌∷◌, ◌++◌, length, replicate, Some, None, is_none, Ok, refl, sym, ap, subst, slice_get, arith}
+use Rattle.std.proofs.Common.{◌≡◌, ◌≢◌, ◌⊎◌, inl, inr, ℕ, zero, suc, Bool, true, false, cond, List, [], ◌∷◌, ◌++◌, length, replicate, Option, Some, None, is_none, Ok, refl, sym, ap, subst, slice_get, arith}
 use Rattle.cir_ast.specs.declared.program.Meant.{Meant}
 use Rattle.cir_ast.specs.declared.program.Meant.TheVariants as meant
 use Rattle.cir_ast.specs.declared.refusal.Form.TheVariants.{MixedComponents}
 use Rattle.cir_ast.specs.declared.refusal.Kind.TheVariants.{UnknownIndex, ReadBeforeWrite, SecondWrite, TooDeep, NotInProfile}
-use Rattle.cir_ast.specs.Tree.{Expr, Number, Place, Call, Anonymous, Parentheses, Array, Unary, Binary, Choice, Exprs, none, more, Accessors}
+use Rattle.cir_ast.specs.Tree.{Expr, Number, Place, Call, Anonymous, Parentheses, Array, Unary, Binary, Choice, Exprs, none, more, Accessors, done, index, member}
 use Rattle.cir_meaning.specs.Tried.{Where, Tried, found}
 use Rattle.cir_meaning.specs.Places.{all_known}
-use Rattle.cir_meaning.specs.Arrays.{Scalar, Whole, reach, is_all_known}
+use Rattle.cir_meaning.specs.Arrays.{Datum, Scalar, Whole, reach, is_known, is_all_known, the_item}
 use Rattle.cir_meaning.specs.Frame.{SignalEntry, Signals, World, State, Context, Maker, entry_at, is_input, in_frame}
-use Rattle.cir_meaning.specs.Evaluate.{value_in, arguments_in}
+use Rattle.cir_meaning.specs.Values.{known_number}
+use Rattle.cir_meaning.specs.Evaluate.{value_in, arguments_in, indices_in}
 use Rattle.cir_meaning.specs.Declaring.{template_of, may_be, opened, add_part, path_of, Creation, template_call, creation, create_at}
-use Rattle.cir_meaning.proofs.Good.{OnGood, good_ok, good_bad, good_next, good_on, good_as, good_needed, good_found_as}
+use Rattle.cir_meaning.proofs.Good.{OnGood, good_ok, good_bad, good_next, good_on, good_as, good_needed, good_needed_as, good_found_as}
 use Rattle.cir_meaning.proofs.Likes.{CallKeeps, Like, value_like}
+use Rattle.cir_meaning.proofs.FineWriting.{template_call_good}
+use Rattle.cir_meaning.proofs.KnownValues.{KnownDatum, KnownStore, all_pass}
 use Rattle.cir_meaning.proofs.Marking.{MarksOf}
 use Rattle.cir_meaning.proofs.Standing.{SameEntry, SameShapes}
 use Rattle.cir_meaning.proofs.VariableRuns.{indices_like}
@@ -123,7 +126,7 @@ opened_marks xs n d h i k b at =
 
 -- what a creation evaluates changes nothing but what is counted
 module _ (k : Context) (keeps : CallKeeps k.call) (f : State) (w : Where) where
-  arguments_like : (es : Exprs Meant) (s : State) → Like f s
+  pub arguments_like : (es : Exprs Meant) (s : State) → Like f s
       → OnGood (λ x. Like f x.1) (arguments_in k w es s)
   arguments_like none s l = good_ok (λ x. Like f x.1) ([], s) l
   arguments_like (more e es) s l =
@@ -166,6 +169,45 @@ module _ (k : Context) (keeps : CallKeeps k.call) (f : State) (w : Where) where
       good_on CreationLike (found w UnknownIndex (all_known os)) _ (λ ns.
       good_on CreationLike (reach w false Scalar c.dims os) _
       (λ r. good_ok CreationLike _ l2))))))
+
+-- the arguments of a template are known
+known_of : (d : Datum) → is_all_known d ≡ true → KnownDatum d
+known_of d e = all_pass is_known d.items e
+
+pub arguments_known : (k : Context) (w : Where) (es : Exprs Meant) (s : State)
+    → OnGood (λ x. KnownStore x.0) (arguments_in k w es s)
+arguments_known k w none s = good_ok (λ x. KnownStore x.0) ([], s) tt
+arguments_known k w (more e es) s =
+    good_on (λ x. KnownStore x.0) (value_in k w false Whole e s) _ (λ x.
+    good_needed_as (λ y. KnownStore y.0) (is_all_known x.0) w UnknownIndex _ (λ t.
+    good_next (λ y. KnownStore y.0) (λ y. KnownStore y.0) (arguments_in k w es x.1) _
+    (arguments_known k w es x.1)
+    (λ y g. good_ok (λ z. KnownStore z.0) (x.0 ∷ y.0, y.1) (known_of x.0 t, g))))
+
+pub creation_known : (k : Context) (w : Where) (n : ℕ) (accessors : Accessors Meant)
+    (e : Expr Meant) (s : State)
+    → OnGood (λ c. KnownStore c.arguments) (creation k w n accessors e s)
+creation_known k w n accessors e s =
+    template_call_good (λ c. KnownStore c.arguments) w e _ (λ t arguments.
+    good_next (λ x. KnownStore x.0) (λ c. KnownStore c.arguments) (arguments_in k w arguments s) _
+    (arguments_known k w arguments s) (λ x g.
+    indices_any (λ c. KnownStore c.arguments) [] accessors x.1 _ (λ os rest s2.
+    good_on (λ c. KnownStore c.arguments) (found w ReadBeforeWrite (entry_at s2.frame.components n))
+    _ (λ c.
+    good_on (λ c. KnownStore c.arguments) (found w UnknownIndex (all_known os)) _ (λ ns.
+    good_on (λ c. KnownStore c.arguments) (reach w false Scalar c.dims os) _
+    (λ r. good_ok (λ c. KnownStore c.arguments) _ g))))))
+  where
+    indices_any : {A : Type 0} (Q : A → Type 0) (os : List (Option ℕ))
+        (accessors : Accessors Meant) (s : State)
+        (go : List (Option ℕ) → Accessors Meant → State → Tried A)
+        → ((os : List (Option ℕ)) (rest : Accessors Meant) (s : State) → OnGood Q (go os rest s))
+        → OnGood Q (indices_in k w false os accessors s go)
+    indices_any Q os done s go h = h os done s
+    indices_any Q os (member name rest) s go h = h os (member name rest) s
+    indices_any Q os (index e rest) s go h =
+        good_on Q (value_in k w false Scalar e s) _
+        (λ x. indices_any Q (os ++ known_number (the_item x.0) ∷ []) rest x.1 go h)
 
 -- a component that is created
 pub record Created (k : Context) (w : Where) (c : Creation) (place : ℕ) (s : State) : Type 0 where

@@ -8,7 +8,7 @@ use Rattle.cir_ast.specs.declared.program.Meant.{Meant}
 use Rattle.cir_ast.specs.Tree.{Expr, LogArgument, Words, LogValue}
 use Rattle.cir_lc.specs.Number.{Assignment}
 use Rattle.cir_meaning.specs.declared.class.Class.TheVariants as Class'
-use Rattle.cir_meaning.specs.SignalFree.{AreCallsMeant}
+use Rattle.cir_meaning.specs.Scoped.{Scope, AreCallsMeant, IsArgumentMeant}
 use Rattle.cir_meaning.specs.Tried.{Where, Tried, next}
 use Rattle.cir_meaning.specs.Arrays.{Scalar}
 use Rattle.cir_meaning.specs.Source.{Equation, IsEqualAt}
@@ -42,10 +42,6 @@ pair_done : {A B : Type 0} (m : Tried A) (b : B) → Pair (λ x y. ⊤) m (Ok b)
 unfolding Pair
 pair_done (Ok a) b = tt
 pair_done (Err e) b = tt
-
-abbrev pub IsArgument : ℕ → LogArgument Meant → Type 0
-IsArgument functions (Words text) = ⊤
-IsArgument functions (LogValue e) = AreCallsMeant functions e
 
 pub each_stays : {A : Type 0} (Q : State → Type 0) (f : A → State → Tried State) (xs : List A)
     (s : State) → ((x : A) (s : State) → Q s → OnGood Q (f x s)) → Q s
@@ -113,13 +109,13 @@ equation_holds E x y m n p e mx my same v ev =
     number_at E x m v mx (clear_left x y p e) ev ∙ same ∙ sym
     (number_at E y n v my (clear_right x y p e) ev)
 
-module _ (make : Option Maker) (given : Wires) (start : World) (functions : ℕ) (q : Running)
-    (sound : Soundly functions q) where
+module _ (make : Option Maker) (given : Wires) (start : World) (scope : Scope) (q : Running)
+    (sound : Soundly scope q) where
   abbrev Then : State → Run → Type 0
-  Then = After make given start functions q sound
+  Then = After make given start scope q sound
 
   module _ (w : Where) (r : Run) (h : Stands make given start None r) where
-    whole : (e : Expr Meant) (s : State) (u : ℕ) → AreCallsMeant functions e
+    whole : (e : Expr Meant) (s : State) (u : ℕ) → AreCallsMeant scope e
         → Ready (Extends r) q.context sound.fine r.known s
         → Pair (Whole' (Extends r) q.context sound.fine r.known)
         (value_in q.context w false Scalar e s)
@@ -127,13 +123,13 @@ module _ (make : Option Maker) (given : Wires) (start : World) (functions : ℕ)
     whole e s u te l =
         pair_good FineAnswer (Answers (Extends r) r.known) (value_in q.context w false Scalar e s) _
         (value_fine q.context sound.fine w false Scalar e s l.1)
-        (value_pair (Extends r) q.context sound.fine w functions r.known
+        (value_pair (Extends r) q.context sound.fine w scope r.known
         (environment q.context w q.call r.known r) (store_of r.known r.numbers)
-        (fits make given start functions q r sound h w) false Scalar e s u te l)
+        (fits make given start scope q r sound h w) false Scalar e s u te l)
 
     -- `log`
     log_pair : (arguments : List (LogArgument Meant)) (s : State) (u : ℕ)
-        → AllByRecursion (IsArgument functions) arguments
+        → AllByRecursion (IsArgumentMeant scope) arguments
         → Ready (Extends r) q.context sound.fine r.known s
         → Pair (λ x y. ⊤) (simple.each (logged q.context w) arguments s)
         (log_words (environment q.context w q.call r.known r) (store_of r.known r.numbers) arguments
@@ -169,7 +165,7 @@ module _ (make : Option Maker) (given : Wires) (start : World) (functions : ℕ)
         (λ x p. good_ok (λ t. Like r.known t) x.1 p)
 
     pub log_goes : (arguments : List (LogArgument Meant))
-        → AllByRecursion (IsArgument functions) arguments
+        → AllByRecursion (IsArgumentMeant scope) arguments
         → Goes Then (log_values q.context w arguments r.known) (run_log q w arguments r)
     log_goes arguments is =
         goes_refusing Then (log_values q.context w arguments r.known) _ (λ s es.
@@ -241,7 +237,7 @@ module _ (make : Option Maker) (given : Wires) (start : World) (functions : ℕ)
             (equals a b x y m n s l mx my (eqb-true m n e)) (λ t p. p)
         at false e = pair_stop (λ t z. Equals t) _ constraint_fails (λ no. cc)
 
-    equal_pair : (a b : Expr Meant) → AreCallsMeant functions a → AreCallsMeant functions b
+    equal_pair : (a b : Expr Meant) → AreCallsMeant scope a → AreCallsMeant scope b
         → Pair (λ t z. Equals t) (simple.equal q.context w a b r.known)
         (sides (environment q.context w q.call r.known r) (store_of r.known r.numbers) a b q.fuel)
     equal_pair a b ta tb =
@@ -270,7 +266,7 @@ module _ (make : Option Maker) (given : Wires) (start : World) (functions : ℕ)
         (stands_equations make given start None r (g.equation ∷ []) h (subst Fine same fine)
         (λ v ex. (g.holds v ex, tt))) (subst Fine same fine) h.variables)
 
-    pub equal_goes : (a b : Expr Meant) → AreCallsMeant functions a → AreCallsMeant functions b
+    pub equal_goes : (a b : Expr Meant) → AreCallsMeant scope a → AreCallsMeant scope b
         → Goes Then (simple.equal q.context w a b r.known) (run_equal q w a b r)
     equal_goes a b ta tb =
         goes_refusing Then (simple.equal q.context w a b r.known) _ (λ s es.

@@ -25,7 +25,7 @@ use Rattle.cir_meaning.proofs.FineStatements.{FineFlow, exec_all_fine}
 abbrev FineMade : Signals × World → Type 0
 FineMade x = FineWorld x.1
 
-begun_fine : (arguments : List Datum) (variables signals components : ℕ)
+pub begun_fine : (arguments : List Datum) (variables signals components : ℕ)
     → AllByRecursion IsDatum arguments → FineFrame (begun arguments variables signals components)
 begun_fine arguments variables signals components h =
     all_append IsDatum arguments (replicate variables (single (Known 0))) h

@@ -138,7 +138,7 @@ pub write_signal_fine : (k : Context) (w : Where) (arrow : Arrow) (a : SignalAss
 write_signal_fine k w arrow a h =
     elements_fine k w arrow a.target a.target.reach.places a.value.items a.state h.0 h.1
 
-template_call_good : {A : Type 0} (Q : A → Type 0) (w : Where) (e : Expr Meant)
+pub template_call_good : {A : Type 0} (Q : A → Type 0) (w : Where) (e : Expr Meant)
     (go : ℕ → Exprs Meant → Tried A)
     → ((t : ℕ) (arguments : Exprs Meant) → OnGood Q (go t arguments)) → OnGood Q
     (template_call w e go)

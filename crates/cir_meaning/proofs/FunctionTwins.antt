@@ -31,7 +31,7 @@ use Rattle.cir_meaning.proofs.KnownValues.{KnownValue, KnownDatum, KnownStore, K
 abbrev pub KnownTwin : State → State → Type 0
 KnownTwin s t = IsTwin s t × KnownStore s.frame.variables
 
-wide_itself : (want : Want) → Wider want want
+pub wide_itself : (want : Want) → Wider want want
 wide_itself Scalar = tt
 wide_itself Whole = tt
 

@@ -60,7 +60,7 @@ answer_twin world c (Returned d inner) (Returned e other) h =
 answer_twin world c (Going s) (Returned e other) h = absurd h
 answer_twin world c (Returned d inner) (Going t) h = absurd h
 
-begun_known : (arguments : List Datum) (variables : ℕ) → KnownStore arguments
+pub begun_known : (arguments : List Datum) (variables : ℕ) → KnownStore arguments
     → KnownStore (arguments ++ replicate variables (single (Known 0)))
 begun_known arguments variables h =
     all_append KnownDatum arguments (replicate variables (single (Known 0))) h

@@ -11,7 +11,8 @@ use Rattle.cir_ast.specs.declared.refusal.Kind.TheVariants.{ReadBeforeWrite}
 use Rattle.cir_meaning.specs.Tried.{Where, Tried, next, found}
 use Rattle.cir_meaning.specs.Arrays.{Shaped, Datum, Want, Scalar, Whole, single}
 use Rattle.cir_meaning.specs.Values.{Known, Opaque, known_number, unary_result}
-use Rattle.cir_meaning.specs.SignalFree.{IsFunction, AreCallsMeant, AreAllMeant, AreIndicesMeant}
+use Rattle.cir_meaning.specs.SignalFree.{IsFunction}
+use Rattle.cir_meaning.specs.Scoped.{Scope, IsSeen, AreCallsMeant, AreAllMeant, AreIndicesMeant}
 use Rattle.cir_meaning.specs.Operators.{operator_of, unary_of}
 use Rattle.cir_meaning.specs.Frame.{SignalEntry, Frame, State, Context, variable_at, entry_at}
 use Rattle.cir_meaning.specs.Reading.{Origin, Stored, Wired, Lost, read_origin, origin_of, inner_origin}
@@ -28,7 +29,7 @@ use Rattle.cir_meaning.proofs.Pairs.{Pair, pair_ok, pair_bad, pair_next, pair_go
 use Rattle.cir_meaning.proofs.RunFree.{NoMiss, IsNumber'}
 use Rattle.cir_meaning.proofs.Reaching.{IndicesSame, indices_more}
 use Rattle.cir_meaning.proofs.Same.{Same, Wire, index_same, stored_pair, wired_pair}
-use Rattle.cir_meaning.proofs.Sound.{Told, SourceSame, RootSame, Fitting, Answers, Ready, Whole', number_pair, single_pair, binary_pair, choice_pair, AllAnswers, gathered_pair}
+use Rattle.cir_meaning.proofs.Sound.{Told, SourceSame, IsRootSeen, RootSame, Fitting, Answers, Ready, Whole', number_pair, single_pair, binary_pair, choice_pair, AllAnswers, gathered_pair}
 
 -- a component's signals depend on components and parts alone
 inner_frame : (w : Where) (shaded : Bool) (n : ℕ) (os : List (Option ℕ)) (name : List ℕ)
@@ -57,23 +58,23 @@ pair_gives P R (Ok a) b h g = g a h
 pair_gives P R (Err e) b h g = tt
 
 module _ (E : Assignment → Type 0) (k : Context) (fine : FineContext k) (w : Where)
-    (functions : ℕ) (f : State) (env : Environment) (store : Store)
-    (fit : Fitting E k w functions f env store) where
+    (scope : Scope) (f : State) (env : Environment) (store : Store)
+    (fit : Fitting E k w scope f env store) where
   abbrev Answered : Datum × State → Numbers × ℕ → Type 0
   Answered = Answers E f
 
   -- a name that is read with all its indices
   variable_pair : (shaded : Bool) (want : Want) (n : ℕ) (os : List (Option ℕ))
-      (ns : List ℕ) (s : State) (u : ℕ)
+      (ns : List ℕ) (s : State) (u : ℕ) → scope.seen n ≡ true
       → IndicesSame os ns → Like f s
       → Pair Answered (next (read_origin w shaded want os (Stored (variable_at s.frame n)))
       (λ d. Ok (d, s))) (read_stored (stored store n) ns u)
-  variable_pair shaded want n os ns s u h l =
+  variable_pair shaded want n os ns s u seen h l =
       pair_map (λ x y. Same E x y.0) Answered (read_origin w shaded want os
       (Stored (variable_at s.frame n))) (read_stored (stored store n) ns u) (λ d. (d, s))
       (stored_pair E w shaded want os ns (variable_at s.frame n) (stored store n) u
       (subst (λ vs. Same E (unwrap_or (slice_get vs n) (single (Known 0))) (stored store n))
-      (sym l.0) (fit.variables n)) h) (λ d y p. (p, l))
+      (sym l.0) (fit.variables n seen)) h) (λ d y p. (p, l))
 
   entry_pair : (shaded : Bool) (want : Want) (n : ℕ) (os : List (Option ℕ))
       (ns : List ℕ) (s : State) (u : ℕ) (o : Option SignalEntry)
@@ -93,36 +94,36 @@ module _ (E : Assignment → Type 0) (k : Context) (fine : FineContext k) (w : W
       (wired_pair E w shaded want os ns true x there.0 u there.2 h) (λ d y p. (p, l)))
 
   named_pair : (shaded : Bool) (want : Want) (m : Meant) (os : List (Option ℕ))
-      (ns : List ℕ) (s : State) (u : ℕ)
+      (ns : List ℕ) (s : State) (u : ℕ) → IsSeen scope m
       → IndicesSame os ns → Like f s
       → Pair Answered (next (origin_of w (reading.Named m) s.frame)
       (λ source. next (read_origin w shaded want os source) (λ d. Ok (d, s))))
       (read_root env store (run.RunNamed m) ns u)
-  named_pair shaded want (meant.Variable n) os ns s u h l =
-      variable_pair shaded want n os ns s u h l
-  named_pair shaded want (meant.Signal direction n) os ns s u h l =
+  named_pair shaded want (meant.Variable n) os ns s u seen h l =
+      variable_pair shaded want n os ns s u seen h l
+  named_pair shaded want (meant.Signal direction n) os ns s u seen h l =
       entry_pair shaded want n os ns s u (entry_at s.frame.signals n)
       (ap (λ entries. entry_at entries n) (sym l.1)) h l
-  named_pair shaded want meant.Other os ns s u h l = pair_bad Answered _ _
-  named_pair shaded want (meant.Component n) os ns s u h l = pair_bad Answered _ _
-  named_pair shaded want (meant.Template n) os ns s u h l = pair_bad Answered _ _
-  named_pair shaded want (meant.Function n) os ns s u h l = pair_bad Answered _ _
+  named_pair shaded want meant.Other os ns s u seen h l = pair_bad Answered _ _
+  named_pair shaded want (meant.Component n) os ns s u seen h l = pair_bad Answered _ _
+  named_pair shaded want (meant.Template n) os ns s u seen h l = pair_bad Answered _ _
+  named_pair shaded want (meant.Function n) os ns s u seen h l = pair_bad Answered _ _
 
   done_pair : (shaded : Bool) (want : Want) (root : reading.Root) (on : run.RunRoot)
-      (os : List (Option ℕ)) (ns : List ℕ) (s : State) (u : ℕ)
+      (os : List (Option ℕ)) (ns : List ℕ) (s : State) (u : ℕ) → IsRootSeen scope root
       → RootSame E root on → IndicesSame os ns → Like f s
       → Pair Answered (next (origin_of w root s.frame) (λ source. next
       (read_origin w shaded want os source) (λ d. Ok (d, s)))) (read_root env store on ns u)
-  done_pair shaded want (reading.Named m) (run.RunNamed n) os ns s u e h l =
+  done_pair shaded want (reading.Named m) (run.RunNamed n) os ns s u seen e h l =
       subst (λ a. Pair Answered (next (origin_of w (reading.Named m) s.frame)
       (λ source. next (read_origin w shaded want os source) (λ d. Ok (d, s))))
       (read_root env store (run.RunNamed a) ns u)) e
-      (named_pair shaded want m os ns s u h l)
-  done_pair shaded want (reading.Named m) (run.RunFound d) os ns s u e h l = absurd e
-  done_pair shaded want (reading.Found source) (run.RunNamed n) os ns s u e h l = absurd e
-  done_pair shaded want (reading.Found (Stored x)) (run.RunFound d) os ns s u e h l = absurd e
-  done_pair shaded want (reading.Found Lost) (run.RunFound d) os ns s u e h l = absurd e
-  done_pair shaded want (reading.Found (Wired may x)) (run.RunFound d) os ns s u e h l =
+      (named_pair shaded want m os ns s u seen h l)
+  done_pair shaded want (reading.Named m) (run.RunFound d) os ns s u seen e h l = absurd e
+  done_pair shaded want (reading.Found source) (run.RunNamed n) os ns s u seen e h l = absurd e
+  done_pair shaded want (reading.Found (Stored x)) (run.RunFound d) os ns s u seen e h l = absurd e
+  done_pair shaded want (reading.Found Lost) (run.RunFound d) os ns s u seen e h l = absurd e
+  done_pair shaded want (reading.Found (Wired may x)) (run.RunFound d) os ns s u seen e h l =
       pair_map (λ a y. Same E a y.0) Answered (read_origin w shaded want os (Wired may x))
       (read_wired d ns u) (λ a. (a, s))
       (wired_pair E w shaded want os ns may x d u e h) (λ a y p. (p, l))
@@ -164,7 +165,7 @@ module _ (E : Assignment → Type 0) (k : Context) (fine : FineContext k) (w : W
       (good_both (λ x. Like f x.1) FineAnswer m l g) (λ x p. (p.0, p.1.1))
 
   -- calls
-  call_number : (m : Meant) (ds : List Numbers) (u : ℕ) → IsFunction functions m
+  call_number : (m : Meant) (ds : List Numbers) (u : ℕ) → IsFunction scope.functions m
       → NoMiss IsNumber' (run.call_function env m ds u)
   call_number (meant.Function n) ds u is = fit.calls n ds u is
   call_number meant.Other ds u is = absurd is
@@ -180,7 +181,8 @@ module _ (E : Assignment → Type 0) (k : Context) (fine : FineContext k) (w : W
       (subst (λ a. Same E (single Opaque) a) (sym g.1) (refl, (tt, tt)))
 
   called_pair : (shaded : Bool) (want : Want) (parallel : Bool) (name : List ℕ) (m : Meant)
-      (arguments : Exprs Meant) (s : State) (u : ℕ) (o : Option Numbers) → IsFunction functions m
+      (arguments : Exprs Meant) (s : State) (u : ℕ) (o : Option Numbers)
+      → IsFunction scope.functions m
       → OnGood (λ x. Told E x.0 o) (value_in k w shaded want (Call parallel name m arguments) s)
       → OnGood (λ x. Like f x.1) (value_in k w shaded want (Call parallel name m arguments) s)
       → Pair (AllAnswers E k fine f) (all_in k w shaded arguments s)
@@ -208,12 +210,13 @@ module _ (E : Assignment → Type 0) (k : Context) (fine : FineContext k) (w : W
 
   mutual
     pub value_pair : (shaded : Bool) (want : Want) (e : Expr Meant) (s : State) (u : ℕ)
-        → AreCallsMeant functions e → Ready E k fine f s
+        → AreCallsMeant scope e → Ready E k fine f s
         → Pair Answered (value_in k w shaded want e s) (number_in env store e u)
     value_pair shaded want (Number n) s u t l =
         single_pair E k fine f (Known (n % P)) s (n % P) u refl l.0
     value_pair shaded want (Place name m accessors) s u t l =
-        place_pair shaded want (reading.Named m) (run.RunNamed m) [] [] accessors s u t refl tt l
+        place_pair shaded want (reading.Named m) (run.RunNamed m) [] [] accessors s u t.0 t.1 refl
+        tt l
     value_pair shaded want (Call parallel name m arguments) s u t l =
         called_pair shaded want parallel name m arguments s u
         (env.known (Call parallel name m arguments)) t.0
@@ -262,7 +265,7 @@ module _ (E : Assignment → Type 0) (k : Context) (fine : FineContext k) (w : W
         (λ dark s2 l2. value_like f k fit.keeps w dark Scalar b s2 l2) x n m)
 
     all_pair : (shaded : Bool) (es : Exprs Meant) (s : State) (u : ℕ)
-        → AreAllMeant functions es → Ready E k fine f s
+        → AreAllMeant scope es → Ready E k fine f s
         → Pair (AllAnswers E k fine f) (all_in k w shaded es s) (numbers_in env store es u)
     all_pair shaded none s u t l = pair_ok (AllAnswers E k fine f) _ _ (tt, l.0)
     all_pair shaded (more e es) s u t l =
@@ -277,22 +280,23 @@ module _ (E : Assignment → Type 0) (k : Context) (fine : FineContext k) (w : W
 
     place_pair : (shaded : Bool) (want : Want) (root : reading.Root) (on : run.RunRoot)
         (os : List (Option ℕ)) (ns : List ℕ) (accessors : Accessors Meant)
-        (s : State) (u : ℕ) → AreIndicesMeant functions accessors → RootSame E root on
+        (s : State) (u : ℕ) → IsRootSeen scope root → AreIndicesMeant scope accessors
+        → RootSame E root on
         → IndicesSame os ns → Ready E k fine f s
         → Pair Answered (read_in k w shaded want root os accessors s)
         (place_in env store on ns accessors u)
-    place_pair shaded want root on os ns done s u t r h l =
-        done_pair shaded want root on os ns s u r h l.0
-    place_pair shaded want root on os ns (index e rest) s u t r h l =
+    place_pair shaded want root on os ns done s u seen t r h l =
+        done_pair shaded want root on os ns s u seen r h l.0
+    place_pair shaded want root on os ns (index e rest) s u seen t r h l =
         number_pair E k fine f Answered (value_in k w shaded Scalar e s) (number_in env store e u) _
         _
         (whole _ _ (value_fine k fine w shaded Scalar e s l.1)
         (value_pair shaded Scalar e s u t.0 l))
         (λ x s1 n u1 i m l1. place_pair shaded want root on (os ++ known_number x ∷ [])
-        (ns ++ n ∷ []) rest s1 u1 t.1 r
+        (ns ++ n ∷ []) rest s1 u1 seen t.1 r
         (indices_more os ns (known_number x) n h (index_same E x n m)) l1)
-    place_pair shaded want root on os ns (member name rest) s u t r h l =
+    place_pair shaded want root on os ns (member name rest) s u seen t r h l =
         pair_next (SourceSame E) Answered (inner_origin w shaded root os name s.frame)
         (inner_root env on ns name) _ _ (inner_pair shaded root on os ns name s r h l.0)
         (λ source d p. place_pair shaded want (reading.Found source) (run.RunFound d) [] [] rest s
-        u t p tt l)
+        u tt t p tt l)

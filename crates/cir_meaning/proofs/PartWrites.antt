@@ -150,6 +150,7 @@ module _ (make : Option Maker) (given : Wires) (start : World) (r : Run) (j : 鈩
         shapes_back = shapes_then signals p.signals old.signals shapes_back old.shapes_back;
         inputs = marks;
         others = 位 d n k x at. others_at (unless_done d) n k x (from n k x at);
+        begins = old.begins;
         empty = 位 d. old.empty (unless_done d);
         outputs = 位 d n e there k b at. written_mark n e there k (when_done d) b at;
         paid = 位 d v ex. pays_ports v make q wires q.inside

@@ -4,7 +4,7 @@ use Rattle.cir_ast.specs.declared.program.Meant.{Meant}
 use Rattle.cir_ast.specs.declared.operators.Arrow.{Arrow}
 use Rattle.cir_ast.specs.declared.refusal.Kind.TheVariants.{ShapeDiffers}
 use Rattle.cir_ast.specs.Tree.{Expr, Accessors, Assign}
-use Rattle.cir_meaning.specs.SignalFree.{AreCallsMeant}
+use Rattle.cir_meaning.specs.Scoped.{Scope, AreCallsMeant}
 use Rattle.cir_meaning.specs.Tried.{Where, Tried, next}
 use Rattle.cir_meaning.specs.Arrays.{Whole, same_dims}
 use Rattle.cir_meaning.specs.Frame.{SignalEntry, Part, World, State, Maker, entry_at, is_input, is_fed}
@@ -35,13 +35,13 @@ use Rattle.cir_meaning.proofs.SignalRuns.{SignalLike, assignment_target, Written
 no_entry : (n : ℕ) (e : SignalEntry) → entry_at [] n ≡ Some e → ⊥
 no_entry n e h = cc
 
-module _ (make : Option Maker) (given : Wires) (start : World) (functions : ℕ) (q : Running)
-    (sound : Soundly functions q) (bodies : BodiesRun make q.body) where
+module _ (make : Option Maker) (given : Wires) (start : World) (scope : Scope) (q : Running)
+    (sound : Soundly scope q) (bodies : BodiesRun make q.body) where
   abbrev Then : State → Run → Type 0
-  Then = After make given start functions q sound
+  Then = After make given start scope q sound
 
   module _ (w : Where) (written : Assign Meant) (m : Meant) (accessors : Accessors Meant)
-      (arrow : Arrow) (e : Expr Meant) (r : Run) (te : AreCallsMeant functions e)
+      (arrow : Arrow) (e : Expr Meant) (r : Run) (te : AreCallsMeant scope e)
       (h : Stands make given start None r) where
     abbrev ran : Ran Numbers
     ran =
@@ -58,9 +58,9 @@ module _ (make : Option Maker) (given : Wires) (start : World) (functions : ℕ)
     value_of_signal =
         pair_then (Answers (Extends r) r.known) (λ a y. Same (Extends r) a.value y.0)
         (value_in q.context w false Whole e r.known) ran _
-        (value_pair (Extends r) q.context sound.fine w functions r.known
+        (value_pair (Extends r) q.context sound.fine w scope r.known
         (environment q.context w q.call r.known r) (store_of r.known r.numbers)
-        (fits make given start functions q r sound h w) false Whole e r.known q.fuel te
+        (fits make given start scope q r sound h w) false Whole e r.known q.fuel te
         (like_itself r.known, h.fine)) (λ x y p.
         good_on (λ a. Same (Extends r) a.value y.0) (target_in q.context w m accessors x.1) _ (λ z.
         good_needed (λ a. Same (Extends r) a.value y.0) (same_dims z.0.reach.left x.0.dims) w
@@ -113,7 +113,7 @@ module _ (make : Option Maker) (given : Wires) (start : World) (functions : ℕ)
               → Goes Then (Ok s) (started_at q part (is_fed (signals_of part r.known.frame))
               (with_known s (write_wires part a.target.number a.target.reach.places y.0.items r)))
           by_part y same None ep =
-              own_goes make given start functions q sound bodies r h a its.1 y.0.items s
+              own_goes make given start scope q sound bodies r h a its.1 y.0.items s
               (fine_after s es) false ep
               (good_is (Written (Condition (Extends r) its.1.entry.first a.target.reach.places
               y.0.items) (λ d. true) a.target y.0.items r.own r.known) (compiled a) s es
@@ -144,7 +144,7 @@ module _ (make : Option Maker) (given : Wires) (start : World) (functions : ℕ)
                   (with_known s (record r {
                     parts = put_ports a.target.number a.target.reach.places y.0.items o r.parts j;
                   })))) (sym hx)
-                  (part_goes make given start functions q sound bodies r h a its.1 y.0.items s
+                  (part_goes make given start scope q sound bodies r h a its.1 y.0.items s
                   (fine_after s es) j p x ep hp hx old
                   (good_is (Written (Condition (Extends r) its.1.entry.first
                   a.target.reach.places y.0.items) is_input a.target y.0.items x.ports r.known)
@@ -188,7 +188,7 @@ module _ (make : Option Maker) (given : Wires) (start : World) (functions : ℕ)
 
   pub set_signal_goes : (w : Where) (written : Assign Meant) (m : Meant)
       (accessors : Accessors Meant) (arrow : Arrow) (e : Expr Meant) (r : Run)
-      → AreCallsMeant functions e → Stands make given start None r
+      → AreCallsMeant scope e → Stands make given start None r
       → Goes Then (simple.set_signal q.context w written m accessors arrow e r.known)
       (run_set_signal q w written m accessors arrow e r)
   set_signal_goes w written m accessors arrow e r te h =

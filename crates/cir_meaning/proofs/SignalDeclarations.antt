@@ -6,7 +6,7 @@ use Rattle.cir_ast.specs.declared.program.Meant.TheVariants as meant
 use Rattle.cir_ast.specs.declared.operators.Arrow.{Arrow}
 use Rattle.cir_ast.specs.declared.operators.Direction.{Direction}
 use Rattle.cir_ast.specs.Tree.{Expr, done, SignalValue, Nothing, Given, Signal, Left}
-use Rattle.cir_meaning.specs.SignalFree.{AreCallsMeant}
+use Rattle.cir_meaning.specs.Scoped.{Scope, AreCallsMeant}
 use Rattle.cir_meaning.specs.Tried.{Where, Tried, next}
 use Rattle.cir_meaning.specs.Places.{elements}
 use Rattle.cir_meaning.specs.Limits.{is_too_large}
@@ -28,7 +28,8 @@ use Rattle.cir_meaning.proofs.Starting.{BodiesRun}
 use Rattle.cir_meaning.proofs.SetSignal.{set_signal_goes}
 use Rattle.cir_meaning.proofs.DeclareRuns.{IsGiven, declare_stands}
 use Rattle.cir_meaning.proofs.SimpleRuns.{dims_like}
-use Rattle.cir_meaning.proofs.Entries.{Entry, initial_signal_entry}
+use Rattle.cir_meaning.proofs.Keeping.{initial_signal_kept}
+use Rattle.cir_meaning.proofs.Entries.{Entry, entry_closed}
 
 -- what is given has the numbers of inputs, and none of other signals
 abbrev pub IsShape : Wires → ℕ → SignalEntry → Type 0
@@ -36,7 +37,7 @@ IsShape given n e =
     (p : ℕ) (b : Bool) → slice_get e.written p ≡ Some b → is_some (given n p) ≡ is_input e.direction
 
 -- an entry that may be written meanwhile
-abbrev Stays : SignalEntry → Option SignalEntry → Type 0
+abbrev pub Stays : SignalEntry → Option SignalEntry → Type 0
 Stays e o = (x : SignalEntry) × (o ≡ Some x) × SameEntry e x
 
 set_count : (xs : List Bool) (k : ℕ) (b : Bool) → length (slice_set xs k b) ≡ length xs
@@ -44,7 +45,8 @@ set_count [] k b = refl
 set_count (x ∷ xs) zero b = refl
 set_count (x ∷ xs) (suc k) b = ap (λ (n : ℕ). suc n) (set_count xs k b)
 
-stays_marked : (e x : SignalEntry) (place : ℕ) → Stays e (Some x) → Stays e (Some (marked x place))
+pub stays_marked : (e x : SignalEntry) (place : ℕ) → Stays e (Some x) → Stays e (Some
+    (marked x place))
 stays_marked e x place h =
     let same : h.0 ≡ x = let both : Some x ≡ Some h.0 = h.1 in cc in
     let to_x : SameEntry e x = subst (λ y. SameEntry e y) same h.2 in (
@@ -54,10 +56,10 @@ stays_marked e x place h =
     )
 
 -- no entry
-abbrev IsNone : Option SignalEntry → Type 0
+abbrev pub IsNone : Option SignalEntry → Type 0
 IsNone o = o ≡ None
 
-none_marked : (e : SignalEntry) (place : ℕ) → IsNone (Some e) → IsNone (Some (marked e place))
+pub none_marked : (e : SignalEntry) (place : ℕ) → IsNone (Some e) → IsNone (Some (marked e place))
 none_marked e place h = cc
 
 all_one : (m p : ℕ) (b c : Bool) → slice_get (replicate m c) p ≡ Some b → c ≡ b
@@ -65,7 +67,7 @@ all_one zero p b c e = cc
 all_one (suc m) zero b c e = let same : c ≡ b = cc in same
 all_one (suc m) (suc p) b c e = all_one m p b c e
 
-same_place : (xs ys : List Bool) (k : ℕ) (b : Bool) → length xs ≡ length ys
+pub same_place : (xs ys : List Bool) (k : ℕ) (b : Bool) → length xs ≡ length ys
     → slice_get xs k ≡ Some b → (c : Bool) × (slice_get ys k ≡ Some c)
 same_place [] ys k b e at = cc
 same_place (x ∷ xs) [] k b e at = cc
@@ -92,28 +94,28 @@ given_new given k spot direction n name dims world o stays shape p b at =
     by_size false e = all_one (elements dims) p b (is_input direction) e
 
 -- where the first is refused nothing is asked
-goes_if_ok : {A B : Type 0} (P : A → B → Type 0) (m : Tried A) (r : RunTried B)
+pub goes_if_ok : {A B : Type 0} (P : A → B → Type 0) (m : Tried A) (r : RunTried B)
     → ((z : A) → m ≡ Ok z → Goes P m r) → Goes P m r
 goes_if_ok P (Ok a) r h = h a refl
 goes_if_ok P (Err e) r h = goes_bad P e r
 
-module _ (given : Wires) (start : World) (functions : ℕ) (q : Running)
-    (sound : Soundly functions q) (bodies : BodiesRun q.context.make q.body) where
+module _ (given : Wires) (start : World) (scope : Scope) (q : Running)
+    (sound : Soundly scope q) (bodies : BodiesRun q.context.make q.body) where
   abbrev Then : State → Run → Type 0
-  Then = After q.context.make given start functions q sound
+  Then = After q.context.make given start scope q sound
 
   abbrev pub IsValueMeant : Signal Meant → Type 0
   IsValueMeant d =
-      (arrow : Arrow) (e : Expr Meant) → d.value ≡ Given arrow e → AreCallsMeant functions e
+      (arrow : Arrow) (e : Expr Meant) → d.value ≡ Given arrow e → AreCallsMeant scope e
 
   initial_signal_goes : (w : Where) (m : Meant) (value : SignalValue Meant) (r : Run)
-      → ((arrow : Arrow) (e : Expr Meant) → value ≡ Given arrow e → AreCallsMeant functions e)
+      → ((arrow : Arrow) (e : Expr Meant) → value ≡ Given arrow e → AreCallsMeant scope e)
       → Stands q.context.make given start None r
       → Goes Then (simple.initial_signal q.context w m value r.known)
       (run_initial_signal q w m value r)
   initial_signal_goes w m Nothing r is st = goes_ok Then r.known r (refl, st)
   initial_signal_goes w m (Given arrow e) r is st =
-      set_signal_goes q.context.make given start functions q sound bodies w
+      set_signal_goes q.context.make given start scope q sound bodies w
       (Left [] m done arrow e) m done arrow e r (is arrow e refl) st
 
   -- one declaration
@@ -177,10 +179,12 @@ module _ (given : Wires) (start : World) (functions : ℕ) (q : Running)
             (stays_marked (new_signal q.context spot direction d.name x.0 x.1.world)))
             (simple.initial_signal q.context (at q.context spot) d.meant d.value
             (declare_signal q.context spot direction n d.name x.0 x.1)) s behind
-            (initial_signal_entry n
-            (Stays (new_signal q.context spot direction d.name x.0 x.1.world))
-            (stays_marked (new_signal q.context spot direction d.name x.0 x.1.world)) q.context
-            sound.keeps (at q.context spot) d.meant d.value
+            (initial_signal_kept q.context sound.keeps n
+            (Entry n (Stays (new_signal q.context spot direction d.name x.0 x.1.world))
+            (stays_marked (new_signal q.context spot direction d.name x.0 x.1.world)))
+            (entry_closed n (Stays (new_signal q.context spot direction d.name x.0 x.1.world))
+            (stays_marked (new_signal q.context spot direction d.name x.0 x.1.world)) q.context)
+            (at q.context spot) d.meant d.value
             (declare_signal q.context spot direction n d.name x.0 x.1) (
               new_signal q.context spot direction d.name x.0 x.1.world,
               put_here n (new_signal q.context spot direction d.name x.0 x.1.world)

@@ -8,6 +8,7 @@ use Rattle.cir_ast.specs.declared.operators.Direction.{Direction}
 use Rattle.cir_ast.specs.declared.refusal.Kind.TheVariants.{WrongKind, UnknownIndex, ReadBeforeWrite, ShapeDiffers}
 use Rattle.cir_ast.specs.Tree.{Expr, Accessors, done, index, member}
 use Rattle.cir_lc.specs.Number.{Assignment}
+use Rattle.cir_meaning.specs.Scoped.{Scope}
 use Rattle.cir_meaning.specs.Tried.{Where, next}
 use Rattle.cir_meaning.specs.Places.{all_known}
 use Rattle.cir_meaning.specs.Limits.{Counts}
@@ -298,10 +299,10 @@ put_from n places values wires m k x e = at (same_or_not n m)
     at (inl s) = inl s
     at (inr ne) = inr (sym (wires_else n places values wires m k ne) ∙ e)
 
-module _ (make : Option Maker) (given : Wires) (start : World) (functions : ℕ) (q : Running)
-    (sound : Soundly functions q) (bodies : BodiesRun make q.body) where
+module _ (make : Option Maker) (given : Wires) (start : World) (scope : Scope) (q : Running)
+    (sound : Soundly scope q) (bodies : BodiesRun make q.body) where
   abbrev Then : State → Run → Type 0
-  Then = After make given start functions q sound
+  Then = After make given start scope q sound
 
   module _ (r : Run) (h : Stands make given start None r) (a : SignalAssignment)
       (is : TargetIs r.known a.target) (values : List ℕ) (s : State) (fine : Fine s) where
@@ -381,7 +382,7 @@ module _ (make : Option Maker) (given : Wires) (start : World) (functions : ℕ)
         }))) (sym as_part)
         (subst (λ o. Goes Then (Ok state) (started q j (is_fed p.signals) o after))
         (sym (get_set r.known.frame.parts j p (record p { signals = g.wrote.signals }) hp))
-        (started_goes make given start functions q sound bodies after j
+        (started_goes make given start scope q sound bodies after j
         (record p { signals = g.wrote.signals })
         (record x { ports = put_wires a.target.number a.target.reach.places values x.ports })
         (is_fed p.signals)

@@ -6,7 +6,7 @@ use Rattle.cir_ast.specs.declared.program.Meant.TheVariants as meant
 use Rattle.cir_ast.specs.declared.operators.Arrow.{Arrow}
 use Rattle.cir_ast.specs.declared.refusal.Kind.TheVariants.{UnknownIndex}
 use Rattle.cir_ast.specs.Tree.{Expr, Exprs, none, more, Accessors, done, Variable, Assign, Set, Compound, Left, Increment, Decrement, Slot, SlotPlace, SlotDiscard, Target, Discard, Slots}
-use Rattle.cir_meaning.specs.SignalFree.{AreCallsMeant, AreIndicesMeant, IsSetMeant, IsAssignMeant}
+use Rattle.cir_meaning.specs.Scoped.{Scope, AreCallsMeant, IsSetMeant, IsAssignMeant}
 use Rattle.cir_meaning.specs.Tried.{Where, Tried, next, found}
 use Rattle.cir_meaning.specs.Limits.{with_array}
 use Rattle.cir_meaning.specs.Arrays.{Scalar, filled, the_item}
@@ -29,6 +29,7 @@ use Rattle.cir_meaning.proofs.Goes.{Goes, goes_ok, goes_bad, goes_next, goes_sam
 use Rattle.cir_meaning.proofs.Standing.{Stands, changed, stands_changed}
 use Rattle.cir_meaning.proofs.VariableRuns.{Soundly, like_changed, set_variable_goes, After}
 use Rattle.cir_meaning.proofs.StepRuns.{dropped_goes}
+use Rattle.cir_meaning.proofs.ScopeLaws.{set_meant}
 use Rattle.cir_meaning.proofs.Starting.{BodiesRun}
 use Rattle.cir_meaning.proofs.SetSignal.{set_signal_goes}
 use Rattle.cir_meaning.proofs.CreateRuns.{create_goes}
@@ -44,10 +45,10 @@ dims_like k keeps f w (more e es) s l =
     good_next (λ y. Like f y.1) (λ y. Like f y.1) (dims_in k w false es x.1) _
     (dims_like k keeps f w es x.1 p) (λ y g. good_ok (λ z. Like f z.1) (n ∷ y.0, y.1) g)))
 
-module _ (given : Wires) (start : World) (functions : ℕ) (q : Running)
-    (sound : Soundly functions q) (bodies : BodiesRun q.context.make q.body) where
+module _ (given : Wires) (start : World) (scope : Scope) (q : Running)
+    (sound : Soundly scope q) (bodies : BodiesRun q.context.make q.body) where
   abbrev Then : State → Run → Type 0
-  Then = After q.context.make given start functions q sound
+  Then = After q.context.make given start scope q sound
 
   -- from a state that stands on, in a run with that state
   pub goes_on : (P : State → Run → Type 0) (m : Tried State) (r : RunTried Run)
@@ -71,46 +72,35 @@ module _ (given : Wires) (start : World) (functions : ℕ) (q : Running)
 
   -- `=`
   pub set_goes : (w : Where) (written : Assign Meant) (m : Meant) (accessors : Accessors Meant)
-      (e : Expr Meant) (r : Run) → IsSetMeant functions m accessors e
+      (e : Expr Meant) (r : Run) → IsSetMeant scope m accessors e
       → Stands q.context.make given start None r
       → Goes Then (simple.set q.context w written m accessors e r.known)
       (run_set_place q w written m accessors e r)
   set_goes w written (meant.Variable n) accessors e r is st =
-      set_variable_goes q.context.make given start functions q sound w written n accessors e r is.0
-      is.1 st
+      set_variable_goes q.context.make given start scope q sound w written n accessors e r is st
   set_goes w written (meant.Component n) accessors e r is st =
-      create_goes given start functions q sound bodies w n accessors e r st
+      create_goes given start scope q sound bodies w n accessors e r st
   set_goes w written meant.Other accessors e r is st = goes_bad Then _ _
   set_goes w written (meant.Signal direction n) accessors e r is st = goes_bad Then _ _
   set_goes w written (meant.Template n) accessors e r is st = goes_bad Then _ _
   set_goes w written (meant.Function n) accessors e r is st = goes_bad Then _ _
 
-  compound_meant : (m : Meant) (accessors : Accessors Meant) (e : Expr Meant)
-      → AreIndicesMeant functions accessors → AreCallsMeant functions e
-      → IsSetMeant functions m accessors e
-  compound_meant (meant.Component n) accessors e ti te = tt
-  compound_meant (meant.Variable n) accessors e ti te = (ti, te)
-  compound_meant meant.Other accessors e ti te = (ti, te)
-  compound_meant (meant.Signal direction n) accessors e ti te = (ti, te)
-  compound_meant (meant.Template n) accessors e ti te = (ti, te)
-  compound_meant (meant.Function n) accessors e ti te = (ti, te)
-
-  pub assign_goes : (w : Where) (a : Assign Meant) (r : Run) → IsAssignMeant functions a
+  pub assign_goes : (w : Where) (a : Assign Meant) (r : Run) → IsAssignMeant scope a
       → Stands q.context.make given start None r
       → Goes Then (simple.assign q.context w a r.known) (run_assigned q w a (plain a) r)
   assign_goes w (Set name m accessors e) r is st =
       set_goes w (Set name m accessors e) m accessors e r is st
   assign_goes w (Compound name m accessors op e) r is st =
       set_goes w (Compound name m accessors op e) m accessors _ r
-      (compound_meant m accessors _ is.0 (is.0, is.1)) st
+      (set_meant scope m accessors _ is.0 is.1 ((is.0, is.1), is.2)) st
   assign_goes w (Increment name m accessors) r is st =
       set_goes w (Increment name m accessors) m accessors _ r
-      (compound_meant m accessors _ is (is, tt)) st
+      (set_meant scope m accessors _ is.0 is.1 ((is.0, is.1), tt)) st
   assign_goes w (Decrement name m accessors) r is st =
       set_goes w (Decrement name m accessors) m accessors _ r
-      (compound_meant m accessors _ is (is, tt)) st
+      (set_meant scope m accessors _ is.0 is.1 ((is.0, is.1), tt)) st
   assign_goes w (Left name m accessors arrow e) r is st =
-      set_signal_goes q.context.make given start functions q sound bodies w
+      set_signal_goes q.context.make given start scope q sound bodies w
       (Left name m accessors arrow e) m accessors arrow e r is st
 
   -- a variable that is declared
@@ -131,7 +121,7 @@ module _ (given : Wires) (start : World) (functions : ℕ) (q : Running)
       (known_filled dims)) st.variables))
 
   initial_goes : (w : Where) (m : Meant) (o : Option (Expr Meant)) (r : Run)
-      → ((e : Expr Meant) → o ≡ Some e → IsSetMeant functions m done e)
+      → ((e : Expr Meant) → o ≡ Some e → IsSetMeant scope m done e)
       → Stands q.context.make given start None r
       → Goes Then (simple.initial q.context w m o r.known) (run_initial q w m o r)
   initial_goes w m None r is st = goes_ok Then r.known r (refl, st)
@@ -149,7 +139,7 @@ module _ (given : Wires) (start : World) (functions : ℕ) (q : Running)
   number_goes w (meant.Function n) go on h = goes_bad Then _ _
 
   pub variable_goes : (w : Where) (v : Variable Meant) (r : Run)
-      → ((e : Expr Meant) → v.value ≡ Some e → IsSetMeant functions v.meant done e)
+      → ((e : Expr Meant) → v.value ≡ Some e → IsSetMeant scope v.meant done e)
       → Stands q.context.make given start None r
       → Goes Then (simple.variable_declaration q.context w v r.known) (run_variable q w v r)
   variable_goes w v r is st =
@@ -164,10 +154,10 @@ module _ (given : Wires) (start : World) (functions : ℕ) (q : Running)
 
   -- tuples
   abbrev pub IsSlotMeant : Expr Meant → Type 0
-  IsSlotMeant e = AreCallsMeant functions e
+  IsSlotMeant e = AreCallsMeant scope e
 
   pub slots_goes : (w : Where) (arrow : Arrow) (xs : List (Slot Meant)) (es : List (Expr Meant))
-      (r : Run) → AllByRecursion (AreCallsMeant functions) es
+      (r : Run) → AllByRecursion (AreCallsMeant scope) es
       → Stands q.context.make given start None r
       → Goes Then (simple.slots q.context w arrow xs es r.known) (run_slots q w arrow xs es r)
   slots_goes w arrow [] es r is st = goes_ok Then r.known r (refl, st)
@@ -176,23 +166,23 @@ module _ (given : Wires) (start : World) (functions : ℕ) (q : Running)
       goes_on Then
       (simple.set_signal q.context w (Left name m accessors arrow e) m accessors arrow e r.known) _
       (simple.slots q.context w arrow xs es) (run_slots q w arrow xs es)
-      (set_signal_goes q.context.make given start functions q sound bodies w
+      (set_signal_goes q.context.make given start scope q sound bodies w
       (Left name m accessors arrow e) m accessors arrow e r is.0 st)
       (λ r1 st1. slots_goes w arrow xs es r1 is.1 st1)
   slots_goes w arrow (SlotDiscard ∷ xs) (e ∷ es) r is st =
       goes_on Then (simple.dropped q.context w e r.known)
       (run_known (simple.dropped q.context w e) r) (simple.slots q.context w arrow xs es)
       (run_slots q w arrow xs es)
-      (dropped_goes q.context.make given start functions q sound w e r st)
+      (dropped_goes q.context.make given start scope q sound w e r st)
       (λ r1 st1. slots_goes w arrow xs es r1 is.1 st1)
 
   pub tuple_goes : (w : Where) (arrow : Arrow) (target : Target Meant) (es : List (Expr Meant))
-      (r : Run) → AllByRecursion (AreCallsMeant functions) es
+      (r : Run) → AllByRecursion (AreCallsMeant scope) es
       → Stands q.context.make given start None r
       → Goes Then (simple.tuple q.context w arrow target es r.known)
       (run_tuple q w arrow target es r)
   tuple_goes w arrow Discard es r is st =
-      each_goes (AreCallsMeant functions) (simple.dropped q.context w)
+      each_goes (AreCallsMeant scope) (simple.dropped q.context w)
       (λ e. run_known (simple.dropped q.context w e)) es r is
-      (λ e r1 te st1. dropped_goes q.context.make given start functions q sound w e r1 st1) st
+      (λ e r1 te st1. dropped_goes q.context.make given start scope q sound w e r1 st1) st
   tuple_goes w arrow (Slots xs) es r is st = slots_goes w arrow xs es r is st

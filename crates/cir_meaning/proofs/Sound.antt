@@ -19,6 +19,7 @@ use Rattle.cir_meaning.specs.Reading.{Origin, Stored, Wired, Lost, read_origin, 
 use Rattle.cir_meaning.specs.Reading as reading
 use Rattle.cir_meaning.specs.Evaluate.{scalar, answered, looked_at, gathered, value_in}
 use Rattle.cir_meaning.specs.RunValues as run
+use Rattle.cir_meaning.specs.Scoped.{Scope, IsSeen}
 use Rattle.cir_meaning.specs.RunValues.{Numbers, Ran, Environment, Store, stored, number_in, numbers_in, place_in, read_root, inner_root, needs_right, result_number, zero_divisor}
 use Rattle.cir_meaning.proofs.Good.{OnGood}
 use Rattle.cir_meaning.proofs.Likes.{CallKeeps, Like}
@@ -36,6 +37,11 @@ SourceSame E (Stored d) m = ⊥
 SourceSame E (Wired may e) m = Wire E may e m
 SourceSame E Lost m = ⊥
 
+-- what stands in front of indices is in scope
+abbrev pub IsRootSeen : Scope → reading.Root → Type 0
+IsRootSeen scope (reading.Named m) = IsSeen scope m
+IsRootSeen scope (reading.Found source) = ⊤
+
 abbrev pub RootSame : (Assignment → Type 0) → reading.Root → run.RunRoot → Type 0
 RootSame E (reading.Named m) (run.RunNamed n) = m ≡ n
 RootSame E (reading.Named m) (run.RunFound d) = ⊥
@@ -48,9 +54,9 @@ Told E d None = d ≡ single Opaque
 Told E d (Some m) = Same E d m
 
 -- the environment of a run has the numbers of what stands in a frame
-pub record Fitting (E : Assignment → Type 0) (k : Context) (w : Where) (functions : ℕ) (f : State)
+pub record Fitting (E : Assignment → Type 0) (k : Context) (w : Where) (scope : Scope) (f : State)
     (env : Environment) (store : Store) : Type 0 where
-  pub variables : (n : ℕ) → Same E (variable_at f.frame n) (stored store n)
+  pub variables : (n : ℕ) → scope.seen n ≡ true → Same E (variable_at f.frame n) (stored store n)
   pub signals : (n : ℕ) (e : SignalEntry) → entry_at f.frame.signals n ≡ Some e
       → (d : Shaped (Option ℕ)) × (env.signal n ≡ Some d) × Wire E true e d
   pub parts : (shaded : Bool) (n : ℕ) (os : List (Option ℕ)) (ns : List ℕ)
@@ -65,7 +71,7 @@ pub record Fitting (E : Assignment → Type 0) (k : Context) (w : Where) (functi
       → OnGood (λ x. Told E x.0 (env.known (Call parallel name m arguments)))
       (value_in k w shaded want (Call parallel name m arguments) s)
   -- and gives a number when it is made
-  pub calls : Calls functions env.call
+  pub calls : Calls scope.functions env.call
 
 -- where both answer, the answer has the numbers, and the frame is the same
 abbrev pub Answers : (Assignment → Type 0) → State → Datum × State → Numbers × ℕ → Type 0

@@ -11,7 +11,8 @@ use Rattle.cir_meaning.specs.Source.{IsEqualAt}
 use Rattle.cir_meaning.specs.Frame.{SignalEntry, Signals, Part, World, State, Maker, variable_at, entry_at, is_input, is_fed}
 use Rattle.cir_meaning.specs.RunValues.{Store, stored}
 use Rattle.cir_meaning.specs.Run.{Wires, Table, RunPart, Run, store_of}
-use Rattle.cir_meaning.proofs.FineValues.{Fine}
+use Rattle.cir_meaning.proofs.FineValues.{IsDatum, FineWorld, Fine}
+use Rattle.cir_meaning.proofs.KnownValues.{KnownStore}
 use Rattle.cir_meaning.proofs.Same.{Same}
 use Rattle.cir_meaning.proofs.Marking.{KeepsWires}
 use Rattle.cir_meaning.proofs.Holds.{PartAgrees, Extends, MarksSame, Holds}
@@ -61,11 +62,16 @@ SameShapes xs ys =
     (n : ℕ) (e : SignalEntry) → entry_at xs n ≡ Some e
     → (d : SignalEntry) × (entry_at ys n ≡ Some d) × SameEntry e d
 
+-- its arguments are known, as they were when it was created
+abbrev pub Begins : RunPart → Type 0
+Begins q = KnownStore q.arguments × AllByRecursion IsDatum q.arguments × FineWorld q.before
+
 -- a component whose body has run, or is to run yet
 pub record PartStands (make : Option Maker) (done : Bool) (p : Part) (q : RunPart) : Type 0 where
   pub signals : Signals
   pub after : World
   pub made : made_of make q ≡ Ok (signals, after)
+  pub begins : Begins q
   pub shapes : SameShapes signals p.signals
   pub shapes_back : SameShapes p.signals signals
   pub inputs : (n : ℕ) (e : SignalEntry) → entry_at p.signals n ≡ Some e

@@ -2,6 +2,7 @@
 use Rattle.std.proofs.Common.{◌≡◌, ◌≢◌, ◌⊎◌, inl, inr, ℕ, zero, suc, Bool, true, false, cond, List, [], ◌∷◌, Option, Some, None, is_some, Ok, Err, refl, sym, ap, subst, ◌∙◌, slice_get, slice_set}
 use Rattle.std.specs.List.{AllByRecursion, list_all}
 use Rattle.cir_lc.specs.Number.{Assignment}
+use Rattle.cir_meaning.specs.Scoped.{Scope}
 use Rattle.cir_meaning.specs.Tried.{next}
 use Rattle.cir_meaning.specs.Frame.{SignalEntry, Signals, Part, World, State, Maker, variable_at, entry_at, is_input, is_all_written, is_fed}
 use Rattle.cir_meaning.specs.RunValues.{stored}
@@ -47,7 +48,7 @@ BodiesRun make body =
     (body q.where_made q.template q.arguments q.path q.before q.ports log)
 
 -- inputs that are fed are written
-all_true : (xs : List Bool) (k : ℕ) (b : Bool) → list_all (λ b. b) xs ≡ true
+pub all_true : (xs : List Bool) (k : ℕ) (b : Bool) → list_all (λ b. b) xs ≡ true
     → slice_get xs k ≡ Some b → b ≡ true
 all_true [] k b h e = cc
 all_true (x ∷ xs) zero b h e =
@@ -73,10 +74,10 @@ fed_marks (Some d ∷ xs) zero e h there i k b at =
 fed_marks (Some d ∷ xs) (suc n) e h there i k b at =
     fed_marks xs n e (and_true _ (is_fed xs) h).1 there i k b at
 
-module _ (make : Option Maker) (given : Wires) (start : World) (functions : ℕ) (q : Running)
-    (sound : Soundly functions q) (bodies : BodiesRun make q.body) where
+module _ (make : Option Maker) (given : Wires) (start : World) (scope : Scope) (q : Running)
+    (sound : Soundly scope q) (bodies : BodiesRun make q.body) where
   abbrev Then : State → Run → Type 0
-  Then = After make given start functions q sound
+  Then = After make given start scope q sound
 
   module _ (r : Run) (j : ℕ) (p : Part) (x : RunPart)
       (hp : slice_get r.known.frame.parts j ≡ Some p) (hx : slice_get r.parts j ≡ Some x)
@@ -185,6 +186,7 @@ module _ (make : Option Maker) (given : Wires) (start : World) (functions : ℕ)
             inputs = λ n e there i k b at. ran.all n e there k b at ∙ sym
                 (fed_marks p.signals n e fed there i k b at);
             others = λ d n k y at. cc;
+            begins = late_part.begins;
             empty = λ d. cc;
             outputs = λ d n e there k b at. ran.all n e there k b at;
             paid = λ d v ex. pays_ports v make x o.own o.inside (ran.paid v ex.0 ex.1);

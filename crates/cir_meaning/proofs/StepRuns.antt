@@ -7,7 +7,7 @@ use Rattle.cir_ast.specs.declared.program.Spot.{Spot}
 use Rattle.cir_ast.specs.declared.program.Meant.{Meant}
 use Rattle.cir_ast.specs.Tree.{Expr}
 use Rattle.cir_lc.specs.Number.{Assignment}
-use Rattle.cir_meaning.specs.SignalFree.{AreCallsMeant}
+use Rattle.cir_meaning.specs.Scoped.{Scope, AreCallsMeant}
 use Rattle.cir_meaning.specs.Tried.{Where, Tried, next, refused}
 use Rattle.cir_meaning.specs.Limits.{Counts, nothing}
 use Rattle.cir_meaning.specs.Arrays.{Scalar, Whole, the_item}
@@ -110,10 +110,10 @@ settle_like f w s l =
 pub added_like : (f s t : State) → Like f s → IsAdded s t → Like f t
 added_like f s t l h = subst (λ x. Like f x) (sym h.1) l
 
-module _ (make : Option Maker) (given : Wires) (start : World) (functions : ℕ) (q : Running)
-    (sound : Soundly functions q) where
+module _ (make : Option Maker) (given : Wires) (start : World) (scope : Scope) (q : Running)
+    (sound : Soundly scope q) where
   abbrev Then : State → Run → Type 0
-  Then = After make given start functions q sound
+  Then = After make given start scope q sound
 
   -- what is known at compile time alone
   pub known_goes : (r : Run) (go : State → Tried State) → Stands make given start None r
@@ -147,14 +147,14 @@ module _ (make : Option Maker) (given : Wires) (start : World) (functions : ℕ)
       (dropped_fine q.context sound.fine w e r.known h.fine)
 
   -- an expression of a step has a number, or stops
-  value_real : (w : Where) (e : Expr Meant) (r : Run) → AreCallsMeant functions e
+  value_real : (w : Where) (e : Expr Meant) (r : Run) → AreCallsMeant scope e
       → (h : Stands make given start None r)
       → Pair (Answers (Extends r) r.known) (value_in q.context w false Scalar e r.known)
       (number_in (environment q.context w q.call r.known r) (store_of r.known r.numbers) e q.fuel)
   value_real w e r te h =
-      value_pair (Extends r) q.context sound.fine w functions r.known
+      value_pair (Extends r) q.context sound.fine w scope r.known
       (environment q.context w q.call r.known r) (store_of r.known r.numbers)
-      (fits make given start functions q r sound h w) false Scalar e r.known q.fuel te
+      (fits make given start scope q r sound h w) false Scalar e r.known q.fuel te
       (like_itself r.known, h.fine)
 
   -- `assert`
@@ -208,7 +208,7 @@ module _ (make : Option Maker) (given : Wires) (start : World) (functions : ℕ)
       (store_of r.known r.numbers) e q.fuel) _ (asserted_real _ _ e q.fuel real)
       (λ x p. goes_ok Then s (with_known s r) h)
 
-  pub assert_goes : (w : Where) (e : Expr Meant) (r : Run) → AreCallsMeant functions e
+  pub assert_goes : (w : Where) (e : Expr Meant) (r : Run) → AreCallsMeant scope e
       → Stands make given start None r
       → Goes Then (scalar (value_in q.context w false Scalar e r.known)
       (λ v s. assert_value q.context w e r.known v s)) (run_assert q w e r)

@@ -187,7 +187,8 @@ below_plus x y a b h g = record {
   steps = sums_less x.steps y.steps a.steps b.steps h.steps g.steps;
   nodes = sums_less x.nodes y.nodes a.nodes b.nodes h.nodes g.nodes;
   reads = sums_less x.reads y.reads a.reads b.reads h.reads g.reads;
-  statements = sums_less x.statements y.statements a.statements b.statements h.statements g.statements;
+  statements = sums_less x.statements y.statements a.statements b.statements h.statements
+      g.statements;
 }
 
 below_emptied : (x y : Counts) → Below x y

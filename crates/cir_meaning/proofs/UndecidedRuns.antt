@@ -6,6 +6,7 @@ use Rattle.cir_ast.specs.declared.program.Spot.{Spot}
 use Rattle.cir_ast.specs.declared.program.Meant.{Meant}
 use Rattle.cir_ast.specs.Tree.{Statement}
 use Rattle.cir_lc.specs.Number.{Assignment}
+use Rattle.cir_meaning.specs.Scoped.{Scope}
 use Rattle.cir_meaning.specs.Tried.{Where}
 use Rattle.cir_meaning.specs.Arrays.{Datum, single, forgotten}
 use Rattle.cir_meaning.specs.Values.{Known, Opaque}
@@ -33,7 +34,7 @@ use Rattle.cir_meaning.proofs.Standing.{Stands, changed, stands_changed}
 use Rattle.cir_meaning.proofs.VariableRuns.{Soundly, IsAdded, stepped_adds, After}
 
 -- the numbers of a variable, by what it is
-variable_from : (E : Assignment → Type 0) (vs : List Datum) (ms : Store) (n : ℕ)
+pub variable_from : (E : Assignment → Type 0) (vs : List Datum) (ms : Store) (n : ℕ)
     → ((d : Datum) → slice_get vs n ≡ Some d → Same E d (settle_of d (slice_get ms n)))
     → Variable E vs ms n
 variable_from E [] ms n h = (refl, (refl, tt))
@@ -83,11 +84,11 @@ faded_variable E vs ws ms m h f =
     at d there (inr o) = opaque_same E d (slice_get ms m) (subst IsOpaque (is_d d there) o)
 
 -- the state behind
-forget_rest : (ns : List ℕ) (f s : State) → Rest f s → Rest f (forget ns s)
+pub forget_rest : (ns : List ℕ) (f s : State) → Rest f s → Rest f (forget ns s)
 forget_rest [] f s h = h
 forget_rest (n ∷ ns) f s h = forget_rest ns f (forget_one n s) h
 
-abbrev Behind : List ℕ → State → State → Type 0
+abbrev pub Behind : List ℕ → State → State → Type 0
 Behind ns f s = Rest f s × Faded (forget ns f).frame.variables s
 
 behind_added : (ns : List ℕ) (f s t : State) → Behind ns f s → IsAdded s t → Behind ns f t
@@ -107,7 +108,7 @@ behind_settled ns f w s h =
       h.1,
     ))
 
-rest_changed : (f s : State) → Rest f s
+pub rest_changed : (f s : State) → Rest f s
     → s ≡ changed f s.frame.variables s.frame.added s.world.counts
 rest_changed f s l =
     ap (λ (x : Signals). whole x s.frame.components s.frame.parts s.world) l.0
@@ -127,12 +128,12 @@ rest_changed f s l =
       world = world;
     }
 
-module _ (make : Option Maker) (given : Wires) (start : World) (functions : ℕ) (q : Running)
-    (sound : Soundly functions q) where
+module _ (make : Option Maker) (given : Wires) (start : World) (scope : Scope) (q : Running)
+    (sound : Soundly scope q) where
   abbrev Then : State → Run → Type 0
-  Then = After make given start functions q sound
+  Then = After make given start scope q sound
 
-  undecided_behind : (spot : Spot) (fault : Option Fault) (a : Statement Spot Meant) (s : State)
+  pub undecided_behind : (spot : Spot) (fault : Option Fault) (a : Statement Spot Meant) (s : State)
       → OnGood (Behind (outer_assigned a) s) (undecided q.context spot fault a s)
   undecided_behind spot (Some x) a s = good_bad (Behind (outer_assigned a) s) _
   undecided_behind spot None a s =

@@ -7,7 +7,7 @@ use Rattle.cir_ast.specs.declared.refusal.Kind.{Kind}
 use Rattle.cir_ast.specs.declared.refusal.Kind.TheVariants.{ShapeDiffers}
 use Rattle.cir_ast.specs.Tree.{Expr, Accessors, done, index, member, Assign}
 use Rattle.cir_lc.specs.Number.{Assignment}
-use Rattle.cir_meaning.specs.SignalFree.{AreCallsMeant, AreIndicesMeant}
+use Rattle.cir_meaning.specs.Scoped.{Scope, IsSetMeant}
 use Rattle.cir_meaning.specs.Tried.{Where, Tried, next}
 use Rattle.cir_meaning.specs.Places.{elements}
 use Rattle.cir_meaning.specs.Limits.{Counts}
@@ -43,11 +43,11 @@ use Rattle.cir_meaning.proofs.Standing.{Stands, holds_of, changed, stands_change
 use Rattle.cir_meaning.proofs.Settling.{settle_of, same_settled, opaque_same, put_same, Variable, variable_of, set_variables, put_variables}
 
 -- what is known of the functions of a run
-pub record Soundly (functions : ℕ) (q : Running) : Type 0 where
+pub record Soundly (scope : Scope) (q : Running) : Type 0 where
   pub fine : FineContext q.context
   pub both : CallBoth q.context.call
   pub keeps : CallKeeps q.context.call
-  pub calls : Calls functions q.call
+  pub calls : Calls scope.functions q.call
 
 -- a state that differs in counts alone
 pub like_changed : (f s : State) → Like f s
@@ -75,12 +75,12 @@ like_changed f s l =
     }
 
 -- the environment of a run between statements
-pub fits : (make : Option Maker) (given : Wires) (start : World) (functions : ℕ) (q : Running)
-    (r : Run) → Soundly functions q → Stands make given start None r → (w : Where)
-    → Fitting (Extends r) q.context w functions r.known (environment q.context w q.call r.known r)
+pub fits : (make : Option Maker) (given : Wires) (start : World) (scope : Scope) (q : Running)
+    (r : Run) → Soundly scope q → Stands make given start None r → (w : Where)
+    → Fitting (Extends r) q.context w scope r.known (environment q.context w q.call r.known r)
     (store_of r.known r.numbers)
-fits make given start functions q r sound h w = record {
-  variables = h.variables;
+fits make given start scope q r sound h w = record {
+  variables = λ n seen. h.variables n;
   signals = own_fit r (holds_of make given start r h);
   parts = part_fit r (holds_of make given start r h) w;
   keeps = sound.keeps;
@@ -142,7 +142,7 @@ written_state f n a l =
     (like_changed f a.state l)
 
 -- a variable that is there has numbers
-settled_there : (vs : List Datum) (ms : Store) (n : ℕ) (d : Datum) → slice_get vs n ≡ Some d
+pub settled_there : (vs : List Datum) (ms : Store) (n : ℕ) (d : Datum) → slice_get vs n ≡ Some d
     → (m : Numbers) × (slice_get (settled_store vs ms) n ≡ Some m)
 settled_there [] ms n d e = cc
 settled_there (v ∷ vs) [] zero d e = (_, refl)
@@ -150,13 +150,13 @@ settled_there (v ∷ vs) (m ∷ ms) zero d e = (_, refl)
 settled_there (v ∷ vs) [] (suc n) d e = settled_there vs [] n d e
 settled_there (v ∷ vs) (m ∷ ms) (suc n) d e = settled_there vs ms n d e
 
-stored_set : (store : Store) (n : ℕ) (m x : Numbers) → slice_get store n ≡ Some m
+pub stored_set : (store : Store) (n : ℕ) (m x : Numbers) → slice_get store n ≡ Some m
     → stored (slice_set store n x) n ≡ x
 stored_set store n m x e =
     ap (λ (o : Option Numbers). unwrap_or o (single 0)) (get_set store n m x e)
 
-module _ (make : Option Maker) (given : Wires) (start : World) (functions : ℕ) (q : Running)
-    (sound : Soundly functions q) where
+module _ (make : Option Maker) (given : Wires) (start : World) (scope : Scope) (q : Running)
+    (sound : Soundly scope q) where
   abbrev pub After : State → Run → Type 0
   After s r = (r.known ≡ s) × Stands make given start None r
 
@@ -239,26 +239,26 @@ module _ (make : Option Maker) (given : Wires) (start : World) (functions : ℕ)
           h (subst Fine as_changed fine) variables)
 
       -- a step
-      step_goes' : AreIndicesMeant functions accessors → AreCallsMeant functions e → (s : State)
+      step_goes' : IsSetMeant scope (meant.Variable n) accessors e → (s : State)
           → IsAdded (write_variable n a) s → Fine s
           → Goes After (Ok s) (next (variable_step q w r.known (meant.Variable n) accessors e r)
           (λ store. Ok record r {
             known = s;
             numbers = put_numbers n (stored store n) r.numbers;
           }))
-      step_goes' ti te s adds fine =
-          goes_step (λ y. Writes (Extends r) q.context sound.fine w functions r.known
+      step_goes' is_set s adds fine =
+          goes_step (λ y. Writes (Extends r) q.context sound.fine w scope r.known
           (environment q.context w q.call r.known r) (store_of r.known r.numbers)
-          (fits make given start functions q r sound h w) n a y.0) After s w r
+          (fits make given start scope q r sound h w) n a y.0) After s w r
           (step_set (environment q.context w q.call r.known r) (meant.Variable n) accessors e
           (store_of r.known r.numbers) q.fuel) _
-          (pair_no (λ x y. Writes (Extends r) q.context sound.fine w functions r.known
+          (pair_no (λ x y. Writes (Extends r) q.context sound.fine w scope r.known
           (environment q.context w q.call r.known r) (store_of r.known r.numbers)
-          (fits make given start functions q r sound h w) n x y.0)
+          (fits make given start scope q r sound h w) n x y.0)
           (variable_assignment q.context w n accessors e r.known) _ a
-          (assignment_pair (Extends r) q.context sound.fine w functions r.known
+          (assignment_pair (Extends r) q.context sound.fine w scope r.known
           (environment q.context w q.call r.known r) (store_of r.known r.numbers)
-          (fits make given start functions q r sound h w) n accessors e r.known q.fuel ti te
+          (fits make given start scope q r sound h w) n accessors e r.known q.fuel is_set
           (like_itself r.known, h.fine)) is) (λ y wr.
           goes_ok After s _ (
             refl,
@@ -296,14 +296,14 @@ module _ (make : Option Maker) (given : Wires) (start : World) (functions : ℕ)
                 h.variables),
           )
 
-      pub assigned_goes : AreIndicesMeant functions accessors → AreCallsMeant functions e
+      pub assigned_goes : IsSetMeant scope (meant.Variable n) accessors e
           → Goes After compiled (next (refusing compiled) (λ s.
           cond (is_unknown n a) (next (variable_step q w r.known (meant.Variable n) accessors e r)
           (λ store. Ok record r {
             known = s;
             numbers = put_numbers n (stored store n) r.numbers;
           })) (Ok (with_known s r))))
-      assigned_goes ti te =
+      assigned_goes is_set =
           goes_refusing After compiled _ (λ s es. at (is_unknown n a) refl s es (fine_after s es))
         where
           at : (b : Bool) → is_unknown n a ≡ b → (s : State)
@@ -315,7 +315,7 @@ module _ (make : Option Maker) (given : Wires) (start : World) (functions : ℕ)
               Ok record r { known = s; numbers = put_numbers n (stored store n) r.numbers }))
               (Ok (with_known s r)))
           at true b s es fine =
-              step_goes' ti te s (good_is (IsAdded (write_variable n a))
+              step_goes' is_set s (good_is (IsAdded (write_variable n a))
               (stepped q.context w (variable_cost q.context w written n accessors e a r.known)
               (new_cells n a) (write_variable n a)) s es
               (stepped_adds q.context w (variable_cost q.context w written n accessors e a r.known)
@@ -323,10 +323,10 @@ module _ (make : Option Maker) (given : Wires) (start : World) (functions : ℕ)
           at false b s es fine = let same : write_variable n a ≡ s = cc in known_goes s b same fine
 
   pub set_variable_goes : (w : Where) (written : Assign Meant) (n : ℕ) (accessors : Accessors Meant)
-      (e : Expr Meant) (r : Run) → AreIndicesMeant functions accessors
-      → AreCallsMeant functions e → Stands make given start None r
+      (e : Expr Meant) (r : Run) → IsSetMeant scope (meant.Variable n) accessors e
+      → Stands make given start None r
       → Goes After (simple.set_variable q.context w written n accessors e r.known)
       (run_set_variable q w written n accessors e r)
-  set_variable_goes w written n accessors e r ti te h =
+  set_variable_goes w written n accessors e r is_set h =
       goes_twice After (variable_assignment q.context w n accessors e r.known) _ _
-      (λ a is. assigned_goes w written n accessors e r h a is ti te)
+      (λ a is. assigned_goes w written n accessors e r h a is is_set)

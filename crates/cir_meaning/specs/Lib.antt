@@ -29,3 +29,4 @@ pub mod Texts
 pub mod Reached
 pub mod Functions
 pub mod SignalFree
+pub mod Scoped

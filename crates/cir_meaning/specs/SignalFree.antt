@@ -90,52 +90,6 @@ abbrev mutual
   AreFreeStatements functions (then_more a rest) =
       IsFree functions a × AreFreeStatements functions rest
 
--- in any body a call means a function; what an anonymous component holds is no expression here
-abbrev mutual
-  pub AreCallsMeant : ℕ → Expr Meant → Type 0
-  AreCallsMeant functions (Number n) = ⊤
-  AreCallsMeant functions (Place name m accessors) = AreIndicesMeant functions accessors
-  AreCallsMeant functions (Call parallel name m arguments) =
-      IsFunction functions m × AreAllMeant functions arguments
-  AreCallsMeant functions (Anonymous parallel name m arguments inputs) = ⊤
-  AreCallsMeant functions (Parentheses e) = AreCallsMeant functions e
-  AreCallsMeant functions (Array elements) = AreAllMeant functions elements
-  AreCallsMeant functions (Unary op a) = AreCallsMeant functions a
-  AreCallsMeant functions (Binary op a b) = AreCallsMeant functions a × AreCallsMeant functions b
-  AreCallsMeant functions (Choice c a b) =
-      AreCallsMeant functions c × AreCallsMeant functions a × AreCallsMeant functions b
-
-  pub AreAllMeant : ℕ → Exprs Meant → Type 0
-  AreAllMeant functions none = ⊤
-  AreAllMeant functions (more e es) = AreCallsMeant functions e × AreAllMeant functions es
-
-  pub AreIndicesMeant : ℕ → Accessors Meant → Type 0
-  AreIndicesMeant functions done = ⊤
-  AreIndicesMeant functions (index e rest) =
-      AreCallsMeant functions e × AreIndicesMeant functions rest
-  AreIndicesMeant functions (member name rest) = AreIndicesMeant functions rest
-
--- what is evaluated when a statement runs; a template's arguments aren't
-abbrev pub IsSetMeant : ℕ → Meant → Accessors Meant → Expr Meant → Type 0
-IsSetMeant functions (meant.Component n) accessors e = ⊤
-IsSetMeant functions m accessors e =
-    AreIndicesMeant functions accessors × AreCallsMeant functions e
-
-abbrev pub IsAssignMeant : ℕ → Assign Meant → Type 0
-IsAssignMeant functions (Set name m accessors e) = IsSetMeant functions m accessors e
-IsAssignMeant functions (Compound name m accessors op e) =
-    AreIndicesMeant functions accessors × AreCallsMeant functions e
-IsAssignMeant functions (Left name m accessors arrow e) = AreCallsMeant functions e
-IsAssignMeant functions (Increment name m accessors) = AreIndicesMeant functions accessors
-IsAssignMeant functions (Decrement name m accessors) = AreIndicesMeant functions accessors
-
-abbrev pub IsVariableMeant : ℕ → Variable Meant → Type 0
-IsVariableMeant functions v = OptionMeant v.value
-  where
-    OptionMeant : Option (Expr Meant) → Type 0
-    OptionMeant None = ⊤
-    OptionMeant (Some e) = IsSetMeant functions v.meant done e
-
 -- of each function
 abbrev pub AreFunctionsFree : Program → Type 0
 AreFunctionsFree p =

@@ -15,14 +15,17 @@ ghost use Rattle.cir_meaning.specs.Values.{IsValue, Parts, Value, class_of, diff
 ghost use Rattle.cir_meaning.specs.Values.{Known as KnownValue, Decided, Shaded, Both, and_left, or_left, lazy_result, side_of, chosen};
 ghost use Rattle.cir_meaning.specs.Values.{and_number, or_number, choice_number};
 ghost use Rattle.cir_ast.specs.Program.{Program};
-ghost use Rattle.cir_meaning.specs.Compile.{Circuit, Satisfies, compiled};
+ghost use Rattle.cir_meaning.specs.Compile.{Circuit, Satisfies, compiled, group_size};
 ghost use Rattle.cir_meaning.specs.SignalFree.{AreFunctionsFree};
-ghost use Rattle.cir_meaning.specs.Tried.{Where};
+ghost use Rattle.cir_meaning.specs.Scoped.{IsResolved};
+ghost use Rattle.cir_meaning.specs.Tried.{Where, Refused};
 ghost use Rattle.cir_meaning.specs.Arrays.{Datum, is_all_known};
 ghost use Rattle.cir_meaning.specs.Frame.{World};
 ghost use Rattle.cir_meaning.specs.Bodies.{call_at};
 ghost use Rattle.cir_meaning.specs.RunValues.{Numbers, missing};
 ghost use Rattle.cir_meaning.specs.RunStatements.{run_call};
+ghost use Rattle.cir_meaning.specs.Run.{Rejected, Stopped};
+ghost use Rattle.cir_meaning.specs.RunBodies.{run_with};
 ghost use Rattle.cir_meaning.specs.Source.{Equation, IsDifference, IsEqualAt, IsSource, all_terms};
 
 /// The class of an operator's result is the table's, whatever the numbers are.
@@ -146,4 +149,17 @@ pub fn functions_never_miss()
     ensures { (p : Program) (room f units stop : ℕ) (arguments : List Numbers) →
         AreFunctionsFree p → f < length p.functions →
         run_call p room f arguments units ≡ Err stop → stop ≢ missing }
+{}
+
+/// A program that compiles, on as many inputs as its main component has, runs to its end or stops
+/// as a program may: the run refuses nothing, and asks for no value that isn't there.
+pub fn runs_never_miss()
+    ensures accepted { (p : Program) (c : Circuit) (fuel : ℕ) (inputs : List ℕ) (e : Refused)
+        → IsResolved p → compiled p ≡ Ok c
+        → length inputs ≡ c.public_inputs + c.private_inputs → length inputs < group_size
+        → run_with group_size p fuel inputs ≢ Err (Rejected e) }
+    ensures missed { (p : Program) (c : Circuit) (fuel : ℕ) (inputs : List ℕ) (stop : ℕ)
+        (w : Where) (log : List (List ℕ)) → IsResolved p → compiled p ≡ Ok c
+        → length inputs ≡ c.public_inputs + c.private_inputs → length inputs < group_size
+        → run_with group_size p fuel inputs ≡ Err (Stopped stop w log) → stop ≢ missing }
 {}
