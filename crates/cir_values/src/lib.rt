@@ -10,6 +10,7 @@ mod value;
 
 pub use cir_meaning::Class;
 pub use class::class_of;
+pub use names::indexed;
 pub use operators::{Lazy, Side, and_left, or_left, result_of, side_of, truth_of, unary_result};
 pub use shape::{Shape, flat};
 pub use signals::{InputShape, SignalName, Signals, Text};

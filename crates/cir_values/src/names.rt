@@ -70,7 +70,8 @@ fn indices(alloc: Global, dims: &[u64], place: u32) -> Result<Vec<u64>, AllocErr
     Ok(index)
 }
 
-fn indexed(alloc: Global, declared: &[u8], index: &[u64]) -> Result<Text, AllocError>
+/// A name, followed by its indices in brackets.
+pub fn indexed(alloc: Global, declared: &[u8], index: &[u64]) -> Result<Text, AllocError>
     ensures { IfOk result (λ text. text ≡ declared.now ++ brackets index.now) }
 {
     let mut text = Vec::from_slice(alloc, declared)?;

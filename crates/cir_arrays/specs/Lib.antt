@@ -1,0 +1,5 @@
+pub mod Made
+pub mod Counted
+pub mod Stopped
+pub mod Shown
+pub mod Reached

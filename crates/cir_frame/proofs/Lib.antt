@@ -1,0 +1,5 @@
+pub mod SignalsRead
+pub mod Numbered
+pub mod Marking
+pub mod Opening
+pub mod Targeting

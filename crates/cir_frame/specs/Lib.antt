@@ -1,0 +1,4 @@
+pub mod Missing
+pub mod Shown
+pub mod Read
+pub mod Targets
