@@ -1,0 +1,17 @@
+use Rattle.std.proofs.Common.{◌∙◌, ◌∷◌, [], ap, refl}
+use Rattle.std.specs.Prelude.{map, refl}
+use Rattle.cir_meaning.specs.Reached.{same_call}
+use Rattle.cir_rules.specs.Queue.{with_new}
+use Rattle.cir_rules.specs.Shown.{made_of}
+use Rattle.cir_rules.specs.Ranked.{ranked_of, ranked_made}
+use Rattle.cir_rules.proofs.Reaching.{walked}
+use Rattle.cir_rules.proofs.ranks.ranked.Goals as goal
+
+pub loop-call-preserved : goal.loop-call-preserved
+loop-call-preserved c =
+    let known = map ranked_of c.loop-call.known.items in
+    walked same_call (λ ms. map ranked_made (map made_of ms)) c.args.made.now
+    c.loop-call.call-index c.call-item.result (ranked_made (made_of c.call-item.result) ∷ []) known
+    _ _ c.loop-call-test.true c.call-item.is refl
+    (c.in_ok-add_new.ensures ∙ ap (λ x. with_new same_call known (x ∷ [])) c.in_ok-call.ensures)
+    c.loop-call.invariant

@@ -1,0 +1,5 @@
+pub mod Shown
+pub mod Queue
+pub mod Ranked
+pub mod Shaped
+pub mod Judged
