@@ -1,0 +1,3 @@
+pub mod Within
+pub mod Literal
+pub mod Parts

@@ -1,0 +1,105 @@
+//! Array literals, and what is told of values together.
+ghost use Rattle.std.specs.Prelude.{◌≡◌, [], List, ◌++◌, flat_map, map, IfOk, OnOk};
+ghost use Rattle.std.specs.List.{list_all};
+ghost use Rattle.cir_values.specs.Meant.{meant};
+ghost use Rattle.cir_meaning.specs.Arrays.{is_all_known};
+ghost use Rattle.cir_meaning.specs.Source.{Equation};
+ghost use Rattle.cir_meaning.specs.Evaluate as E;
+ghost use Rattle.cir_frame.specs.declared.frame.Frame.{Frame as AnyFrame};
+ghost use Rattle.cir_arrays.specs.Stopped.{Gives};
+ghost use Rattle.cir_arrays.specs.Shown.{datum_of};
+ghost use Rattle.cir_frame.specs.Shown.{state_of};
+ghost use Rattle.cir_evaluate.specs.Within.{kept_of, where_at};
+ghost use Rattle.cir_evaluate.specs.Literal.{are_of_one_shape, dims_of};
+
+use crate::context::Here;
+use cir_arrays::{Datum, Fault, add_array, same_dims};
+use cir_ast::Kind;
+use cir_frame::World;
+use cir_values::Value;
+use std::alloc::{AllocError, Global};
+
+/// The elements of a literal have one shape.
+pub fn gathered<C>(here: &Here<C>, all: Vec<Datum>, world: &mut World) -> Result<Datum, Fault>
+    ensures value { (f : AnyFrame) (qs : List Equation)
+        → Gives (λ d. (datum_of d, state_of f world.new qs)) result
+        (E.gathered (where_at here.now) (map datum_of all.items) (state_of f world.old qs)) }
+    ensures keeps { kept_of world.new ≡ kept_of world.old }
+{
+    if all.is_empty() {
+        return Ok(Datum::Number(Value::Opaque));
+    }
+    if !have_one_shape(all.as_slice()) {
+        return Err(here.refused(Kind::ShapeDiffers));
+    }
+    let dims = literal_dims(here.alloc(), all.as_slice())?;
+    add_array(&mut world.added, dims.as_slice());
+    let items = items_in(here.alloc(), all.as_slice())?;
+    Ok(Datum::made(here.alloc(), dims, items))
+}
+
+fn have_one_shape(all: &[Datum]) -> bool
+    ensures { result ≡ are_of_one_shape (map datum_of all.now) }
+{
+    let [first, rest @ ..] = all else {
+        return true;
+    };
+    for d in rest {
+        if !same_dims(d.dims(), first.dims()) {
+            return false;
+        }
+    }
+    true
+}
+
+fn literal_dims(alloc: Global, all: &[Datum]) -> Result<Vec<u64>, AllocError>
+    ensures { IfOk result (λ dims. dims.items ≡ dims_of (map datum_of all.now)) }
+{
+    let mut dims = Vec::new(alloc);
+    if let [first, ..] = all {
+        dims.push(all.len() as u64)?;
+        dims.extend_from_slice(first.dims())?;
+    }
+    Ok(dims)
+}
+
+fn items_in(alloc: Global, all: &[Datum]) -> Result<Vec<Value>, AllocError>
+    ensures { IfOk result (λ items. map meant items.items
+        ≡ flat_map (λ d. d.items) (map datum_of all.now)) }
+{
+    let mut items = Vec::new(alloc);
+    for d in all {
+        add_items(alloc, &mut items, d)?;
+    }
+    Ok(items)
+}
+
+fn add_items(alloc: Global, items: &mut Vec<Value>, d: &Datum) -> Result<(), AllocError>
+    ensures { OnOk result (map meant items.new.items
+        ≡ map meant items.old.items ++ (datum_of d.now).items) }
+{
+    match d {
+        Datum::Number(v) => {
+            let v = v.copy(alloc)?;
+            items.push(v)?;
+        }
+        Datum::Array(array) => {
+            for v in array.items.as_slice() {
+                let v = v.copy(alloc)?;
+                items.push(v)?;
+            }
+        }
+    }
+    Ok(())
+}
+
+pub fn is_each_known(all: &[Datum]) -> bool
+    ensures { result ≡ list_all is_all_known (map datum_of all.now) }
+{
+    for d in all {
+        if !d.is_all_known() {
+            return false;
+        }
+    }
+    true
+}
