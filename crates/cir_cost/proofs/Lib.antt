@@ -1,0 +1,5 @@
+pub mod Adding
+mod Trees
+mod Seeing
+mod Cells
+mod Distinct
