@@ -1,0 +1,10 @@
+pub mod Homes
+pub mod Pieces
+pub mod Values
+pub mod Statements
+pub mod Procedures
+pub mod Sources
+pub mod Known
+pub mod Tasks
+pub mod Steps
+pub mod Fits
