@@ -8,7 +8,7 @@ use Rattle.cir_ast.specs.declared.program.Meant.{Meant}
 use Rattle.cir_ast.specs.Tree.{Signal, Simple, Vars, Signals, Declared, Created, Assigned, Constrain, Right, TargetLeft, TargetRight, Alone, Statement, Block, If, IfElse, While, For, Return, Assert, Log, Ended, Statements, empty, then_more}
 use Rattle.cir_meaning.specs.Scoped.{Scope, with_signal, AreSignalsScoped, IsSimpleScoped, IsSignalValueMeant, closed, behind, behind_all, IsScoped, AreScoped}
 use Rattle.cir_meaning.specs.Tried.{Tried, next}
-use Rattle.cir_meaning.specs.Frame.{World, State, at, entry_at, counted}
+use Rattle.cir_meaning.specs.Frame.{State, at, entry_at, counted}
 use Rattle.cir_meaning.specs.Unknown.{Fault, first_of, fault_of}
 use Rattle.cir_meaning.specs.Scan.{undecided}
 use Rattle.cir_meaning.specs.Anonymous.{lift_simple}
@@ -19,7 +19,7 @@ use Rattle.cir_meaning.specs.RunSimple.{Running, run_signal, run_each, run_count
 use Rattle.cir_meaning.specs.RunBodies.{run_undecided, run, run_all}
 use Rattle.cir_meaning.proofs.Good.{good_is}
 use Rattle.cir_meaning.proofs.Likes.{Like, like_itself}
-use Rattle.cir_meaning.proofs.Standing.{Stands}
+use Rattle.cir_meaning.proofs.Standing.{Stands, Start}
 use Rattle.cir_meaning.proofs.SignalWrites.{same_itself}
 use Rattle.cir_meaning.proofs.VariableRuns.{Soundly, After}
 use Rattle.cir_meaning.proofs.StepRuns.{counted_like, counted_goes}
@@ -37,8 +37,10 @@ use Rattle.cir_meaning.proofs.ScopedQuiet.{everything, NoneDeclared, simple_wide
 use Rattle.cir_meaning.proofs.Undeclared.{lifted_not, not_declared, none_declared}
 use Rattle.cir_meaning.proofs.SignalFlows.{goes_as, Fresh, Shapes, Through, shapes_before, InTurn, signals_goes, Flows, counted_flow, condition_flow}
 
-module _ (given : Wires) (start : World) (functions : ℕ) (q : Running)
-    (sounds : Soundly (everything functions) q) (bodies : BodiesRun q.context.make q.body) where
+module _ (given : Wires) (start : Start) (functions : ℕ) (q : Running)
+    (sounds : Soundly (everything functions) q)
+    (bodies : BodiesRun start.size q.context.make q.body)
+    (sized : q.context.group_size ≡ start.size) where
   abbrev All : Scope
   All = everything functions
 
@@ -49,7 +51,7 @@ module _ (given : Wires) (start : World) (functions : ℕ) (q : Running)
   Flow' = AfterFlow q.context.make given start All q sounds
 
   abbrev pub Runs : ℕ → (State → Tried Flow) → (Run → RunTried Run) → Type 0
-  Runs = Flows given start functions q sounds bodies
+  Runs = Flows given start functions q sounds bodies sized
 
   -- what a statement leaves of the signals that aren't its own
   pub fresh_behind : (s : Scope) (a : Statement Spot Meant) (t u : State) → IsSound functions s
@@ -140,7 +142,8 @@ module _ (given : Wires) (start : World) (functions : ℕ) (q : Running)
         (λ z ez.
         goes_as Then Then (simple.each (simple.signal_declaration q.context spot d) ys r1.known)
         (run_each (run_signal q spot d) ys r1) (counted (at q.context spot)) (run_counted q spot)
-        (signals_goes given start functions q sounds bodies spot d s.signals ys r1 turn values st1
+        (signals_goes given start functions q sounds bodies sized spot d s.signals ys r1 turn values
+        st1
         fresh1 (λ t et. behind_shapes z ez t et)) (λ t r2 et p.
         subst (λ u. Goes Then (counted (at q.context spot) u) (run_counted q spot r2)) p.0
         (counted_goes q.context.make given start All q sounds spot r2 p.1)))
@@ -219,18 +222,19 @@ module _ (given : Wires) (start : World) (functions : ℕ) (q : Running)
     pub statement_flow : (s : Scope) (a : Statement Spot Meant) → IsSound functions s
         → IsScoped s a → Runs s.signals (exec q.context a) (run q a)
     statement_flow s (Block spot ss) h is r st fresh shapes =
-        counted_flow given start functions q sounds bodies s.signals spot (exec_all q.context ss)
+        counted_flow given start functions q sounds bodies sized s.signals spot
+        (exec_all q.context ss)
         (run_all q ss) (statements_flow s ss h is) r st fresh shapes
     statement_flow s (If spot c a) h is r st fresh shapes =
-        counted_flow given start functions q sounds bodies s.signals spot _ _
-        (condition_flow given start functions q sounds bodies s.signals spot c
+        counted_flow given start functions q sounds bodies sized s.signals spot _ _
+        (condition_flow given start functions q sounds bodies sized s.signals spot c
         (λ t. Ok (Going t)) (exec q.context a) _ (λ r1. Ok r1) (run q a) _
         (λ r1 st1 fresh1 shapes1. goes_ok Flow' (Going r1.known) r1 (refl, st1))
         (statement_flow s a h is.1)
         (unknown s spot (fault_of a) (If spot c a) h is)) r st fresh shapes
     statement_flow s (IfElse spot c a b) h is r st fresh shapes =
-        counted_flow given start functions q sounds bodies s.signals spot _ _
-        (condition_flow given start functions q sounds bodies s.signals spot c
+        counted_flow given start functions q sounds bodies sized s.signals spot _ _
+        (condition_flow given start functions q sounds bodies sized s.signals spot c
         (exec q.context b) (exec q.context a) _ (run q b) (run q a) _
         (λ r1 st1 fresh1 shapes1.
         let more : s.signals ≤ (behind s a).signals = (grows s a).signals in

@@ -8,7 +8,7 @@ use Rattle.cir_meaning.specs.Scoped.{Scope}
 use Rattle.cir_meaning.specs.Tried.{Tried, next}
 use Rattle.cir_meaning.specs.Arrays.{Scalar, the_item}
 use Rattle.cir_meaning.specs.Values.{Value, Known, Linear, Quadratic, Opaque}
-use Rattle.cir_meaning.specs.Frame.{World, State, Maker, at, settle, counted}
+use Rattle.cir_meaning.specs.Frame.{State, Maker, at, settle, counted}
 use Rattle.cir_meaning.specs.Evaluate.{value_in}
 use Rattle.cir_meaning.specs.Statement.{Flow, Going, Returned, going, goes, decided, condition, branch, turns}
 use Rattle.cir_meaning.specs.Run.{Rejected, Stopped, Wires, Run, RunTried, refusing}
@@ -19,11 +19,11 @@ use Rattle.cir_meaning.proofs.Likes.{Like, like_itself, value_like}
 use Rattle.cir_meaning.proofs.FineValues.{Fine}
 use Rattle.cir_meaning.proofs.FineStatements.{condition_fine}
 use Rattle.cir_meaning.proofs.Goes.{Goes, goes_ok, goes_bad, goes_next, goes_same}
-use Rattle.cir_meaning.proofs.Standing.{Stands}
+use Rattle.cir_meaning.proofs.Standing.{Stands, Start}
 use Rattle.cir_meaning.proofs.VariableRuns.{Soundly, After}
 use Rattle.cir_meaning.proofs.StepRuns.{stands_like, settle_like, counted_goes}
 
-module _ (make : Option Maker) (given : Wires) (start : World) (scope : Scope) (q : Running)
+module _ (make : Option Maker) (given : Wires) (start : Start) (scope : Scope) (q : Running)
     (sound : Soundly scope q) where
   abbrev Then : State → Run → Type 0
   Then = After make given start scope q sound

@@ -1,5 +1,7 @@
 -- The run behind the creation of a component.
 use Rattle.std.proofs.Common.{◌≡◌, ◌⊎◌, inl, inr, ℕ, suc, false, List, [], ◌∷◌, ◌++◌, length, Option, Some, None, Ok, refl, sym, ap, subst, ◌∙◌, slice_get}
+use Rattle.cir_meaning.proofs.PartWeights.{last_numbered}
+use Rattle.cir_meaning.proofs.GroupSizes.{IsGrowing, Fits, Less}
 use Rattle.std.specs.List.{AllByRecursion}
 use Rattle.cir_ast.specs.declared.program.Meant.{Meant}
 use Rattle.cir_ast.specs.Tree.{Expr, Accessors}
@@ -12,14 +14,14 @@ use Rattle.cir_meaning.specs.Declaring.{opened, add_part, Creation, creation, cr
 use Rattle.cir_meaning.specs.RunValues.{stored}
 use Rattle.cir_meaning.specs.Run.{Wires, RunPart, Run, store_of}
 use Rattle.cir_meaning.specs.RunSimple.{Running, with_known, started, waiting, run_created, run_create}
-use Rattle.cir_meaning.proofs.Good.{good_is}
+use Rattle.cir_meaning.proofs.Good.{good_is, OnSome'}
 use Rattle.cir_meaning.proofs.Likes.{Like, like_itself}
 use Rattle.cir_meaning.proofs.FineValues.{Fine}
 use Rattle.cir_meaning.proofs.FineWriting.{FineCreation, creation_fine, create_fine}
 use Rattle.cir_meaning.proofs.KnownValues.{KnownStore}
 use Rattle.cir_meaning.proofs.Holds.{Extends}
 use Rattle.cir_meaning.proofs.Goes.{Goes, goes_ok, goes_same, goes_refusing}
-use Rattle.cir_meaning.proofs.Standing.{PartStands, Stands, Adds, Debts, Pays, made_of, world_of, is_done, changed}
+use Rattle.cir_meaning.proofs.Standing.{PartStands, Stands, Adds, Debts, Pays, made_of, world_of, is_done, changed, Start, Numbered}
 use Rattle.cir_meaning.proofs.OwnWrites.{same_in}
 use Rattle.cir_meaning.proofs.PartWrites.{other_done, itself_late}
 use Rattle.cir_meaning.proofs.VariableRuns.{Soundly, like_changed, After}
@@ -27,8 +29,8 @@ use Rattle.cir_meaning.proofs.StepRuns.{stands_like}
 use Rattle.cir_meaning.proofs.Starting.{BodiesRun, started_goes}
 use Rattle.cir_meaning.proofs.Creating.{get_more, get_last, get_either, get_below, one_longer, opened_shapes, opened_shapes_back, opened_marks, creation_like, creation_known, Created, create_at_is}
 
-module _ (given : Wires) (start : World) (scope : Scope) (q : Running)
-    (sound : Soundly scope q) (bodies : BodiesRun q.context.make q.body) where
+module _ (given : Wires) (start : Start) (scope : Scope) (q : Running)
+    (sound : Soundly scope q) (bodies : BodiesRun start.size q.context.make q.body) where
   abbrev Then : State → Run → Type 0
   Then = After q.context.make given start scope q sound
 
@@ -71,19 +73,43 @@ module _ (given : Wires) (start : World) (scope : Scope) (q : Running)
           (get_more r.parts (new_run ∷ []) j x hx)),
     )
 
-    new_stands : PartStands q.context.make false part new_run
+    -- its numbers are those that follow
+    c_sizes : c.state.world.sizes ≡ r.known.world.sizes
+    c_sizes = ap (λ (v : World). v.sizes) like.4
+
+    fits : Fits c.state.world.sizes
+    fits = subst Fits (sym c_sizes) h.numbered.0
+
+    grown : Fits made.world.sizes × Less c.state.world.sizes made.world.sizes
+    grown =
+        (subst (λ o. OnSome' IsGrowing o) made.is_make sound.grows) w c.template c.arguments _
+        c.state.world made.signals made.world made.made fits
+
+    more : Less r.known.world.sizes made.world.sizes
+    more = subst (λ x. Less x made.world.sizes) c_sizes grown.1
+
+    numbered : Numbered q.context.make start made.world.sizes r.known.frame.signals
+        (r.parts ++ new_run ∷ [])
+    numbered =
+        last_numbered q.context.make start r.known.world.sizes made.world.sizes
+        r.known.frame.signals r.parts new_run h.numbered grown.0 more c_sizes
+        (ap (λ t. (world_of c.state.world t).sizes) made_is)
+
+    new_stands : PartStands start.size q.context.make false part new_run
     new_stands = record {
       signals = made.signals;
       after = made.world;
       made = made_is;
-      begins = (known, finely.0, finely.1.1);
+      begins = (known, finely.0, finely.1.1, fits);
       shapes = opened_shapes made.signals;
       shapes_back = opened_shapes_back made.signals;
       inputs = opened_marks made.signals;
       others = λ d n k x at. cc;
       empty = λ d. refl;
       outputs = λ d n e there k b at. cc;
+      full = λ d. cc;
       paid = λ d v ex. cc;
+      weighs = λ d. cc;
     }
 
     late : ℕ
@@ -93,13 +119,13 @@ module _ (given : Wires) (start : World) (scope : Scope) (q : Running)
         → (slice_get r.known.frame.parts i ≡ Some p)
         ⊎ ((length r.known.frame.parts ≡ i) × (part ≡ p))
         → (x : RunPart) × (slice_get (r.parts ++ new_run ∷ []) i ≡ Some x)
-        × PartStands q.context.make (is_done (Some (length r.parts)) i p) p x
+        × PartStands start.size q.context.make (is_done (Some (length r.parts)) i p) p x
     part_of i p (inl e) =
         let there : (x : RunPart) × (slice_get r.parts i ≡ Some x)
-        × PartStands q.context.make (is_done None i p) p x = h.parts i p e in (
+        × PartStands start.size q.context.make (is_done None i p) p x = h.parts i p e in (
           there.0,
           get_more r.parts (new_run ∷ []) i there.0 there.1,
-          subst (λ b. PartStands q.context.make b p there.0)
+          subst (λ b. PartStands start.size q.context.make b p there.0)
               (sym (other_done false (length r.parts) i p
               (λ n. get_below r.known.frame.parts p i e (sym h.count ∙ n)))) there.2,
         )
@@ -107,10 +133,11 @@ module _ (given : Wires) (start : World) (scope : Scope) (q : Running)
       new_run,
       ap (slice_get (r.parts ++ new_run ∷ [])) (sym e.0 ∙ sym h.count)
           ∙ get_last r.parts new_run,
-      subst (λ y. PartStands q.context.make (is_done (Some (length r.parts)) i y) y new_run) e.1
-          (subst (λ m. PartStands q.context.make (is_done (Some (length r.parts)) m part) part
-          new_run) (h.count ∙ e.0)
-          (subst (λ b. PartStands q.context.make b part new_run)
+      subst (λ y. PartStands start.size q.context.make
+          (is_done (Some (length r.parts)) i y) y new_run) e.1
+          (subst (λ m. PartStands start.size q.context.make
+          (is_done (Some (length r.parts)) m part) part new_run) (h.count ∙ e.0)
+          (subst (λ b. PartStands start.size q.context.make b part new_run)
           (sym (itself_late (length r.parts) part)) new_stands)),
     )
 
@@ -120,7 +147,7 @@ module _ (given : Wires) (start : World) (scope : Scope) (q : Running)
         ∙ get_last r.known.frame.parts part
 
     equations_of : (v : Assignment) → Extends after v
-        → Debts q.context.make (Some (length r.parts)) after v → Adds v start made.world
+        → Debts q.context.make (Some (length r.parts)) after v → Adds v start.world made.world
     equations_of v ex debts first =
         let owes : Pays v q.context.make new_run = debts (length r.parts) part new_run last_part
         (get_last r.parts new_run) (itself_late (length r.parts) part) in
@@ -146,6 +173,7 @@ module _ (given : Wires) (start : World) (scope : Scope) (q : Running)
           (one_longer r.known.frame.parts part);
       fine = subst Fine as_state fine;
       equations = equations_of;
+      numbered = numbered;
     }
 
     pub created_goes : Goes Then (Ok s) (started q (length r.parts) false

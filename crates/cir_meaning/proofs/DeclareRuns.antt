@@ -1,5 +1,6 @@
 -- The declaration of a signal in a run.
 use Rattle.std.proofs.Common.{◌≡◌, ◌≢◌, ◌⊎◌, inl, inr, ℕ, Bool, List, Option, Some, None, is_some, refl, sym, ap, subst, ◌∙◌, slice_get}
+use Rattle.cir_meaning.proofs.NewSignals.{new_numbered}
 use Rattle.std.specs.List.{AllByRecursion}
 use Rattle.cir_meaning.specs.Source.{IsEqualAt}
 use Rattle.cir_ast.specs.declared.program.Spot.{Spot}
@@ -15,7 +16,7 @@ use Rattle.cir_meaning.proofs.Likes.{Like}
 use Rattle.cir_meaning.proofs.FineValues.{Fine}
 use Rattle.cir_meaning.proofs.Marking.{put_entry}
 use Rattle.cir_meaning.proofs.Holds.{Extends}
-use Rattle.cir_meaning.proofs.Standing.{Stands}
+use Rattle.cir_meaning.proofs.Standing.{Stands, Start, Numbered}
 use Rattle.cir_meaning.proofs.SignalWrites.{put_there, put_here}
 use Rattle.cir_meaning.proofs.OwnWrites.{same_in}
 use Rattle.cir_meaning.proofs.PartWrites.{same_or_not}
@@ -41,10 +42,11 @@ none_put n m a xs none = at (entry_at xs m) refl (same_or_not n m)
         let here : entry_at (put_at n a xs) m ≡ Some d = put_there n m a d xs ne e in
         let no : Some d ≡ None = sym here ∙ none in cc
 
-module _ (make : Option Maker) (given : Wires) (start : World) (late : Option ℕ) (r : Run)
+module _ (make : Option Maker) (given : Wires) (start : Start) (late : Option ℕ) (r : Run)
     (h : Stands make given start late r) (n : ℕ) (e : SignalEntry)
     (undeclared : entry_at r.known.frame.signals n ≡ None) (gives : IsGiven given n e)
-    (a c : Counts) (world : World) (equal : world.equations ≡ r.known.world.equations) where
+    (a c : Counts) (world : World) (equal : world.equations ≡ r.known.world.equations)
+    (numbers : Numbered make start world.sizes (put_at n e r.known.frame.signals) r.parts) where
   -- the state behind the declaration
   abbrev pub declared_state : State
   declared_state = record {
@@ -62,8 +64,8 @@ module _ (make : Option Maker) (given : Wires) (start : World) (late : Option �
 
   before : (v : Assignment) → Extends (with_known declared_state r) v → Extends r v
   before v ex = (
-    (λ m d there p x at. ex.0 m d (put_there n m e d r.known.frame.signals (not_new m d there)
-        there) p x at),
+    (λ m d there p x less at. ex.0 m d (put_there n m e d r.known.frame.signals (not_new m d there)
+        there) p x less at),
     ex.1,
   )
 
@@ -80,6 +82,7 @@ module _ (make : Option Maker) (given : Wires) (start : World) (late : Option �
     fine = fine;
     equations = λ v ex debts first. subst (λ es. AllByRecursion (IsEqualAt v) es) (sym equal)
         (h.equations v (before v ex) debts first);
+    numbered = numbers;
   }
     where
       own_of : (m : ℕ) (d : SignalEntry) (p : ℕ) (b : Bool) → slice_get d.written p ≡ Some b
@@ -92,19 +95,24 @@ module _ (make : Option Maker) (given : Wires) (start : World) (late : Option �
       own_of m d p b at (inr s) = h.own m d s.1 p b at
 
 -- the declaration, in a state that differs in counts alone
-pub declare_stands : (make : Option Maker) (given : Wires) (start : World) (late : Option ℕ)
+pub declare_stands : (make : Option Maker) (given : Wires) (start : Start) (late : Option ℕ)
     (r : Run) (k : Context) (spot : Spot) (direction : Direction) (n : ℕ) (name dims : List ℕ)
-    (s : State) → Stands make given start late r → Like r.known s
+    (s : State) → k.group_size ≡ start.size → Stands make given start late r → Like r.known s
     → entry_at r.known.frame.signals n ≡ None
     → IsGiven given n (new_signal k spot direction name dims s.world)
     → Fine (declare_signal k spot direction n name dims s)
     → Stands make given start late (with_known (declare_signal k spot direction n name dims s) r)
-declare_stands make given start late r k spot direction n name dims s h l undeclared gives fine =
+declare_stands make given start late r k spot direction n name dims s sized h l undeclared
+    gives fine =
+    let numbers : Numbered make start (with_row k direction name dims s.world).sizes
+    (put_at n (new_signal k spot direction name dims s.world) r.known.frame.signals) r.parts =
+    new_numbered make start k spot direction n name dims s.world r.known.world.sizes
+    r.known.frame.signals r.parts sized (ap (λ (x : World). x.sizes) l.4) undeclared h.numbered in
     let same : declare_signal k spot direction n name dims s ≡ declared_state make given start late
     r h n (new_signal k spot direction name dims s.world) undeclared gives
     (declare_signal k spot direction n name dims s).frame.added
     s.world.counts (with_row k direction name dims s.world)
-    (ap (λ (x : World). x.equations) l.4) =
+    (ap (λ (x : World). x.equations) l.4) numbers =
     ap (λ (t : State). record {
       frame = record (t.frame) {
         signals = put_at n (new_signal k spot direction name dims s.world) t.frame.signals;
@@ -116,5 +124,5 @@ declare_stands make given start late r k spot direction n name dims s h l undecl
     (declared_stands make given start late r h n
     (new_signal k spot direction name dims s.world) undeclared gives
     (declare_signal k spot direction n name dims s).frame.added s.world.counts
-    (with_row k direction name dims s.world) (ap (λ (x : World). x.equations) l.4)
+    (with_row k direction name dims s.world) (ap (λ (x : World). x.equations) l.4) numbers
     (subst Fine same fine))

@@ -13,7 +13,7 @@ use Rattle.cir_meaning.specs.Tried.{Where, Tried, next}
 use Rattle.cir_meaning.specs.Arrays.{Scalar}
 use Rattle.cir_meaning.specs.Source.{Equation, IsEqualAt}
 use Rattle.cir_meaning.specs.Values.{Value, Known, Linear, Quadratic, Opaque, Parts, number_of, parts_of, difference_of, class_of}
-use Rattle.cir_meaning.specs.Frame.{World, State, Context, Maker}
+use Rattle.cir_meaning.specs.Frame.{State, Context, Maker}
 use Rattle.cir_meaning.specs.Evaluate.{value_in}
 use Rattle.cir_meaning.specs.Writing.{appended, constrained}
 use Rattle.cir_meaning.specs.Steps.{stepped, log_cost, logged_cells, equal_cost}
@@ -34,7 +34,7 @@ use Rattle.cir_meaning.proofs.Numbered.{value_pair, pair_gives}
 use Rattle.cir_meaning.proofs.RunFree.{Any}
 use Rattle.cir_meaning.proofs.Holds.{Extends, pair_assoc}
 use Rattle.cir_meaning.proofs.Goes.{Goes, goes_ok, goes_refusing, goes_step, pair_no}
-use Rattle.cir_meaning.proofs.Standing.{Stands, changed, stands_changed}
+use Rattle.cir_meaning.proofs.Standing.{Stands, changed, stands_changed, Start}
 use Rattle.cir_meaning.proofs.VariableRuns.{Soundly, like_changed, fits, with_added, IsAdded, stepped_adds, After}
 use Rattle.cir_meaning.proofs.StepRuns.{stands_like, with_equations, stands_equations, pair_then, added_like}
 
@@ -51,7 +51,7 @@ each_stays Q f (x ∷ xs) s h g =
     good_next Q Q (f x s) (simple.each f xs) (h x s g) (λ s1 g1. each_stays Q f xs s1 h g1)
 
 -- lines that are put have no part in what holds
-pub stands_log : (make : Option Maker) (given : Wires) (start : World) (late : Option ℕ) (r : Run)
+pub stands_log : (make : Option Maker) (given : Wires) (start : Start) (late : Option ℕ) (r : Run)
     (lines : List (List ℕ)) → Stands make given start late r
     → Stands make given start late (record r { log = lines })
 stands_log make given start late r lines h = record {
@@ -63,6 +63,7 @@ stands_log make given start late r lines h = record {
   count = h.count;
   fine = h.fine;
   equations = h.equations;
+  numbered = h.numbered;
 }
 
 -- sides of which a difference is told aren't opaque
@@ -109,7 +110,7 @@ equation_holds E x y m n p e mx my same v ev =
     number_at E x m v mx (clear_left x y p e) ev ∙ same ∙ sym
     (number_at E y n v my (clear_right x y p e) ev)
 
-module _ (make : Option Maker) (given : Wires) (start : World) (scope : Scope) (q : Running)
+module _ (make : Option Maker) (given : Wires) (start : Start) (scope : Scope) (q : Running)
     (sound : Soundly scope q) where
   abbrev Then : State → Run → Type 0
   Then = After make given start scope q sound

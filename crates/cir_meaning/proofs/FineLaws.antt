@@ -13,7 +13,7 @@ use Rattle.cir_meaning.proofs.Good.{good_is}
 use Rattle.cir_meaning.proofs.Holding.{all_hold}
 use Rattle.cir_meaning.proofs.FineBodies.{compiled_fine}
 
-all_of : {A : Type 0} (P : A → Type 0) (xs : List A) → AllByRecursion P xs → All P xs
+pub all_of : {A : Type 0} (P : A → Type 0) (xs : List A) → AllByRecursion P xs → All P xs
 all_of P xs h = λ k d l. every_from_all P xs h k d zero-le l
 
 pub differences : (p : Program) (c : Circuit) → compiled p ≡ Ok c → All IsDifference c.equations

@@ -1,6 +1,6 @@
 -- What the run of a body has, beside what the compile meaning has there: numbers of its variables,
 -- signals and components.
-use Rattle.std.proofs.Common.{◌≡◌, ℕ, zero, suc, ◌+◌, Bool, true, false, ◌&&◌, ◌||◌, not, cond, List, [], ◌∷◌, map, length, Option, Some, None, is_some, slice_get, slice_index, Result, Ok, Err, refl, sym, ap, subst, ◌∙◌, ◌⊎◌, inl, inr, arith}
+use Rattle.std.proofs.Common.{◌≡◌, ℕ, zero, suc, ◌+◌, ◌<◌, Bool, true, false, ◌&&◌, ◌||◌, not, cond, List, [], ◌∷◌, map, length, Option, Some, None, is_some, slice_get, slice_index, Result, Ok, Err, refl, sym, ap, subst, ◌∙◌, ◌⊎◌, inl, inr, arith}
 use Rattle.std.specs.Prelude.{⊤, unwrap_or, bytes_eq}
 use Rattle.std.specs.List.{AllByRecursion}
 use Rattle.cir_ast.specs.declared.program.Meant.TheVariants as meant
@@ -14,7 +14,7 @@ use Rattle.cir_meaning.specs.Frame.{SignalEntry, Signals, Part, ComponentEntry, 
 use Rattle.cir_meaning.specs.Reading as reading
 use Rattle.cir_meaning.specs.Reading.{Origin, Wired, Lost, find_signal, told_signal, named_signal, part_in, part_at, part_origin, located, inner_origin}
 use Rattle.cir_meaning.specs.RunValues.{stored}
-use Rattle.cir_meaning.specs.Run.{Wires, RunPart, Run, store_of, wires_of, entry_wires, own_signal, found_port, port_of, part_signal, component_signal}
+use Rattle.cir_meaning.specs.Run.{Wires, Table, RunPart, Run, store_of, wires_of, entry_wires, own_signal, found_port, port_of, part_signal, component_signal}
 use Rattle.cir_meaning.proofs.Meaning.{Means}
 use Rattle.cir_meaning.proofs.Pairs.{Pair, pair_ok, pair_bad}
 use Rattle.cir_meaning.proofs.Reaching.{IndicesSame, all_same, reached_count}
@@ -24,8 +24,8 @@ use Rattle.cir_meaning.proofs.Sound.{SourceSame}
 -- an assignment has the numbers of a table of signals
 abbrev pub Agrees : Assignment → Signals → Wires → Type 0
 Agrees v signals wires =
-    (n : ℕ) (e : SignalEntry) → entry_at signals n ≡ Some e → (p x : ℕ) → wires n p ≡ Some x → v.at
-    (e.first + p) ≡ x
+    (n : ℕ) (e : SignalEntry) → entry_at signals n ≡ Some e → (p x : ℕ) → p < length e.written
+    → wires n p ≡ Some x → v.at (e.first + p) ≡ x
 
 abbrev pub PartAgrees : Assignment → Part → RunPart → Type 0
 PartAgrees v p r =
@@ -36,6 +36,12 @@ abbrev pub Extends : Run → Assignment → Type 0
 Extends r v = Agrees v r.known.frame.signals r.own
     × ((j : ℕ) (p : Part) (q : RunPart) → slice_get r.known.frame.parts j ≡ Some p → slice_get
     r.parts j ≡ Some q → PartAgrees v p q)
+
+-- a table with a number for each element
+abbrev pub Full : Table → Type 0
+Full t =
+    (n : ℕ) (e : SignalEntry) → entry_at t.signals n ≡ Some e → (k : ℕ) (b : Bool)
+    → slice_get e.written k ≡ Some b → is_some (t.wires n k) ≡ true
 
 -- what is written has a number
 abbrev pub MarksSame : Signals → Wires → Type 0
@@ -57,6 +63,12 @@ pub record Holds (r : Run) : Type 0 where
   pub own : MarksSame r.known.frame.signals r.own
   pub parts : (j : ℕ) (p : Part) → slice_get r.known.frame.parts j ≡ Some p
       → (q : RunPart) × (slice_get r.parts j ≡ Some q) × PartHolds p q
+
+pub get_less : {A : Type 0} (xs : List A) (i : ℕ) (x : A) → slice_get xs i ≡ Some x → i < length xs
+get_less [] i x e = cc
+get_less (y ∷ ys) zero x e = omega arith
+get_less (y ∷ ys) (suc i) x e =
+    let less : i < length ys = get_less ys i x e in omega arith
 
 -- the numbers of a signal's elements, by place
 some_at : (written : List Bool) (f : ℕ → Option ℕ) (first p : ℕ) (b : Bool)
@@ -86,7 +98,8 @@ wire_at : (E : Assignment → Type 0) (may : Bool) (n : ℕ) (e : SignalEntry) (
     (o : Option Bool)
     → slice_get e.written p ≡ o
     → ((b : Bool) → slice_get e.written p ≡ Some b → (may && b) ≡ true → is_some (wires n p) ≡ true)
-    → ((x : ℕ) → wires n p ≡ Some x → (v : Assignment) → E v → v.at (e.first + p) ≡ x)
+    → ((x : ℕ) → p < length e.written → wires n p ≡ Some x → (v : Assignment) → E v
+    → v.at (e.first + p) ≡ x)
     → (may && unwrap_or o true) ≡ true
     → (x : ℕ) × (unwrap_or (slice_get (map (wires n) (numbers_from 0 (length e.written))) p)
     (Some 0) ≡ Some x) × Means E (cond (is_some o) (Linear (signal (e.first + p))) (Known 0)) x
@@ -102,13 +115,14 @@ wire_at E may n e wires p (Some b) eq there agrees t =
       number.0,
       ap (λ (o : Option (Option ℕ)). unwrap_or o (Some 0)) (some_at e.written (wires n) 0 p b eq) ∙
           ap (λ (a : ℕ). wires n a) place ∙ number.1,
-      agrees number.0 number.1,
+      agrees number.0 (get_less e.written p b eq) number.1,
     )
 
 wire : (E : Assignment → Type 0) (may : Bool) (n : ℕ) (e : SignalEntry) (wires : Wires)
     → ((p : ℕ) (b : Bool) → slice_get e.written p ≡ Some b → (may && b) ≡ true → is_some (wires n p)
     ≡ true)
-    → ((p x : ℕ) → wires n p ≡ Some x → (v : Assignment) → E v → v.at (e.first + p) ≡ x) → Wire E
+    → ((p x : ℕ) → p < length e.written → wires n p ≡ Some x → (v : Assignment) → E v
+    → v.at (e.first + p) ≡ x) → Wire E
     may e (wires_of wires n e)
 wire E may n e wires there agrees =
     (refl, (λ p t. wire_at E may n e wires p (slice_get e.written p) refl (there p) (agrees p) t))
@@ -172,7 +186,7 @@ module _ (r : Run) (holds : Holds r) where
     wires_of r.own n e,
     ap (entry_wires r.own n) there,
     wire (Extends r) true n e r.own (λ p b at t. holds.own n e there p b at ∙ t)
-        (λ p x at v ex. ex.0 n e there p x at),
+        (λ p x less at v ex. ex.0 n e there p x less at),
   )
 
   -- the signal of this name of a part
@@ -195,7 +209,7 @@ module _ (r : Run) (holds : Holds r) where
       (wire (Extends r) (is_input x.1.direction || is_fed p.signals) x.0 x.1 q.ports
       (λ k b at t. readable k b at there (may_read (is_input x.1.direction) (is_fed p.signals) b t
       (λ a c. tt)))
-      (λ k y at v ex. (ex.1 j p q hp hq).0 x.0 x.1 there k y at))
+      (λ k y less at v ex. (ex.1 j p q hp hq).0 x.0 x.1 there k y less at))
     where
       readable : (k : ℕ) (b : Bool) → slice_get x.1.written k ≡ Some b
           → entry_at p.signals x.0 ≡ Some x.1

@@ -35,6 +35,11 @@ pub mod RunFree
 pub mod CallsTold
 pub mod Goes
 pub mod Standing
+pub mod PartWeights
+pub mod NewSignals
+pub mod TableWires
+pub mod NumberPlaces
+pub mod MainValues
 pub mod Settling
 pub mod VariableRuns
 pub mod StepRuns
@@ -74,8 +79,10 @@ pub mod BodyFlows
 pub mod TemplateBodies
 pub mod TemplateRuns
 pub mod DepthRuns
+pub mod GroupSizes
 pub mod GrowingSizes
 pub mod MadeSizes
 pub mod MainPlaces
 pub mod MainInputs
 pub mod MainRuns
+pub mod Weights

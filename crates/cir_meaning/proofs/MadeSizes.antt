@@ -1,5 +1,5 @@
 -- The groups of signals grow while a template is made into a component.
-use Rattle.std.proofs.Common.{◌≡◌, ℕ, zero, suc, List, Option, Some, None, Ok, refl, subst, slice_get}
+use Rattle.std.proofs.Common.{◌≡◌, ℕ, List, Option, Some, None, Ok, refl, subst, slice_get}
 use Rattle.cir_ast.specs.declared.operators.Direction.{Direction}
 use Rattle.cir_ast.specs.declared.refusal.Kind.TheVariants.{WrongKind}
 use Rattle.cir_ast.specs.Program.{Program, Template}
@@ -7,20 +7,18 @@ use Rattle.cir_meaning.specs.Scoped.{IsResolved, behind_all}
 use Rattle.cir_meaning.specs.Tried.{next, found}
 use Rattle.cir_meaning.specs.Frame.{Group, State, Maker}
 use Rattle.cir_meaning.specs.Statement.{exec_all}
-use Rattle.cir_meaning.specs.Bodies.{template_context, template_state, ended_flow, exec_template, call_at, make_at, most_open, numbered_others}
+use Rattle.cir_meaning.specs.Bodies.{template_context, template_state, ended_flow, exec_template, call_at, most_open}
 use Rattle.cir_meaning.specs.RunSimple.{Runner}
-use Rattle.cir_meaning.specs.RunBodies.{body_at}
 use Rattle.cir_meaning.proofs.Good.{OnSome'}
 use Rattle.cir_meaning.proofs.FineValues.{FineMake}
-use Rattle.cir_meaning.proofs.FineBodies.{makes_fine}
 use Rattle.cir_meaning.proofs.Starting.{BodiesRun}
 use Rattle.cir_meaning.proofs.TemplateBodies.{context, template_scope, template_kept}
-use Rattle.cir_meaning.proofs.DepthRuns.{bodies_run}
-use Rattle.cir_meaning.proofs.GrowingSizes.{Less, Fits, less_itself, IsGrowing, From, from_closed}
+use Rattle.cir_meaning.proofs.GroupSizes.{Less, Fits, less_itself, IsGrowing}
+use Rattle.cir_meaning.proofs.GrowingSizes.{From, from_closed}
 
 pub template_grows : (p : Program) (resolved : IsResolved p) (size fuel : ℕ) (make : Option Maker)
     (makes : OnSome' FineMake make) (growing : OnSome' IsGrowing make)
-    (group : Direction → List ℕ → Group) (body : Runner) (bodies : BodiesRun make body)
+    (group : Direction → List ℕ → Group) (body : Runner) (bodies : BodiesRun size make body)
     → IsGrowing (exec_template p size (call_at p size most_open) make group)
 template_grows p resolved size fuel make makes growing group body bodies w n ds path world signals
     after made fits =
@@ -37,19 +35,13 @@ template_grows p resolved size fuel make makes growing group body bodies w n ds 
     at (Some t) e =
         let last : (u : State) × From world.sizes u × (u.frame.signals ≡ signals)
         × (u.world ≡ after) =
-        template_kept p resolved size fuel make makes group body bodies n t e path world w ds
+        template_kept p resolved size fuel make makes growing group body bodies n t e path world w
+        ds
         signals
         after made (From world.sizes)
         (from_closed world.sizes
-        (context p resolved size fuel make makes group body bodies n t e path world) growing
-        (behind_all (template_scope p resolved size fuel make makes group body bodies n t e path
+        (context p resolved size fuel make makes growing group body bodies n t e path world) growing
+        (behind_all (template_scope p resolved size fuel make makes growing group body bodies n t e
+        path
         world) t.body).signals) (fits, less_itself world.sizes) in
         subst (λ u. Fits u.sizes × Less world.sizes u.sizes) last.3 last.1
-
-pub makes_grow : (p : Program) (resolved : IsResolved p) (size fuel room : ℕ)
-    → OnSome' IsGrowing (make_at p size room)
-makes_grow p resolved size fuel zero = tt
-makes_grow p resolved size fuel (suc room) =
-    template_grows p resolved size fuel (make_at p size room) (makes_fine p size room)
-    (makes_grow p resolved size fuel room) numbered_others (body_at p size fuel room)
-    (bodies_run p resolved size fuel room)

@@ -9,18 +9,13 @@ use Rattle.cir_meaning.specs.Frame.{SignalEntry, Signals, PublicInputs, PrivateI
 use Rattle.cir_meaning.specs.Compile.{main_group, before, final_number}
 use Rattle.cir_meaning.specs.RunBodies.{input_wires}
 use Rattle.cir_meaning.proofs.SignalDeclarations.{IsShape}
+use Rattle.cir_meaning.proofs.Holds.{get_less}
 use Rattle.cir_meaning.proofs.MainPlaces.{Place}
 
 get_some : {A : Type 0} (xs : List A) (i : ℕ) → i < length xs → is_some (slice_get xs i) ≡ true
 get_some [] i h = absurd (omega arith)
 get_some (x ∷ xs) zero h = refl
 get_some (x ∷ xs) (suc i) h = get_some xs i (omega arith)
-
-get_less : {A : Type 0} (xs : List A) (i : ℕ) (x : A) → slice_get xs i ≡ Some x → i < length xs
-get_less [] i x e = cc
-get_less (y ∷ ys) zero x e = omega arith
-get_less (y ∷ ys) (suc i) x e =
-    let less : i < length ys = get_less ys i x e in omega arith
 
 -- numbers of a group
 digit : (size i a : ℕ) → i < size → ((i + size * a) / size ≡ a) × ((i + size * a) % size ≡ i)

@@ -15,7 +15,8 @@ use Rattle.cir_meaning.proofs.PartWrites.{same_or_not, set_count}
 use Rattle.cir_meaning.proofs.Creating.{Created}
 use Rattle.cir_meaning.proofs.Keeping.{Closed}
 use Rattle.cir_meaning.proofs.Entries.{put_else, part_apart}
-use Rattle.cir_meaning.proofs.GrowingSizes.{Less, Fits, less_itself, less_then, more_less, more_fits, more_here, IsGrowing, From, from_made, constrained_kept}
+use Rattle.cir_meaning.proofs.GroupSizes.{Less, Fits, less_itself, less_then, more_less, more_fits, more_here, IsGrowing}
+use Rattle.cir_meaning.proofs.GrowingSizes.{From, from_made, constrained_kept}
 
 -- in its group, unless the group has more than can be counted
 abbrev pub Place : Context → Sizes → SignalEntry → Type 0

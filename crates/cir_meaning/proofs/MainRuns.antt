@@ -1,6 +1,6 @@
 -- The run of a program that compiles: main's body runs on its inputs.
 use Rattle.std.proofs.Common.{◌≡◌, ℕ, ◌+◌, ◌<◌, ◌≤◌, List, [], ◌∷◌, length, Some, None, Ok, Err, refl, sym, ap, subst, ◌∙◌, slice_get, arith}
-use Rattle.std.specs.Prelude.{⊤, ◌^◌, ◌-◌, codes}
+use Rattle.std.specs.Prelude.{◌^◌, ◌-◌, codes}
 use Rattle.cir_ast.specs.declared.program.Meant.{Meant}
 use Rattle.cir_ast.specs.declared.program.Meant.TheVariants as meant
 use Rattle.cir_ast.specs.declared.refusal.Kind.TheVariants.{WrongKind}
@@ -29,11 +29,11 @@ use Rattle.cir_meaning.proofs.SignalDeclarations.{IsShape}
 use Rattle.cir_meaning.proofs.ScanPoints.{next_to, found_to}
 use Rattle.cir_meaning.proofs.TemplateBodies.{context, template_scope, template_kept}
 use Rattle.cir_meaning.proofs.TemplateRuns.{Ran, ends_ok, template_runs, none_entry}
-use Rattle.cir_meaning.proofs.DepthRuns.{bodies_run}
-use Rattle.cir_meaning.proofs.GrowingSizes.{Fits}
-use Rattle.cir_meaning.proofs.MadeSizes.{makes_grow}
+use Rattle.cir_meaning.proofs.GroupSizes.{Fits}
+use Rattle.cir_meaning.proofs.DepthRuns.{makes_grow, bodies_run}
 use Rattle.cir_meaning.proofs.MainPlaces.{Place, Placed, placed_closed}
 use Rattle.cir_meaning.proofs.MainInputs.{inputs_shape}
+use Rattle.cir_meaning.proofs.MainValues.{Fitting, fitting}
 
 ends_refusing : {A B : Type 0} (Q : B → Type 0) (m : Tried A) (on : A → RunTried B) (a : A)
     → m ≡ Ok a → Ends Q (on a) → Ends Q (next (refusing m) on)
@@ -184,53 +184,71 @@ module _ (p : Program) (resolved : IsResolved p) (size fuel : ℕ) (m : Main) (t
       let x : Template = found_template.0 in
       let last : (u : State)
       × Placed (context p resolved size fuel (make_at p size 255) (makes_fine p size 255)
-      (main_group m.public_names) (body_at p size fuel 255) (bodies_run p resolved size fuel 255) t
+      (makes_grow p resolved size fuel 255) (main_group m.public_names) (body_at p size fuel 255)
+      (bodies_run p resolved size fuel 255) t
       x
       found_template.1 (codes "main") its.state.world) its.state.world.sizes u
       × (u.frame.signals ≡ signals) × (u.world ≡ its.world) =
       template_kept p resolved size fuel (make_at p size 255) (makes_fine p size 255)
-      (main_group m.public_names) (body_at p size fuel 255) (bodies_run p resolved size fuel 255) t
+      (makes_grow p resolved size fuel 255) (main_group m.public_names) (body_at p size fuel 255)
+      (bodies_run p resolved size fuel 255) t
       x
       found_template.1 (codes "main") its.state.world place its.arguments signals its.world its.made
       (Placed (context p resolved size fuel (make_at p size 255) (makes_fine p size 255)
-      (main_group m.public_names) (body_at p size fuel 255) (bodies_run p resolved size fuel 255) t
+      (makes_grow p resolved size fuel 255) (main_group m.public_names) (body_at p size fuel 255)
+      (bodies_run p resolved size fuel 255) t
       x
       found_template.1 (codes "main") its.state.world) its.state.world.sizes)
       (placed_closed its.state.world.sizes
       (context p resolved size fuel (make_at p size 255) (makes_fine p size 255)
-      (main_group m.public_names) (body_at p size fuel 255) (bodies_run p resolved size fuel 255) t
+      (makes_grow p resolved size fuel 255) (main_group m.public_names) (body_at p size fuel 255)
+      (bodies_run p resolved size fuel 255) t
       x
       found_template.1 (codes "main") its.state.world) (makes_grow p resolved size fuel 255)
       (behind_all (template_scope p resolved size fuel (make_at p size 255) (makes_fine p size 255)
-      (main_group m.public_names) (body_at p size fuel 255) (bodies_run p resolved size fuel 255) t
+      (makes_grow p resolved size fuel 255) (main_group m.public_names) (body_at p size fuel 255)
+      (bodies_run p resolved size fuel 255) t
       x
       found_template.1 (codes "main") its.state.world) x.body).signals) (
         (first_sizes, (λ g. omega arith)),
         (λ i d at. let no : None ≡ Some d = sym (none_entry x.signals i) ∙ at in cc),
       ) in
       inputs_shape (context p resolved size fuel (make_at p size 255) (makes_fine p size 255)
-      (main_group m.public_names) (body_at p size fuel 255) (bodies_run p resolved size fuel 255) t
+      (makes_grow p resolved size fuel 255) (main_group m.public_names) (body_at p size fuel 255)
+      (bodies_run p resolved size fuel 255) t
       x
       found_template.1 (codes "main") its.state.world) size m.public_names after.sizes inputs refl
       refl small few count signals n e there
       (subst (λ z. Place (context p resolved size fuel (make_at p size 255) (makes_fine p size 255)
-      (main_group m.public_names) (body_at p size fuel 255) (bodies_run p resolved size fuel 255) t
+      (makes_grow p resolved size fuel 255) (main_group m.public_names) (body_at p size fuel 255)
+      (bodies_run p resolved size fuel 255) t
       x
       found_template.1 (codes "main") its.state.world) z e)
       (ap (λ (v : World). v.sizes) last.3 ∙ sym its.like.0)
       (last.1.1 n e (subst (λ xs. entry_at xs n ≡ Some e) (sym last.2) there)))
 
-  pub main_runs : Ends (Ran signals given its.state.world its.world)
+  pub main_runs : Ends (Ran size signals given its.state.world its.world)
       (run_program p size fuel m (meant.Template t) given)
   main_runs =
-      ends_refusing (Ran signals given its.state.world its.world)
+      ends_refusing (Ran size signals given its.state.world its.world)
       (arguments_in (main_context p size m) place m.arguments main_state) _
       (its.arguments, its.state) its.evaluated
       (template_runs p resolved size fuel (make_at p size 255) (makes_fine p size 255)
-      (main_group m.public_names) (body_at p size fuel 255) (bodies_run p resolved size fuel 255)
+      (makes_grow p resolved size fuel 255) (main_group m.public_names) (body_at p size fuel 255)
+      (bodies_run p resolved size fuel 255)
       place t found_template.0 found_template.1 its.arguments
       (codes "main") its.state.world given []
-      known fine.0 fine.1.1 signals its.world its.made shapes)
+      known fine.0 fine.1.1 first_sizes signals its.world its.made shapes)
+
+  pub main_fits : (o : Outcome) → Ran size signals given its.state.world its.world o
+      → Fitting size (circuit_of size after) record {
+        values = all_wires size after.sizes (record { signals = signals; wires = o.own } ∷
+            o.inside);
+        log = o.log;
+      }
+  main_fits o r =
+      fitting size signals its.state.world its.world after given o r sizes_are
+      (ap (λ (v : World). v.equations) like.4) its.like.0 its.like.1
 
 -- all numbers of a program's run
 abbrev pub ending : ℕ → Signals × World → Outcome → RunTried Ending
@@ -240,11 +258,11 @@ ending size x o =
       log = o.log;
     }
 
--- a program that compiles, as it runs
+-- a program that compiles, as it runs: its values satisfy it
 pub runs : (p : Program) (resolved : IsResolved p) (size fuel : ℕ) (c : Circuit) (inputs : List ℕ)
     → size ≤ 2 ^ 64 - 1 → compiled_with size p ≡ Ok c
     → length inputs ≡ c.public_inputs + c.private_inputs → length inputs < size
-    → Ends (λ e. ⊤) (run_with size p fuel inputs)
+    → Ends (Fitting size c) (run_with size p fuel inputs)
 runs p resolved size fuel c inputs small e count few =
     let one : (m : Main) × (the_main p ≡ Ok m)
     × (next (exec_main p size m m.meant) circuit ≡ Ok c) =
@@ -252,10 +270,12 @@ runs p resolved size fuel c inputs small e count few =
     let two : (x : Signals × World) × (exec_main p size one.0 one.0.meant ≡ Ok x)
     × (circuit x ≡ Ok c) = next_to (exec_main p size one.0 one.0.meant) circuit c one.2 in
     let is : circuit_of size two.0.1 ≡ c = cc in
-    ends_refusing (λ e. ⊤) (the_main p) _ one.0 one.1
-    (ends_refusing (λ e. ⊤) (exec_main p size one.0 one.0.meant) _ two.0 two.1
+    ends_refusing (Fitting size c) (the_main p) _ one.0 one.1
+    (ends_refusing (Fitting size c) (exec_main p size one.0 one.0.meant) _ two.0 two.1
+    (subst (λ d. Ends (Fitting size d) (next (run_program p size fuel one.0 one.0.meant
+    (input_wires size two.0.1.sizes inputs two.0.0)) (ending size two.0))) is
     (by_meant one.0 two.0 one.0.meant refl two.1
-    (count ∙ ap (λ (x : Circuit). x.public_inputs + x.private_inputs) (sym is))))
+    (count ∙ ap (λ (x : Circuit). x.public_inputs + x.private_inputs) (sym is)))))
   where
     circuit : Signals × World → Tried Circuit
     circuit x = Ok (circuit_of size x.1)
@@ -263,19 +283,21 @@ runs p resolved size fuel c inputs small e count few =
     by_meant : (m : Main) (x : Signals × World) (t : Meant) → m.meant ≡ t
         → exec_main p size m m.meant ≡ Ok x
         → length inputs ≡ x.1.sizes.public_inputs + x.1.sizes.private_inputs
-        → Ends (λ e. ⊤) (next (run_program p size fuel m m.meant
+        → Ends (Fitting size (circuit_of size x.1)) (next (run_program p size fuel m m.meant
         (input_wires size x.1.sizes inputs x.0)) (ending size x))
     by_meant m x (meant.Template t) same ex count =
         let at_t : exec_main p size m (meant.Template t) ≡ Ok (x.0, x.1) =
         subst (λ y. exec_main p size m y ≡ Ok x) same ex in
-        subst (λ y. Ends (λ e. ⊤) (next (run_program p size fuel m y
+        subst (λ y. Ends (Fitting size (circuit_of size x.1)) (next (run_program p size fuel m y
         (input_wires size x.1.sizes inputs x.0)) (ending size x))) (sym same)
-        (ends_next (Ran x.0 (input_wires size x.1.sizes inputs x.0)
+        (ends_next (Ran size x.0 (input_wires size x.1.sizes inputs x.0)
         (executed p size m t x.0 x.1 at_t).state.world (executed p size m t x.0 x.1 at_t).world)
-        (λ e. ⊤) (run_program p size fuel m (meant.Template t)
+        (Fitting size (circuit_of size x.1)) (run_program p size fuel m (meant.Template t)
         (input_wires size x.1.sizes inputs x.0)) (ending size x)
         (main_runs p resolved size fuel m t x.0 x.1 (executed p size m t x.0 x.1 at_t) inputs small
-        few count) (λ o r. ends_ok (λ e. ⊤) _ tt))
+        few count) (λ o r. ends_ok (Fitting size (circuit_of size x.1)) _
+        (main_fits p resolved size fuel m t x.0 x.1 (executed p size m t x.0 x.1 at_t) inputs small
+        few count o r)))
     by_meant m x meant.Other same ex count =
         let no : exec_main p size m meant.Other ≡ Ok x =
         subst (λ y. exec_main p size m y ≡ Ok x) same ex in cc

@@ -1,12 +1,14 @@
 -- A write of a body's own signals in a run.
-use Rattle.std.proofs.Common.{◌≡◌, ◌≢◌, ℕ, ◌+◌, List, [], ◌∷◌, Option, Some, None, refl, sym, ap, ◌∙◌}
+use Rattle.std.proofs.Common.{◌≡◌, ◌≢◌, ℕ, ◌+◌, List, [], ◌∷◌, Option, Some, None, refl, sym, ap, ◌∙◌, subst, length, ◌<◌}
+use Rattle.cir_meaning.proofs.PartWeights.{same_cover}
+use Rattle.cir_meaning.proofs.Weights.{under}
 use Rattle.std.specs.List.{AllByRecursion}
 use Rattle.cir_lc.specs.Number.{Assignment}
 use Rattle.cir_meaning.specs.Limits.{Counts}
 use Rattle.cir_meaning.specs.Source.{Equation, IsEqualAt}
 use Rattle.cir_meaning.specs.Arrays.{Datum}
 use Rattle.cir_meaning.specs.Values.{Value}
-use Rattle.cir_meaning.specs.Frame.{SignalEntry, Signals, World, Maker, variable_at, entry_at}
+use Rattle.cir_meaning.specs.Frame.{SignalEntry, Signals, Maker, variable_at, entry_at}
 use Rattle.cir_meaning.specs.RunValues.{Numbers, stored}
 use Rattle.cir_meaning.specs.Run.{Wires, Run, store_of, put_wire, put_wires}
 use Rattle.cir_meaning.proofs.Rows.{all_append}
@@ -15,9 +17,9 @@ use Rattle.cir_meaning.proofs.Meaning.{means_in}
 use Rattle.cir_meaning.proofs.Same.{Rows, Same}
 use Rattle.cir_meaning.proofs.Marking.{KeepsWires, wire_row}
 use Rattle.cir_meaning.proofs.Holds.{Agrees, Extends, MarksSame}
-use Rattle.cir_meaning.proofs.Standing.{Stands, SameEntry, SameShapes}
+use Rattle.cir_meaning.proofs.Standing.{Stands, SameEntry, SameShapes, Start, parts_weight}
 use Rattle.cir_meaning.proofs.SignalWrites.{wrote, AllAt}
-use Rattle.cir_meaning.proofs.Writing.{Placed}
+use Rattle.cir_meaning.proofs.Writing.{Placed, AllBelow}
 
 -- fewer assignments
 rows_in : (E F : Assignment → Type 0) → ((v : Assignment) → F v → E v) → (vs : List Value)
@@ -34,9 +36,10 @@ same_in E F i d m h = (h.0, rows_in E F i d.items m.items h.1)
 -- more numbers of the same signals
 pub agrees_before : (v : Assignment) (old new : Signals) (wires more : Wires)
     → SameShapes old new → KeepsWires wires more → Agrees v new more → Agrees v old wires
-agrees_before v old new wires more shapes keeps agrees n e there p x at =
+agrees_before v old new wires more shapes keeps agrees n e there p x less at =
     let d : (d : SignalEntry) × (entry_at new n ≡ Some d) × SameEntry e d = shapes n e there in
-    ap (λ (k : ℕ). v.at (k + p)) d.2.1 ∙ agrees n d.0 d.1 p x (keeps n p x at)
+    ap (λ (k : ℕ). v.at (k + p)) d.2.1
+    ∙ agrees n d.0 d.1 p x (subst (λ (k : ℕ). p < k) d.2.2 less) (keeps n p x at)
 
 pub none_before : (old new : Signals) (n : ℕ) → SameShapes old new → entry_at new n ≡ None
     → entry_at old n ≡ None
@@ -61,13 +64,16 @@ wires_else n (place ∷ places) (value ∷ values) wires m p ne =
 -- the numbers that were put
 pub all_at : (v : Assignment) (signals : Signals) (wires : Wires) (n : ℕ) (e : SignalEntry)
     → entry_at signals n ≡ Some e → Agrees v signals wires → (places values : List ℕ)
-    → Placed wires n places values → AllAt v e.first places values
-all_at v signals wires n e there agrees [] values h = tt
-all_at v signals wires n e there agrees (place ∷ places) [] h = tt
-all_at v signals wires n e there agrees (place ∷ places) (value ∷ values) h =
-    (agrees n e there place value h.0, all_at v signals wires n e there agrees places values h.1)
+    → Placed wires n places values → AllBelow (length e.written) places values
+    → AllAt v e.first places values
+all_at v signals wires n e there agrees [] values h g = tt
+all_at v signals wires n e there agrees (place ∷ places) [] h g = tt
+all_at v signals wires n e there agrees (place ∷ places) (value ∷ values) h g = (
+  agrees n e there place value g.0 h.0,
+  all_at v signals wires n e there agrees places values h.1 g.1,
+)
 
-module _ (make : Option Maker) (given : Wires) (start : World) (r : Run) (signals : Signals)
+module _ (make : Option Maker) (given : Wires) (start : Start) (r : Run) (signals : Signals)
     (es : List Equation) (a c : Counts) (wires : Wires) where
   -- the run behind it
   abbrev pub own_written : Run
@@ -75,12 +81,13 @@ module _ (make : Option Maker) (given : Wires) (start : World) (r : Run) (signal
 
   pub own_stands : Stands make given start None r → MarksSame signals wires
       → KeepsWires r.own wires → SameShapes r.known.frame.signals signals
+      → SameShapes signals r.known.frame.signals
       → ((n : ℕ) → entry_at signals n ≡ None → (p : ℕ) → wires n p ≡ r.own n p)
       → Fine (wrote r.known None signals es a c)
       → ((v : Assignment) → Extends r v → Agrees v signals wires
       → AllByRecursion (IsEqualAt v) es)
       → Stands make given start None own_written
-  own_stands h marks keeps shapes blank fine holds =
+  own_stands h marks keeps shapes shapes_back blank fine holds =
       let before : (v : Assignment) → Extends own_written v → Extends r v = λ v ex.
       (agrees_before v r.known.frame.signals signals r.own wires shapes keeps ex.0, ex.1) in
       record {
@@ -95,4 +102,11 @@ module _ (make : Option Maker) (given : Wires) (start : World) (r : Run) (signal
         fine = fine;
         equations = λ v ex debts old. all_append (IsEqualAt v) r.known.world.equations es
             (h.equations v (before v ex) debts old) (holds v (before v ex) ex.0);
+        numbered = (
+          h.numbered.0,
+          h.numbered.1,
+          (λ few m. ap (λ (c : ℕ). c + (parts_weight make start.size m r.parts
+              + under start.size start.world.sizes m)) (sym (same_cover m r.known.frame.signals
+              signals shapes shapes_back)) ∙ h.numbered.2 few m),
+        );
       }

@@ -1,11 +1,12 @@
 -- A write of a component's inputs in a run.
 use Rattle.std.proofs.Common.{◌≡◌, ◌≢◌, ◌⊎◌, inl, inr, ℕ, zero, suc, Bool, true, false, not, ◌&&◌, nat_eq, List, [], ◌∷◌, ◌++◌, length, Option, Some, None, is_some, refl, sym, ap, subst, ◌∙◌, slice_get, slice_set}
+use Rattle.cir_meaning.proofs.PartWeights.{put_numbered, ports_weigh, weigh_shapes}
 use Rattle.std.specs.List.{AllByRecursion}
 use Rattle.std.proofs.lemmas.Bool.{ne_eqb, eq-eqb, eqb-true}
 use Rattle.cir_lc.specs.Number.{Assignment}
 use Rattle.cir_meaning.specs.Limits.{Counts}
 use Rattle.cir_meaning.specs.Source.{Equation, IsEqualAt}
-use Rattle.cir_meaning.specs.Frame.{SignalEntry, Signals, Part, World, State, Maker, variable_at, entry_at, is_input, is_fed}
+use Rattle.cir_meaning.specs.Frame.{SignalEntry, Signals, Part, State, Maker, variable_at, entry_at, is_input, is_fed}
 use Rattle.cir_meaning.specs.RunValues.{stored}
 use Rattle.cir_meaning.specs.Writing.{with_part_signals}
 use Rattle.cir_meaning.specs.Run.{Wires, RunPart, Run, store_of}
@@ -14,7 +15,7 @@ use Rattle.cir_meaning.proofs.FineValues.{Fine}
 use Rattle.cir_meaning.proofs.Marking.{MarksOf, KeepsWires, set_at}
 use Rattle.cir_meaning.proofs.Writing.{get_set}
 use Rattle.cir_meaning.proofs.Holds.{Agrees, PartAgrees, Extends}
-use Rattle.cir_meaning.proofs.Standing.{PartStands, Stands, SameEntry, SameShapes, Debts, Pays, made_ports, pays_ports, ports_pay, is_done}
+use Rattle.cir_meaning.proofs.Standing.{PartStands, Stands, SameEntry, SameShapes, Debts, Pays, made_ports, pays_ports, ports_pay, is_done, Start}
 use Rattle.cir_meaning.proofs.SignalWrites.{wrote, shapes_then}
 use Rattle.cir_meaning.proofs.OwnWrites.{same_in, agrees_before}
 
@@ -52,7 +53,7 @@ other_done false j i p ne = ap (λ (b : Bool). not b && is_fed p.signals) (ne_eq
 pub itself_late : (j : ℕ) (p : Part) → is_done (Some j) j p ≡ false
 itself_late j p = ap (λ (b : Bool). not b && is_fed p.signals) (eq-eqb j j refl)
 
-module _ (make : Option Maker) (given : Wires) (start : World) (r : Run) (j : ℕ) (p : Part)
+module _ (make : Option Maker) (given : Wires) (start : Start) (r : Run) (j : ℕ) (p : Part)
     (q : RunPart) (hp : slice_get r.known.frame.parts j ≡ Some p)
     (hq : slice_get r.parts j ≡ Some q) (signals : Signals) (es : List Equation) (a c : Counts)
     (wires : Wires) where
@@ -115,7 +116,7 @@ module _ (make : Option Maker) (given : Wires) (start : World) (r : Run) (j : �
         (from : (n k x : ℕ) → wires n k ≡ Some x
         → (q.ports n k ≡ Some x)
         ⊎ ((e : SignalEntry) × (entry_at signals n ≡ Some e) × (is_input e.direction ≡ true)))
-        (old : PartStands make (is_fed p.signals) p q) where
+        (old : PartStands start.size make (is_fed p.signals) p q) where
       written_mark : (n : ℕ) (e : SignalEntry) → entry_at signals n ≡ Some e → (k : ℕ)
           → is_fed p.signals ≡ true → (b : Bool) → slice_get e.written k ≡ Some b
           → is_some (wires n k) ≡ true
@@ -141,7 +142,7 @@ module _ (make : Option Maker) (given : Wires) (start : World) (r : Run) (j : �
 
       part_new : (done : Bool) → (done ≡ true → is_fed p.signals ≡ true)
           → (done ≡ false → is_fed p.signals ≡ false)
-          → PartStands make done new_part new_ports
+          → PartStands start.size make done new_part new_ports
       part_new done when_done unless_done = record {
         signals = old.signals;
         after = old.after;
@@ -153,8 +154,12 @@ module _ (make : Option Maker) (given : Wires) (start : World) (r : Run) (j : �
         begins = old.begins;
         empty = λ d. old.empty (unless_done d);
         outputs = λ d n e there k b at. written_mark n e there k (when_done d) b at;
+        full = λ d. old.full (when_done d);
         paid = λ d v ex. pays_ports v make q wires q.inside
             (old.paid (when_done d) v (agrees_part v ex));
+        weighs = λ d. ports_weigh start.size make signals q.inside q wires q.inside
+            (weigh_shapes start.size make p.signals signals q.inside q shapes shapes_back
+            (old.weighs (when_done d)));
       }
         where
           others_at : is_fed p.signals ≡ false → (n k x : ℕ)
@@ -171,13 +176,14 @@ module _ (make : Option Maker) (given : Wires) (start : World) (r : Run) (j : �
           others_at unfed n k x (inr e) = e
 
       new_at : (was_fed : Bool) → is_fed p.signals ≡ was_fed
-          → PartStands make (is_done (late_of was_fed j) j new_part) new_part new_ports
+          → PartStands start.size make (is_done (late_of was_fed j) j new_part) new_part new_ports
       new_at true e = part_new (is_fed signals) (λ d. e) (λ d. cannot d)
         where
           cannot : is_fed signals ≡ false → is_fed p.signals ≡ false
           cannot d = let yes : is_fed signals ≡ true = fed e in cc
       new_at false e =
-          subst (λ b. PartStands make b new_part new_ports) (sym (itself_late j new_part))
+          subst (λ b. PartStands start.size make b new_part new_ports)
+          (sym (itself_late j new_part))
           (part_new false (λ d. cc) (λ d. e))
 
       pub part_stands : (was_fed : Bool) → is_fed p.signals ≡ was_fed → Fine part_state
@@ -198,27 +204,32 @@ module _ (make : Option Maker) (given : Wires) (start : World) (r : Run) (j : �
             (h.equations v (before v ex) (old_debts v debts) first) (holds v (before v ex)
             (ex.1 j new_part new_ports (get_set r.known.frame.parts j p new_part hp)
             (get_set r.parts j q new_ports hq)).0);
+        numbered = put_numbered make start r.known.world.sizes r.known.frame.signals r.parts j q
+            wires q.inside hq h.numbered;
       }
         where
           part_of : (i : ℕ) (p0 : Part)
               → ((j ≡ i) × (new_part ≡ p0)) ⊎ ((j ≢ i) × (slice_get r.known.frame.parts i
               ≡ Some p0))
               → (q0 : RunPart) × (slice_get (slice_set r.parts j new_ports) i ≡ Some q0)
-              × PartStands make (is_done (late_of was_fed j) i p0) p0 q0
+              × PartStands start.size make (is_done (late_of was_fed j) i p0) p0 q0
           part_of i p0 (inl s) = (
             new_ports,
             ap (slice_get (slice_set r.parts j new_ports)) (sym s.0) ∙
                 get_set r.parts j q new_ports hq,
-            subst (λ m. PartStands make (is_done (late_of was_fed j) m p0) p0 new_ports) s.0
-                (subst (λ x. PartStands make (is_done (late_of was_fed j) j x) x new_ports) s.1
+            subst (λ m. PartStands start.size make (is_done (late_of was_fed j) m p0) p0 new_ports)
+                s.0
+                (subst (λ x. PartStands start.size make
+                (is_done (late_of was_fed j) j x) x new_ports) s.1
                 (new_at was_fed is)),
           )
           part_of i p0 (inr s) =
               let there : (q0 : RunPart) × (slice_get r.parts i ≡ Some q0)
-              × PartStands make (is_done None i p0) p0 q0 = h.parts i p0 s.1 in (
+              × PartStands start.size make (is_done None i p0) p0 q0 = h.parts i p0 s.1 in (
                 there.0,
                 get_other r.parts j i new_ports s.0 ∙ there.1,
-                subst (λ b. PartStands make b p0 there.0) (sym (other_done was_fed j i p0 s.0))
+                subst (λ b. PartStands start.size make b p0 there.0)
+                    (sym (other_done was_fed j i p0 s.0))
                     there.2,
               )
 

@@ -10,7 +10,7 @@ use Rattle.cir_ast.specs.Tree.{Expr, done, Variable, Component, Simple, Vars, Si
 use Rattle.cir_meaning.specs.Scoped.{Scope, AreCallsMeant, IsSetMeant, IsAssignMeant, IsArgumentMeant}
 use Rattle.cir_meaning.specs.Tried.{Where, Tried, next}
 use Rattle.cir_meaning.specs.Arrays.{Scalar, the_item}
-use Rattle.cir_meaning.specs.Frame.{World, State, at, counted}
+use Rattle.cir_meaning.specs.Frame.{State, at, counted}
 use Rattle.cir_meaning.specs.Evaluate.{dims_in, value_in}
 use Rattle.cir_meaning.specs.Anonymous.{lift_simple}
 use Rattle.cir_meaning.specs.Declaring.{declare_component}
@@ -27,7 +27,7 @@ use Rattle.cir_meaning.proofs.Likes.{Like, like_itself}
 use Rattle.cir_meaning.proofs.FineValues.{Fine, dims_fine}
 use Rattle.cir_meaning.proofs.RunFree.{NoMiss, Any}
 use Rattle.cir_meaning.proofs.Goes.{Goes, goes_ok, goes_bad, goes_next}
-use Rattle.cir_meaning.proofs.Standing.{Stands}
+use Rattle.cir_meaning.proofs.Standing.{Stands, Start}
 use Rattle.cir_meaning.proofs.VariableRuns.{Soundly, like_changed, After}
 use Rattle.cir_meaning.proofs.StepRuns.{counted_goes, assert_goes}
 use Rattle.cir_meaning.proofs.EqualRuns.{log_goes, equal_goes}
@@ -50,8 +50,8 @@ IsQuietSimple scope (TargetLeft target arrow source) =
     AllByRecursion (AreCallsMeant scope) (simple.values_of source)
 IsQuietSimple scope _ = ⊤
 
-module _ (given : Wires) (start : World) (scope : Scope) (q : Running)
-    (sound : Soundly scope q) (bodies : BodiesRun q.context.make q.body) where
+module _ (given : Wires) (start : Start) (scope : Scope) (q : Running)
+    (sound : Soundly scope q) (bodies : BodiesRun start.size q.context.make q.body) where
   abbrev Then : State → Run → Type 0
   Then = After q.context.make given start scope q sound
 
@@ -90,6 +90,7 @@ module _ (given : Wires) (start : World) (scope : Scope) (q : Running)
         count = st.count;
         fine = subst Fine (like_changed r.known s l) fine;
         equations = st.equations;
+        numbered = st.numbered;
       })
 
   component_goes : (w : Where) (c : Component Meant) (r : Run)

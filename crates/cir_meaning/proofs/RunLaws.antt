@@ -1,14 +1,16 @@
 -- What is told of calls, at compile time and when a program runs.
-use Rattle.std.proofs.Common.{◌≡◌, ◌≢◌, ℕ, ◌+◌, ◌<◌, ◌≤◌, true, List, length, Result, Ok, Err, subst, arith}
-use Rattle.std.specs.Prelude.{⊤, ◌^◌, ◌-◌}
-use Rattle.std.specs.List.{list_all}
+use Rattle.std.proofs.Common.{◌≡◌, ◌≢◌, ℕ, ◌+◌, ◌<◌, ◌≤◌, true, List, All, length, Some, is_some, Result, Ok, Err, subst, slice_get, arith}
+use Rattle.std.specs.Prelude.{◌^◌, ◌-◌}
+use Rattle.std.specs.List.{list_all, AllByRecursion}
+use Rattle.cir_lc.specs.Number.{Assignment}
+use Rattle.cir_meaning.specs.Source.{IsEqualAt}
 use Rattle.cir_ast.specs.Program.{Program}
 use Rattle.cir_meaning.specs.SignalFree.{AreFunctionsFree}
 use Rattle.cir_meaning.specs.Scoped.{IsResolved}
 use Rattle.cir_meaning.specs.Tried.{Where, Refused}
-use Rattle.cir_meaning.specs.Compile.{Circuit, compiled, group_size}
+use Rattle.cir_meaning.specs.Compile.{Circuit, Satisfies, compiled, group_size}
 use Rattle.cir_meaning.specs.Run.{RunTried, Rejected, Stopped}
-use Rattle.cir_meaning.specs.RunBodies.{run_with}
+use Rattle.cir_meaning.specs.RunBodies.{Ending, run_with}
 use Rattle.cir_meaning.specs.Arrays.{Datum, is_known, is_all_known}
 use Rattle.cir_meaning.specs.Frame.{World}
 use Rattle.cir_meaning.specs.Bodies.{call_at}
@@ -18,6 +20,8 @@ use Rattle.cir_meaning.proofs.Good.{good_is}
 use Rattle.cir_meaning.proofs.KnownValues.{KnownDatum, pass_all}
 use Rattle.cir_meaning.proofs.KnownCalls.{both_known, calls_both}
 use Rattle.cir_meaning.proofs.Starting.{Ends}
+use Rattle.cir_meaning.proofs.FineLaws.{all_of}
+use Rattle.cir_meaning.proofs.MainValues.{HasValues, Fitting}
 use Rattle.cir_meaning.proofs.MainRuns.{runs}
 use Rattle.cir_meaning.proofs.RunFree.{NoMiss, IsNumber', run_calls}
 
@@ -48,25 +52,27 @@ room_small : group_size ≤ 2 ^ 64 - 1
 unfolding group_size
 room_small = omega arith
 
-not_rejected : {A : Type 0} (m : RunTried A) (e : Refused) → Ends (λ a. ⊤) m → m ≢ Err (Rejected e)
+not_rejected : {A : Type 0} (Q : A → Type 0) (m : RunTried A) (e : Refused) → Ends Q m
+    → m ≢ Err (Rejected e)
 unfolding Ends
-not_rejected (Ok a) e h = λ no. cc
-not_rejected (Err (Rejected x)) e h = absurd h
-not_rejected (Err (Stopped stop w log)) e h = λ no. cc
+not_rejected Q (Ok a) e h = λ no. cc
+not_rejected Q (Err (Rejected x)) e h = absurd h
+not_rejected Q (Err (Stopped stop w log)) e h = λ no. cc
 
-not_missing : {A : Type 0} (m : RunTried A) (stop : ℕ) (w : Where) (log : List (List ℕ))
-    → Ends (λ a. ⊤) m → m ≡ Err (Stopped stop w log) → stop ≢ 0
+not_missing : {A : Type 0} (Q : A → Type 0) (m : RunTried A) (stop : ℕ) (w : Where)
+    (log : List (List ℕ))
+    → Ends Q m → m ≡ Err (Stopped stop w log) → stop ≢ 0
 unfolding Ends
-not_missing (Ok a) stop w log h e = cc
-not_missing (Err (Rejected x)) stop w log h e = absurd h
-not_missing (Err (Stopped s v l)) stop w log h e =
+not_missing Q (Ok a) stop w log h e = cc
+not_missing Q (Err (Rejected x)) stop w log h e = absurd h
+not_missing Q (Err (Stopped s v l)) stop w log h e =
     let same : s ≡ stop = cc in subst (λ n. n ≢ 0) same h
 
 pub run_accepted : (p : Program) (c : Circuit) (fuel : ℕ) (inputs : List ℕ) (e : Refused)
     → IsResolved p → compiled p ≡ Ok c → length inputs ≡ c.public_inputs + c.private_inputs
     → length inputs < group_size → run_with group_size p fuel inputs ≢ Err (Rejected e)
 run_accepted p c fuel inputs e resolved made count few =
-    not_rejected (run_with group_size p fuel inputs) e
+    not_rejected (Fitting group_size c) (run_with group_size p fuel inputs) e
     (runs p resolved group_size fuel c inputs room_small made count few)
 
 pub run_never_misses : (p : Program) (c : Circuit) (fuel : ℕ) (inputs : List ℕ) (stop : ℕ)
@@ -74,5 +80,46 @@ pub run_never_misses : (p : Program) (c : Circuit) (fuel : ℕ) (inputs : List �
     → length inputs ≡ c.public_inputs + c.private_inputs → length inputs < group_size
     → run_with group_size p fuel inputs ≡ Err (Stopped stop w log) → stop ≢ missing
 run_never_misses p c fuel inputs stop w log resolved made count few =
-    not_missing (run_with group_size p fuel inputs) stop w log
+    not_missing (Fitting group_size c) (run_with group_size p fuel inputs) stop w log
     (runs p resolved group_size fuel c inputs room_small made count few)
+
+-- what a run ends with
+ended : {A : Type 0} (Q : A → Type 0) (m : RunTried A) (a : A) → Ends Q m → m ≡ Ok a → Q a
+unfolding Ends
+ended Q (Ok b) a h e = let same : b ≡ a = cc in subst Q same h
+ended Q (Err (Rejected x)) a h e = absurd h
+ended Q (Err (Stopped stop w log)) a h e = cc
+
+room_top : group_size ≤ 1048576
+unfolding group_size
+room_top = omega arith
+
+pub run_fits : (p : Program) (c : Circuit) (fuel : ℕ) (inputs : List ℕ) (e : Ending)
+    → IsResolved p → compiled p ≡ Ok c → length inputs ≡ c.public_inputs + c.private_inputs
+    → length inputs < group_size → run_with group_size p fuel inputs ≡ Ok e
+    → length e.values ≤ group_size
+    → AllByRecursion (λ o. is_some o ≡ true) e.values
+    × ((s : Assignment) → HasValues s e.values → AllByRecursion (IsEqualAt s) c.equations)
+run_fits p c fuel inputs e resolved made count few ends short =
+    ended (Fitting group_size c) (run_with group_size p fuel inputs) e
+    (runs p resolved group_size fuel c inputs room_small made count few) ends room_top short
+
+pub run_has_values : (p : Program) (c : Circuit) (fuel : ℕ) (inputs : List ℕ) (e : Ending)
+    → IsResolved p → compiled p ≡ Ok c → length inputs ≡ c.public_inputs + c.private_inputs
+    → length inputs < group_size → run_with group_size p fuel inputs ≡ Ok e
+    → length e.values ≤ group_size → All (λ o. is_some o ≡ true) e.values
+run_has_values p c fuel inputs e resolved made count few ends short =
+    all_of (λ o. is_some o ≡ true) e.values
+    (run_fits p c fuel inputs e resolved made count few ends short).0
+
+pub run_satisfies : (p : Program) (c : Circuit) (fuel : ℕ) (inputs : List ℕ) (e : Ending)
+    (s : Assignment) → IsResolved p → compiled p ≡ Ok c
+    → length inputs ≡ c.public_inputs + c.private_inputs → length inputs < group_size
+    → run_with group_size p fuel inputs ≡ Ok e → length e.values ≤ group_size
+    → ((i x : ℕ) → slice_get e.values i ≡ Some (Some x) → s.at i ≡ x) → Satisfies p s
+run_satisfies p c fuel inputs e s resolved made count few ends short has = (
+  c,
+  made,
+  all_of (IsEqualAt s) c.equations
+      ((run_fits p c fuel inputs e resolved made count few ends short).1 s has),
+)

@@ -1,5 +1,6 @@
 -- Statements whose names are in scope, and that declare no signal, are quiet: their run goes on.
 use Rattle.std.proofs.Common.{◌≡◌, ℕ, ◌+◌, ◌≤◌, true, List, [], ◌∷◌, Option, Some, refl, sym, subst, arith}
+use Rattle.cir_meaning.proofs.Standing.{Start}
 use Rattle.std.specs.Prelude.{⊤}
 use Rattle.std.specs.List.{AllByRecursion}
 use Rattle.cir_ast.specs.declared.operators.Direction.{Direction}
@@ -8,7 +9,6 @@ use Rattle.cir_ast.specs.declared.program.Meant.{Meant}
 use Rattle.cir_ast.specs.declared.program.Meant.TheVariants as meant
 use Rattle.cir_ast.specs.Tree.{Expr, done, Variable, Signal, Set, Compound, Left, Increment, Decrement, First, FirstVars, FirstAssign, One, Values, Simple, Vars, Signals, Declared, Created, Assigned, Constrain, Right, TargetLeft, TargetRight, Alone, Statement, Block, If, IfElse, While, For, Return, Assert, Log, Ended, Statements, empty, then_more}
 use Rattle.cir_meaning.specs.Scoped.{Scope, IsSetMeant, with_variable, IsOptionMeant, AreVariablesScoped, with_variables, with_signal, AreSignalsScoped, with_signals, IsSimpleScoped, behind_simple, IsFirstScoped, behind_first, closed, behind, behind_all, IsScoped, AreScoped, IsSignalValueMeant}
-use Rattle.cir_meaning.specs.Frame.{World}
 use Rattle.cir_meaning.specs.Unknown.{Fault, first_of, assign_fault, fault_of}
 use Rattle.cir_meaning.specs.Anonymous.{lift_simple}
 use Rattle.cir_meaning.specs.Statement.{loop_of, first_simple}
@@ -70,8 +70,9 @@ pub first_signals : (s : Scope) (f : First Meant) → (behind_first s f).signals
 first_signals s (FirstVars vs) = variables_signals s vs
 first_signals s (FirstAssign a) = refl
 
-module _ (given : Wires) (start : World) (functions : ℕ) (q : Running)
-    (sounds : Soundly (everything functions) q) (bodies : BodiesRun q.context.make q.body) where
+module _ (given : Wires) (start : Start) (functions : ℕ) (q : Running)
+    (sounds : Soundly (everything functions) q)
+    (bodies : BodiesRun start.size q.context.make q.body) where
   abbrev All : Scope
   All = everything functions
 

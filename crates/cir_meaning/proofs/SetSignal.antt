@@ -7,7 +7,7 @@ use Rattle.cir_ast.specs.Tree.{Expr, Accessors, Assign}
 use Rattle.cir_meaning.specs.Scoped.{Scope, AreCallsMeant}
 use Rattle.cir_meaning.specs.Tried.{Where, Tried, next}
 use Rattle.cir_meaning.specs.Arrays.{Whole, same_dims}
-use Rattle.cir_meaning.specs.Frame.{SignalEntry, Part, World, State, Maker, entry_at, is_input, is_fed}
+use Rattle.cir_meaning.specs.Frame.{SignalEntry, Part, State, Maker, entry_at, is_input, is_fed}
 use Rattle.cir_meaning.specs.Evaluate.{value_in}
 use Rattle.cir_meaning.specs.Writing.{signals_of, part_signals, target_in, write_elements, SignalAssignment, signal_assignment, write_signal}
 use Rattle.cir_meaning.specs.Steps.{signal_cost}
@@ -26,7 +26,7 @@ use Rattle.cir_meaning.proofs.Numbered.{value_pair}
 use Rattle.cir_meaning.proofs.Marking.{MarksOf}
 use Rattle.cir_meaning.proofs.Holds.{Extends}
 use Rattle.cir_meaning.proofs.Goes.{Goes, goes_ok, goes_twice, goes_refusing, goes_step, pair_no}
-use Rattle.cir_meaning.proofs.Standing.{PartStands, Stands}
+use Rattle.cir_meaning.proofs.Standing.{PartStands, Stands, Start}
 use Rattle.cir_meaning.proofs.VariableRuns.{Soundly, fits, After}
 use Rattle.cir_meaning.proofs.StepRuns.{stands_like, pair_then}
 use Rattle.cir_meaning.proofs.Starting.{BodiesRun}
@@ -35,8 +35,8 @@ use Rattle.cir_meaning.proofs.SignalRuns.{SignalLike, assignment_target, Written
 no_entry : (n : ℕ) (e : SignalEntry) → entry_at [] n ≡ Some e → ⊥
 no_entry n e h = cc
 
-module _ (make : Option Maker) (given : Wires) (start : World) (scope : Scope) (q : Running)
-    (sound : Soundly scope q) (bodies : BodiesRun make q.body) where
+module _ (make : Option Maker) (given : Wires) (start : Start) (scope : Scope) (q : Running)
+    (sound : Soundly scope q) (bodies : BodiesRun start.size make q.body) where
   abbrev Then : State → Run → Type 0
   Then = After make given start scope q sound
 
@@ -132,7 +132,7 @@ module _ (make : Option Maker) (given : Wires) (start : World) (scope : Scope) (
                   (sym ep) ∙ its.1.there
 
               by_ports : (p : Part) → slice_get r.known.frame.parts j ≡ Some p → (x : RunPart)
-                  → slice_get r.parts j ≡ Some x → PartStands make (is_fed p.signals) p x
+                  → slice_get r.parts j ≡ Some x → PartStands start.size make (is_fed p.signals) p x
                   → Goes Then (Ok s) (started q j (is_fed p.signals) (slice_get s.frame.parts j)
                   (with_known s (record r {
                     parts = put_ports a.target.number a.target.reach.places y.0.items
@@ -169,7 +169,7 @@ module _ (make : Option Maker) (given : Wires) (start : World) (scope : Scope) (
                   in_part))
               by_old (Some p) eo =
                   let there : (x : RunPart) × (slice_get r.parts j ≡ Some x)
-                  × PartStands make (is_fed p.signals) p x = h.parts j p eo in
+                  × PartStands start.size make (is_fed p.signals) p x = h.parts j p eo in
                   subst (λ o. Goes Then (Ok s) (started q j (is_fed (part_signals o))
                   (slice_get s.frame.parts j) (with_known s (record r {
                     parts = put_ports a.target.number a.target.reach.places y.0.items

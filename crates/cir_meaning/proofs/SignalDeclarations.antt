@@ -21,7 +21,7 @@ use Rattle.cir_meaning.proofs.Good.{good_is}
 use Rattle.cir_meaning.proofs.Likes.{Like, like_itself}
 use Rattle.cir_meaning.proofs.FineValues.{Fine, dims_fine}
 use Rattle.cir_meaning.proofs.Goes.{Goes, goes_ok, goes_bad, goes_same}
-use Rattle.cir_meaning.proofs.Standing.{Stands, SameEntry}
+use Rattle.cir_meaning.proofs.Standing.{Stands, SameEntry, Start}
 use Rattle.cir_meaning.proofs.VariableRuns.{Soundly, After}
 use Rattle.cir_meaning.proofs.SignalWrites.{put_here, same_itself}
 use Rattle.cir_meaning.proofs.Starting.{BodiesRun}
@@ -99,8 +99,9 @@ pub goes_if_ok : {A B : Type 0} (P : A → B → Type 0) (m : Tried A) (r : RunT
 goes_if_ok P (Ok a) r h = h a refl
 goes_if_ok P (Err e) r h = goes_bad P e r
 
-module _ (given : Wires) (start : World) (scope : Scope) (q : Running)
-    (sound : Soundly scope q) (bodies : BodiesRun q.context.make q.body) where
+module _ (given : Wires) (start : Start) (scope : Scope) (q : Running)
+    (sound : Soundly scope q) (bodies : BodiesRun start.size q.context.make q.body)
+    (sized : q.context.group_size ≡ start.size) where
   abbrev Then : State → Run → Type 0
   Then = After q.context.make given start scope q sound
 
@@ -144,7 +145,7 @@ module _ (given : Wires) (start : World) (scope : Scope) (q : Running)
         initial_signal_goes (at q.context spot) d.meant d.value
         (with_known (declare_signal q.context spot direction n d.name x.0 x.1) r) is
         (declare_stands q.context.make given start None r q.context spot direction n d.name x.0 x.1
-        st (like_of x ex) undeclared (gives x ex s es) (fine_of x ex))))
+        sized st (like_of x ex) undeclared (gives x ex s es) (fine_of x ex))))
       where
         like_of : (x : List ℕ × State)
             → dims_in q.context (at q.context spot) false d.dimensions r.known ≡ Ok x

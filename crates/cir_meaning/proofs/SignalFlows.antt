@@ -12,14 +12,14 @@ use Rattle.cir_ast.specs.Tree.{Expr, SignalValue, Given, Signal}
 use Rattle.cir_meaning.specs.Scoped.{AreCallsMeant, IsSignalValueMeant}
 use Rattle.cir_meaning.specs.Tried.{Tried, next}
 use Rattle.cir_meaning.specs.Values.{Value, Known, Linear, Quadratic, Opaque}
-use Rattle.cir_meaning.specs.Frame.{SignalEntry, World, State, at, entry_at, is_input, counted}
+use Rattle.cir_meaning.specs.Frame.{SignalEntry, State, at, entry_at, is_input, counted}
 use Rattle.cir_meaning.specs.Simple as simple
 use Rattle.cir_meaning.specs.Statement.{Flow, Going, decided, condition}
 use Rattle.cir_meaning.specs.Run.{Wires, Run, RunTried, refusing, Rejected, Stopped}
 use Rattle.cir_meaning.specs.RunSimple.{Running, with_known, run_signal, run_each, run_counted}
 use Rattle.cir_meaning.proofs.Good.{good_is}
 use Rattle.cir_meaning.proofs.Likes.{Like, like_itself}
-use Rattle.cir_meaning.proofs.Standing.{Stands, SameEntry}
+use Rattle.cir_meaning.proofs.Standing.{Stands, SameEntry, Start}
 use Rattle.cir_meaning.proofs.SignalWrites.{same_itself}
 use Rattle.cir_meaning.proofs.VariableRuns.{Soundly, After}
 use Rattle.cir_meaning.proofs.StepRuns.{counted_like, counted_goes}
@@ -115,8 +115,10 @@ turn_not d i n (x ∷ xs) is out =
     later (inl h) = inl (omega arith)
     later (inr h) = inr h
 
-module _ (given : Wires) (start : World) (functions : ℕ) (q : Running)
-    (sounds : Soundly (everything functions) q) (bodies : BodiesRun q.context.make q.body) where
+module _ (given : Wires) (start : Start) (functions : ℕ) (q : Running)
+    (sounds : Soundly (everything functions) q)
+    (bodies : BodiesRun start.size q.context.make q.body)
+    (sized : q.context.group_size ≡ start.size) where
   abbrev Then : State → Run → Type 0
   Then = After q.context.make given start (everything functions) q sounds
 
@@ -163,7 +165,7 @@ module _ (given : Wires) (start : World) (functions : ℕ) (q : Running)
       goes_as Then Then (simple.signal_declaration q.context spot d x r.known)
       (run_signal q spot d x r) (simple.each (simple.signal_declaration q.context spot d) xs)
       (run_each (run_signal q spot d) xs)
-      (declaration_goes given start (everything functions) q sounds bodies spot d x i r d is.0
+      (declaration_goes given start (everything functions) q sounds bodies sized spot d x i r d is.0
       (value_meant x.value values.0) st (fresh i (omega arith)) (λ s es e there.
       shape_of z ez s es e there)) (λ s r1 es p.
       subst (λ t. Goes Then (simple.each (simple.signal_declaration q.context spot d) xs t)

@@ -1,5 +1,5 @@
 -- An assignment to signals in a run.
-use Rattle.std.proofs.Common.{◌≡◌, ◌≢◌, ◌⊎◌, inl, inr, ℕ, zero, suc, ◌+◌, Bool, true, false, not, List, [], ◌∷◌, ◌++◌, Option, Some, None, is_some, Ok, refl, sym, ap, subst, ◌∙◌, slice_get, slice_set, arith}
+use Rattle.std.proofs.Common.{◌≡◌, ◌≢◌, ◌⊎◌, inl, inr, ℕ, zero, suc, ◌+◌, Bool, true, false, not, List, [], ◌∷◌, ◌++◌, Option, Some, None, is_some, Ok, refl, sym, ap, subst, ◌∙◌, slice_get, slice_set, arith, length}
 use Rattle.std.proofs.lemmas.List.{append-nil}
 use Rattle.cir_ast.specs.declared.program.Meant.{Meant}
 use Rattle.cir_ast.specs.declared.program.Meant.TheVariants as meant
@@ -14,7 +14,7 @@ use Rattle.cir_meaning.specs.Places.{all_known}
 use Rattle.cir_meaning.specs.Limits.{Counts}
 use Rattle.cir_meaning.specs.Arrays.{Whole, reach, same_dims}
 use Rattle.cir_meaning.specs.Source.{Equation}
-use Rattle.cir_meaning.specs.Frame.{SignalEntry, Signals, Part, World, State, Context, Maker, entry_at, is_input, is_inner, is_fed}
+use Rattle.cir_meaning.specs.Frame.{SignalEntry, Signals, Part, State, Context, Maker, entry_at, is_input, is_inner, is_fed}
 use Rattle.cir_meaning.specs.Reading.{find_signal, told_signal, named_signal, part_at}
 use Rattle.cir_meaning.specs.Evaluate.{value_in}
 use Rattle.cir_meaning.specs.Writing.{Target, signals_of, part_signals, with_part_signals, targeted, target_at, target_in, SignalAssignment, signal_assignment, write_signal}
@@ -28,10 +28,10 @@ use Rattle.cir_meaning.proofs.Likes.{CallKeeps, Like, value_like}
 use Rattle.cir_meaning.proofs.FineValues.{Fine}
 use Rattle.cir_meaning.proofs.Same.{Rows, rows_count}
 use Rattle.cir_meaning.proofs.Marking.{MarksOf, KeepsWires}
-use Rattle.cir_meaning.proofs.Writing.{get_set, Marked, Placed, Tested, elements_marked, elements_placed, signals_added}
+use Rattle.cir_meaning.proofs.Writing.{get_set, Marked, Placed, Tested, AllBelow, elements_marked, elements_placed, elements_below, signals_added}
 use Rattle.cir_meaning.proofs.Holds.{Agrees, Extends, found_entry}
 use Rattle.cir_meaning.proofs.Goes.{Goes, goes_ok}
-use Rattle.cir_meaning.proofs.Standing.{PartStands, Stands, SameEntry, SameShapes, changed}
+use Rattle.cir_meaning.proofs.Standing.{PartStands, Stands, SameEntry, SameShapes, changed, Start}
 use Rattle.cir_meaning.proofs.VariableRuns.{Soundly, like_changed, with_added, IsAdded, stepped_adds, indices_like, After}
 use Rattle.cir_meaning.proofs.SignalWrites.{wrote, AllAt, Wrote, elements_wrote, shapes_itself}
 use Rattle.cir_meaning.proofs.OwnWrites.{wires_else, all_at, own_stands}
@@ -186,6 +186,8 @@ pub record Written (C : Assignment → Type 0) (test : Direction → Bool) (t : 
   pub keeps : KeepsWires wires (put_wires t.number t.reach.places values wires)
   pub placed : Placed (put_wires t.number t.reach.places values wires) t.number t.reach.places
       values
+  pub inside : (e : SignalEntry) → entry_at (signals_of t.part f.frame) t.number ≡ Some e
+      → AllBelow (length e.written) t.reach.places values
 
 abbrev pub Condition : (Assignment → Type 0) → (first : ℕ) → List ℕ → List ℕ → Assignment → Type 0
 Condition E first places values v = E v × AllAt v first places values
@@ -219,18 +221,25 @@ pub written_good : (E : Assignment → Type 0) (test : Direction → Bool) (k : 
     values wires f)
     (next (write_signal k w arrow a) (simple.wired k w cost a.target.reach.places))
 written_good E test k w arrow cost f a values wires l is tested marks rows =
-    good_next (λ s. Wrote C t f s × (Marked test t wires new s × Placed new t.number places values))
+    good_next (λ s. Wrote C t f s × (Marked test t wires new s
+    × (Placed new t.number places values × AllBelow (length is.entry.written) places values)))
     (Written C test t values wires f) (write_signal k w arrow a) _
-    (good_both (Wrote C t f) (λ s. Marked test t wires new s × Placed new t.number places values)
+    (good_both (Wrote C t f) (λ s. Marked test t wires new s
+    × (Placed new t.number places values × AllBelow (length is.entry.written) places values))
     (write_signal k w arrow a)
     (elements_wrote C E (λ v cv. cv.0) k w arrow t f is.entry.first firsts places a.value.items
     values a.state (λ v cv. cv.1) rows start)
-    (good_both (Marked test t wires new) (λ s. Placed new t.number places values)
+    (good_both (Marked test t wires new)
+    (λ s. Placed new t.number places values × AllBelow (length is.entry.written) places values)
     (write_signal k w arrow a)
     (elements_marked test t k w arrow places a.value.items values a.state wires
     (rows_count E a.value.items values rows) marks_a tested_a)
+    (good_both (λ s. Placed new t.number places values)
+    (λ s. AllBelow (length is.entry.written) places values) (write_signal k w arrow a)
     (elements_placed test t k w arrow places a.value.items values a.state wires
-    (rows_count E a.value.items values rows) marks_a tested_a)))
+    (rows_count E a.value.items values rows) marks_a tested_a)
+    (elements_below t (length is.entry.written) k w arrow places a.value.items values a.state
+    (rows_count E a.value.items values rows) counted_a))))
     (λ s h.
     good_weaker (IsAdded s) (Written C test t values wires f) (simple.wired k w cost places s)
     (wired_adds k w cost places s) (λ u i.
@@ -240,7 +249,9 @@ written_good E test k w arrow cost f a values wires l is tested marks rows =
       marks = subst (λ xs. MarksOf test xs new) (sym after.1) (subst (λ xs. MarksOf test xs new)
           h.0.now h.1.0.marks);
       keeps = h.1.0.keeps;
-      placed = h.1.1;
+      placed = h.1.1.0;
+      inside = λ e there. subst (λ (x : SignalEntry). AllBelow (length x.written) places values)
+          (entry_is e there) h.1.1.1;
     }))
   where
     t : Target
@@ -265,6 +276,19 @@ written_good E test k w arrow cost f a values wires l is tested marks rows =
     marks_a : MarksOf test (signals_of a.target.part a.state.frame) wires
     marks_a =
         subst (λ xs. MarksOf test xs wires) (sym (signals_like a.target.part f a.state l)) marks
+
+    entry_is : (e : SignalEntry) → entry_at (signals_of a.target.part f.frame) a.target.number
+        ≡ Some e → is.entry ≡ e
+    entry_is e there = let both : Some is.entry ≡ Some e = sym is.there ∙ there in cc
+
+    counted_a : (e : SignalEntry)
+        → entry_at (signals_of a.target.part a.state.frame) a.target.number ≡ Some e
+        → length e.written ≡ length is.entry.written
+    counted_a e there =
+        let in_f : entry_at (signals_of a.target.part f.frame) a.target.number ≡ Some e =
+        ap (λ (xs : Signals). entry_at xs a.target.number) (sym (signals_like a.target.part f
+        a.state l)) ∙ there in
+        ap (λ (x : SignalEntry). length x.written) (sym (entry_is e in_f))
 
     tested_a : Tested test a.target (signals_of a.target.part a.state.frame)
     tested_a e there =
@@ -299,8 +323,8 @@ put_from n places values wires m k x e = at (same_or_not n m)
     at (inl s) = inl s
     at (inr ne) = inr (sym (wires_else n places values wires m k ne) ∙ e)
 
-module _ (make : Option Maker) (given : Wires) (start : World) (scope : Scope) (q : Running)
-    (sound : Soundly scope q) (bodies : BodiesRun make q.body) where
+module _ (make : Option Maker) (given : Wires) (start : Start) (scope : Scope) (q : Running)
+    (sound : Soundly scope q) (bodies : BodiesRun start.size make q.body) where
   abbrev Then : State → Run → Type 0
   Then = After make given start scope q sound
 
@@ -321,7 +345,7 @@ module _ (make : Option Maker) (given : Wires) (start : World) (scope : Scope) (
           })) (sym as_own)
               (own_stands make given start r g.wrote.signals g.wrote.equations g.wrote.added
               g.wrote.counts (put_wires a.target.number a.target.reach.places values r.own) h
-              (λ n d there p b at. g.marks n d there refl p b at) g.keeps shapes blank
+              (λ n d there p b at. g.marks n d there refl p b at) g.keeps shapes back blank
               (subst Fine as_own fine)
               (λ v ex agrees. g.wrote.holds v (ex, at_first v agrees))),
         )
@@ -336,6 +360,11 @@ module _ (make : Option Maker) (given : Wires) (start : World) (scope : Scope) (
         shapes =
             subst (λ part. SameShapes (signals_of part r.known.frame) g.wrote.signals) e
             g.wrote.shapes
+
+        back : SameShapes g.wrote.signals r.known.frame.signals
+        back =
+            subst (λ part. SameShapes g.wrote.signals (signals_of part r.known.frame)) e
+            g.wrote.shapes_back
 
         entry_now : (d : SignalEntry) × (entry_at g.wrote.signals a.target.number ≡ Some d)
             × SameEntry is.entry d
@@ -357,12 +386,14 @@ module _ (make : Option Maker) (given : Wires) (start : World) (scope : Scope) (
             subst (λ n. AllAt v n a.target.reach.places values) (sym entry_now.2.1)
             (all_at v g.wrote.signals
             (put_wires a.target.number a.target.reach.places values r.own) a.target.number
-            entry_now.0 entry_now.1 agrees a.target.reach.places values g.placed)
+            entry_now.0 entry_now.1 agrees a.target.reach.places values g.placed
+            (subst (λ (n : ℕ). AllBelow n a.target.reach.places values) entry_now.2.2
+            (g.inside is.entry is.there)))
 
     -- a component's input
     pub part_goes : (j : ℕ) (p : Part) (x : RunPart) → a.target.part ≡ Some j
         → slice_get r.known.frame.parts j ≡ Some p → slice_get r.parts j ≡ Some x
-        → PartStands make (is_fed p.signals) p x
+        → PartStands start.size make (is_fed p.signals) p x
         → Written (Condition (Extends r) is.entry.first a.target.reach.places values) is_input
         a.target values x.ports r.known s
         → Goes Then (Ok s) (started q j (is_fed p.signals) (slice_get s.frame.parts j)
@@ -460,4 +491,6 @@ module _ (make : Option Maker) (given : Wires) (start : World) (scope : Scope) (
             subst (λ n. AllAt v n a.target.reach.places values) (sym entry_now.2.1)
             (all_at v g.wrote.signals
             (put_wires a.target.number a.target.reach.places values x.ports) a.target.number
-            entry_now.0 entry_now.1 agrees a.target.reach.places values g.placed)
+            entry_now.0 entry_now.1 agrees a.target.reach.places values g.placed
+            (subst (λ (n : ℕ). AllBelow n a.target.reach.places values) entry_now.2.2
+            (g.inside is.entry is.there)))

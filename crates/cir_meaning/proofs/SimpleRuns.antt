@@ -11,7 +11,7 @@ use Rattle.cir_meaning.specs.Tried.{Where, Tried, next, found}
 use Rattle.cir_meaning.specs.Limits.{with_array}
 use Rattle.cir_meaning.specs.Arrays.{Scalar, filled, the_item}
 use Rattle.cir_meaning.specs.Values.{Known, known_number}
-use Rattle.cir_meaning.specs.Frame.{World, State, Context}
+use Rattle.cir_meaning.specs.Frame.{State, Context}
 use Rattle.cir_meaning.specs.Evaluate.{value_in, dims_in}
 use Rattle.cir_meaning.specs.Writing.{plain}
 use Rattle.cir_meaning.specs.Declaring.{declare_variable}
@@ -26,7 +26,7 @@ use Rattle.cir_meaning.proofs.Holds.{Extends}
 use Rattle.cir_meaning.proofs.KnownValues.{known_filled}
 use Rattle.cir_meaning.proofs.Settling.{known_same, set_variables}
 use Rattle.cir_meaning.proofs.Goes.{Goes, goes_ok, goes_bad, goes_next, goes_same}
-use Rattle.cir_meaning.proofs.Standing.{Stands, changed, stands_changed}
+use Rattle.cir_meaning.proofs.Standing.{Stands, changed, stands_changed, Start}
 use Rattle.cir_meaning.proofs.VariableRuns.{Soundly, like_changed, set_variable_goes, After}
 use Rattle.cir_meaning.proofs.StepRuns.{dropped_goes}
 use Rattle.cir_meaning.proofs.ScopeLaws.{set_meant}
@@ -45,8 +45,8 @@ dims_like k keeps f w (more e es) s l =
     good_next (λ y. Like f y.1) (λ y. Like f y.1) (dims_in k w false es x.1) _
     (dims_like k keeps f w es x.1 p) (λ y g. good_ok (λ z. Like f z.1) (n ∷ y.0, y.1) g)))
 
-module _ (given : Wires) (start : World) (scope : Scope) (q : Running)
-    (sound : Soundly scope q) (bodies : BodiesRun q.context.make q.body) where
+module _ (given : Wires) (start : Start) (scope : Scope) (q : Running)
+    (sound : Soundly scope q) (bodies : BodiesRun start.size q.context.make q.body) where
   abbrev Then : State → Run → Type 0
   Then = After q.context.make given start scope q sound
 

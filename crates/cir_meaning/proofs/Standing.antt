@@ -1,6 +1,6 @@
 -- What holds of a run between its statements: its numbers, its components, and that each assignment
 -- with these numbers makes the equations equal.
-use Rattle.std.proofs.Common.{◌≡◌, ℕ, Bool, true, false, not, ◌&&◌, nat_eq, List, [], length, Option, Some, None, is_some, slice_get, Ok, Err, refl, sym, subst}
+use Rattle.std.proofs.Common.{◌≡◌, ℕ, Bool, true, false, not, ◌&&◌, nat_eq, List, [], length, Option, Some, None, is_some, slice_get, Ok, Err, refl, sym, subst, ◌-◌, ◌∷◌, ◌+◌}
 use Rattle.std.specs.List.{AllByRecursion}
 use Rattle.cir_ast.specs.declared.refusal.Kind.TheVariants.{TooDeep}
 use Rattle.cir_lc.specs.Number.{Assignment}
@@ -8,14 +8,21 @@ use Rattle.cir_meaning.specs.Tried.{Tried, refused}
 use Rattle.cir_meaning.specs.Limits.{Counts}
 use Rattle.cir_meaning.specs.Arrays.{Datum}
 use Rattle.cir_meaning.specs.Source.{IsEqualAt}
-use Rattle.cir_meaning.specs.Frame.{SignalEntry, Signals, Part, World, State, Maker, variable_at, entry_at, is_input, is_fed}
+use Rattle.cir_meaning.specs.Frame.{SignalEntry, Signals, Part, World, State, Maker, variable_at, entry_at, is_input, is_fed, Sizes}
 use Rattle.cir_meaning.specs.RunValues.{Store, stored}
 use Rattle.cir_meaning.specs.Run.{Wires, Table, RunPart, Run, store_of}
 use Rattle.cir_meaning.proofs.FineValues.{IsDatum, FineWorld, Fine}
 use Rattle.cir_meaning.proofs.KnownValues.{KnownStore}
 use Rattle.cir_meaning.proofs.Same.{Same}
 use Rattle.cir_meaning.proofs.Marking.{KeepsWires}
-use Rattle.cir_meaning.proofs.Holds.{PartAgrees, Extends, MarksSame, Holds}
+use Rattle.cir_meaning.proofs.GroupSizes.{Less, Fits}
+use Rattle.cir_meaning.proofs.Weights.{cover_entries, cover_tables, under, Bounded}
+use Rattle.cir_meaning.proofs.Holds.{PartAgrees, Full, Extends, MarksSame, Holds}
+
+-- where a body begins: its world, and the room of a group
+pub record Start : Type 0 where
+  pub world : World
+  pub size : ℕ
 
 -- the equations that came since hold where those before do
 abbrev pub Adds : Assignment → World → World → Type 0
@@ -52,6 +59,32 @@ pub ports_pay : (v : Assignment) (make : Option Maker) (q : RunPart) (wires : Wi
 ports_pay v make q wires inside h =
     subst (λ m. Adds v q.before (world_of q.before m)) (made_ports make q wires inside) h
 
+-- how often a number is a signal's of a component, as it was executed
+abbrev pub part_weight : Option Maker → (size m : ℕ) → RunPart → ℕ
+part_weight make size m q =
+    under size (world_of q.before (made_of make q)).sizes m - under size q.before.sizes m
+
+abbrev pub parts_weight : Option Maker → (size m : ℕ) → List RunPart → ℕ
+parts_weight make size m [] = 0
+parts_weight make size m (q ∷ qs) = part_weight make size m q + parts_weight make size m qs
+
+-- a component's numbers are those of its signals and of those in it
+abbrev pub PartWeighs : ℕ → Option Maker → Signals → List Table → RunPart → Type 0
+PartWeighs size make signals inside q =
+    Bounded (world_of q.before (made_of make q)).sizes → (m : ℕ)
+    → cover_entries m signals + (cover_tables m inside + under size q.before.sizes m)
+    ≡ under size (world_of q.before (made_of make q)).sizes m
+
+-- and so are those of a body, with its components
+abbrev pub Numbered : Option Maker → Start → Sizes → Signals → List RunPart → Type 0
+Numbered make start sizes signals parts =
+    Fits sizes
+    × AllByRecursion (λ q. Less (world_of q.before (made_of make q)).sizes sizes) parts
+    × (Bounded sizes → (m : ℕ)
+    → cover_entries m signals
+    + (parts_weight make start.size m parts + under start.size start.world.sizes m)
+    ≡ under start.size sizes m)
+
 -- the same signals, whatever is written of them
 abbrev pub SameEntry : SignalEntry → SignalEntry → Type 0
 SameEntry d e =
@@ -65,9 +98,11 @@ SameShapes xs ys =
 -- its arguments are known, as they were when it was created
 abbrev pub Begins : RunPart → Type 0
 Begins q = KnownStore q.arguments × AllByRecursion IsDatum q.arguments × FineWorld q.before
+    × Fits q.before.sizes
 
 -- a component whose body has run, or is to run yet
-pub record PartStands (make : Option Maker) (done : Bool) (p : Part) (q : RunPart) : Type 0 where
+pub record PartStands (size : ℕ) (make : Option Maker) (done : Bool) (p : Part)
+    (q : RunPart) : Type 0 where
   pub signals : Signals
   pub after : World
   pub made : made_of make q ≡ Ok (signals, after)
@@ -82,7 +117,9 @@ pub record PartStands (make : Option Maker) (done : Bool) (p : Part) (q : RunPar
   pub empty : done ≡ false → q.inside ≡ []
   pub outputs : done ≡ true → (n : ℕ) (e : SignalEntry) → entry_at p.signals n ≡ Some e
       → (k : ℕ) (b : Bool) → slice_get e.written k ≡ Some b → is_some (q.ports n k) ≡ true
+  pub full : done ≡ true → AllByRecursion Full q.inside
   pub paid : done ≡ true → (v : Assignment) → PartAgrees v p q → Pays v make q
+  pub weighs : done ≡ true → PartWeighs size make p.signals q.inside q
 
 -- one component may be late: its inputs are written, but its body hasn't run
 abbrev pub is_late : Option ℕ → ℕ → Bool
@@ -98,7 +135,7 @@ Debts make late r v =
     (j : ℕ) (p : Part) (q : RunPart) → slice_get r.known.frame.parts j ≡ Some p
     → slice_get r.parts j ≡ Some q → is_done late j p ≡ false → Pays v make q
 
-pub record Stands (make : Option Maker) (given : Wires) (start : World) (late : Option ℕ) (r : Run)
+pub record Stands (make : Option Maker) (given : Wires) (start : Start) (late : Option ℕ) (r : Run)
     : Type 0 where
   pub variables : (n : ℕ)
       → Same (Extends r) (variable_at r.known.frame n) (stored (store_of r.known r.numbers) n)
@@ -106,21 +143,23 @@ pub record Stands (make : Option Maker) (given : Wires) (start : World) (late : 
   pub blank : (n : ℕ) → entry_at r.known.frame.signals n ≡ None → (p : ℕ) → r.own n p ≡ given n p
   pub kept : KeepsWires given r.own
   pub parts : (j : ℕ) (p : Part) → slice_get r.known.frame.parts j ≡ Some p
-      → (q : RunPart) × (slice_get r.parts j ≡ Some q) × PartStands make (is_done late j p) p q
+      → (q : RunPart) × (slice_get r.parts j ≡ Some q)
+      × PartStands start.size make (is_done late j p) p q
   pub count : length r.parts ≡ length r.known.frame.parts
   pub fine : Fine r.known
   pub equations : (v : Assignment) → Extends r v → Debts make late r v
-      → Adds v start r.known.world
+      → Adds v start.world r.known.world
+  pub numbered : Numbered make start r.known.world.sizes r.known.frame.signals r.parts
 
 -- between statements no component is late
-pub holds_of : (make : Option Maker) (given : Wires) (start : World) (r : Run)
+pub holds_of : (make : Option Maker) (given : Wires) (start : Start) (r : Run)
     → Stands make given start None r → Holds r
 holds_of make given start r h = record {
   variables = h.variables;
   own = h.own;
   parts = λ j p e.
-      let there : (q : RunPart) × (slice_get r.parts j ≡ Some q) × PartStands make (is_fed
-      p.signals) p q = h.parts j p e in
+      let there : (q : RunPart) × (slice_get r.parts j ≡ Some q)
+      × PartStands start.size make (is_fed p.signals) p q = h.parts j p e in
       (there.0, there.1, record { inputs = there.2.inputs; outputs = there.2.outputs });
 }
 
@@ -132,7 +171,7 @@ changed s vs a c = record {
 }
 
 -- where variables alone are new
-pub stands_changed : (make : Option Maker) (given : Wires) (start : World) (late : Option ℕ)
+pub stands_changed : (make : Option Maker) (given : Wires) (start : Start) (late : Option ℕ)
     (r : Run) (vs : List Datum) (a c : Counts) (numbers : Store)
     → Stands make given start late r → Fine (changed r.known vs a c)
     → ((n : ℕ) → Same (Extends r) (variable_at (changed r.known vs a c).frame n)
@@ -147,4 +186,5 @@ stands_changed make given start late r vs a c numbers h fine variables = record 
   count = h.count;
   fine = fine;
   equations = h.equations;
+  numbered = h.numbered;
 }

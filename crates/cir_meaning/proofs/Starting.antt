@@ -1,31 +1,35 @@
 -- A component's body runs once its inputs are there.
 use Rattle.std.proofs.Common.{◌≡◌, ◌≢◌, ◌⊎◌, inl, inr, ℕ, zero, suc, Bool, true, false, cond, List, [], ◌∷◌, Option, Some, None, is_some, Ok, Err, refl, sym, ap, subst, ◌∙◌, slice_get, slice_set}
+use Rattle.cir_meaning.proofs.PartWeights.{put_numbered, ports_weigh}
 use Rattle.std.specs.List.{AllByRecursion, list_all}
 use Rattle.cir_lc.specs.Number.{Assignment}
 use Rattle.cir_meaning.specs.Scoped.{Scope}
 use Rattle.cir_meaning.specs.Tried.{next}
-use Rattle.cir_meaning.specs.Frame.{SignalEntry, Signals, Part, World, State, Maker, variable_at, entry_at, is_input, is_all_written, is_fed}
+use Rattle.cir_meaning.specs.Frame.{SignalEntry, Signals, Part, State, Maker, variable_at, entry_at, is_input, is_all_written, is_fed}
 use Rattle.cir_meaning.specs.RunValues.{stored}
 use Rattle.cir_meaning.specs.Run.{Rejected, Stopped, RunTried, Wires, RunPart, Run, store_of}
 use Rattle.cir_meaning.specs.RunSimple.{Outcome, Runner, Running, with_outcome, run_part, started}
 use Rattle.cir_meaning.proofs.Reaching.{and_true}
 use Rattle.cir_meaning.proofs.Marking.{KeepsWires}
 use Rattle.cir_meaning.proofs.Writing.{get_set}
-use Rattle.cir_meaning.proofs.Holds.{Agrees, PartAgrees, Extends}
+use Rattle.cir_meaning.proofs.Holds.{Agrees, PartAgrees, Full, Extends}
 use Rattle.cir_meaning.proofs.Goes.{Goes, goes_ok}
-use Rattle.cir_meaning.proofs.Standing.{PartStands, Stands, Debts, Pays, made_ports, pays_ports, is_done}
+use Rattle.cir_meaning.proofs.Standing.{PartStands, Stands, Debts, Pays, made_ports, pays_ports, is_done, PartWeighs, Start}
 use Rattle.cir_meaning.proofs.SignalWrites.{shapes_itself}
 use Rattle.cir_meaning.proofs.OwnWrites.{same_in, agrees_before}
 use Rattle.cir_meaning.proofs.PartWrites.{get_other, set_count, same_or_not, late_of, other_done, itself_late}
 use Rattle.cir_meaning.proofs.VariableRuns.{Soundly, After}
 
 -- a body that runs ends with a number for each signal, and pays what it owes
-pub record BodyRan (make : Option Maker) (p : Part) (q : RunPart) (o : Outcome) : Type 0 where
+pub record BodyRan (size : ℕ) (make : Option Maker) (p : Part) (q : RunPart)
+    (o : Outcome) : Type 0 where
   pub keeps : KeepsWires q.ports o.own
   pub all : (n : ℕ) (e : SignalEntry) → entry_at p.signals n ≡ Some e → (k : ℕ) (b : Bool)
       → slice_get e.written k ≡ Some b → is_some (o.own n k) ≡ true
+  pub full : AllByRecursion Full o.inside
   pub paid : (v : Assignment) → Agrees v p.signals o.own
       → AllByRecursion (λ t. Agrees v t.signals t.wires) o.inside → Pays v make q
+  pub weighs : PartWeighs size make p.signals o.inside q
 
 unfoldable pub Ends : {A : Type 0} → (A → Type 0) → RunTried A → Type 0
 Ends Q (Ok a) = Q a
@@ -40,11 +44,11 @@ ends_goes Q P b (Ok a) on h f = f a h
 ends_goes Q P b (Err (Rejected e)) on h f = absurd h
 ends_goes Q P b (Err (Stopped stop w log)) on h f = h
 
-abbrev pub BodiesRun : Option Maker → Runner → Type 0
-BodiesRun make body =
-    (p : Part) (q : RunPart) (log : List (List ℕ)) → PartStands make false p q
+abbrev pub BodiesRun : ℕ → Option Maker → Runner → Type 0
+BodiesRun size make body =
+    (p : Part) (q : RunPart) (log : List (List ℕ)) → PartStands size make false p q
     → is_fed p.signals ≡ true
-    → Ends (BodyRan make p q)
+    → Ends (BodyRan size make p q)
     (body q.where_made q.template q.arguments q.path q.before q.ports log)
 
 -- inputs that are fed are written
@@ -74,22 +78,22 @@ fed_marks (Some d ∷ xs) zero e h there i k b at =
 fed_marks (Some d ∷ xs) (suc n) e h there i k b at =
     fed_marks xs n e (and_true _ (is_fed xs) h).1 there i k b at
 
-module _ (make : Option Maker) (given : Wires) (start : World) (scope : Scope) (q : Running)
-    (sound : Soundly scope q) (bodies : BodiesRun make q.body) where
+module _ (make : Option Maker) (given : Wires) (start : Start) (scope : Scope) (q : Running)
+    (sound : Soundly scope q) (bodies : BodiesRun start.size make q.body) where
   abbrev Then : State → Run → Type 0
   Then = After make given start scope q sound
 
   module _ (r : Run) (j : ℕ) (p : Part) (x : RunPart)
       (hp : slice_get r.known.frame.parts j ≡ Some p) (hx : slice_get r.parts j ≡ Some x)
       (h : Stands make given start (Some j) r) where
-    late_part : PartStands make false p x
+    late_part : PartStands start.size make false p x
     late_part =
         let there : (y : RunPart) × (slice_get r.parts j ≡ Some y)
-        × PartStands make (is_done (Some j) j p) p y = h.parts j p hp in
+        × PartStands start.size make (is_done (Some j) j p) p y = h.parts j p hp in
         let both : Some there.0 ≡ Some x = sym there.1 ∙ hx in
         let same : there.0 ≡ x = cc in
-        subst (λ y. PartStands make false p y) same
-        (subst (λ b. PartStands make b p there.0) (itself_late j p) there.2)
+        subst (λ y. PartStands start.size make false p y) same
+        (subst (λ b. PartStands start.size make b p there.0) (itself_late j p) there.2)
 
     -- nothing starts
     pub unfed_stands : is_fed p.signals ≡ false → Stands make given start None r
@@ -103,6 +107,7 @@ module _ (make : Option Maker) (given : Wires) (start : World) (scope : Scope) (
       fine = h.fine;
       equations = λ v ex debts. h.equations v ex (λ i p0 q0 tp tq e.
           debts i p0 q0 tp tq (undone i p0 tp e (same_or_not j i)));
+      numbered = h.numbered;
     }
       where
         is_p : (i : ℕ) (p0 : Part) → slice_get r.known.frame.parts i ≡ Some p0 → j ≡ i → p ≡ p0
@@ -118,23 +123,25 @@ module _ (make : Option Maker) (given : Wires) (start : World) (scope : Scope) (
         part_of : (i : ℕ) (p0 : Part) → slice_get r.known.frame.parts i ≡ Some p0
             → (j ≡ i) ⊎ (j ≢ i)
             → (q0 : RunPart) × (slice_get r.parts i ≡ Some q0)
-            × PartStands make (is_done None i p0) p0 q0
+            × PartStands start.size make (is_done None i p0) p0 q0
         part_of i p0 tp (inl s) = (
           x,
           ap (slice_get r.parts) (sym s) ∙ hx,
-          subst (λ y. PartStands make (is_done None i y) y x) (is_p i p0 tp s)
-              (subst (λ b. PartStands make b p x) (sym unfed) late_part),
+          subst (λ y. PartStands start.size make (is_done None i y) y x) (is_p i p0 tp s)
+              (subst (λ b. PartStands start.size make b p x) (sym unfed) late_part),
         )
         part_of i p0 tp (inr ne) =
             let there : (q0 : RunPart) × (slice_get r.parts i ≡ Some q0)
-            × PartStands make (is_done (Some j) i p0) p0 q0 = h.parts i p0 tp in (
+            × PartStands start.size make (is_done (Some j) i p0) p0 q0 = h.parts i p0 tp in (
               there.0,
               there.1,
-              subst (λ b. PartStands make b p0 there.0) (other_done false j i p0 ne) there.2,
+              subst (λ b. PartStands start.size make b p0 there.0)
+                  (other_done false j i p0 ne) there.2,
             )
 
     -- the body runs
-    module _ (o : Outcome) (fed : is_fed p.signals ≡ true) (ran : BodyRan make p x o) where
+    module _ (o : Outcome) (fed : is_fed p.signals ≡ true)
+        (ran : BodyRan start.size make p x o) where
       abbrev ran_part : RunPart
       ran_part = record x { ports = o.own; inside = o.inside }
 
@@ -169,6 +176,8 @@ module _ (make : Option Maker) (given : Wires) (start : World) (scope : Scope) (
         fine = h.fine;
         equations = λ v ex debts. h.equations v (ran_before v ex) (λ i p0 q0 tp tq e.
             owed v ex debts i p0 q0 tp tq e (same_or_not j i));
+        numbered = put_numbered make start r.known.world.sizes r.known.frame.signals r.parts j x
+            o.own o.inside hx h.numbered;
       }
         where
           is_p : (i : ℕ) (p0 : Part) → slice_get r.known.frame.parts i ≡ Some p0 → j ≡ i → p ≡ p0
@@ -176,7 +185,7 @@ module _ (make : Option Maker) (given : Wires) (start : World) (scope : Scope) (
               let both : Some p ≡ Some p0 = sym hp ∙ ap (slice_get r.known.frame.parts) s ∙ tp in
               cc
 
-          part_done : PartStands make true p ran_part
+          part_done : PartStands start.size make true p ran_part
           part_done = record {
             signals = late_part.signals;
             after = late_part.after;
@@ -189,26 +198,30 @@ module _ (make : Option Maker) (given : Wires) (start : World) (scope : Scope) (
             begins = late_part.begins;
             empty = λ d. cc;
             outputs = λ d n e there k b at. ran.all n e there k b at;
+            full = λ d. ran.full;
             paid = λ d v ex. pays_ports v make x o.own o.inside (ran.paid v ex.0 ex.1);
+            weighs = λ d. ports_weigh start.size make p.signals o.inside x o.own o.inside
+                ran.weighs;
           }
 
           part_of : (i : ℕ) (p0 : Part) → slice_get r.known.frame.parts i ≡ Some p0
               → (j ≡ i) ⊎ (j ≢ i)
               → (q0 : RunPart) × (slice_get (slice_set r.parts j ran_part) i ≡ Some q0)
-              × PartStands make (is_done None i p0) p0 q0
+              × PartStands start.size make (is_done None i p0) p0 q0
           part_of i p0 tp (inl s) = (
             ran_part,
             ap (slice_get (slice_set r.parts j ran_part)) (sym s) ∙
                 get_set r.parts j x ran_part hx,
-            subst (λ y. PartStands make (is_done None i y) y ran_part) (is_p i p0 tp s)
-                (subst (λ b. PartStands make b p ran_part) (sym fed) part_done),
+            subst (λ y. PartStands start.size make (is_done None i y) y ran_part) (is_p i p0 tp s)
+                (subst (λ b. PartStands start.size make b p ran_part) (sym fed) part_done),
           )
           part_of i p0 tp (inr ne) =
               let there : (q0 : RunPart) × (slice_get r.parts i ≡ Some q0)
-              × PartStands make (is_done (Some j) i p0) p0 q0 = h.parts i p0 tp in (
+              × PartStands start.size make (is_done (Some j) i p0) p0 q0 = h.parts i p0 tp in (
                 there.0,
                 get_other r.parts j i ran_part ne ∙ there.1,
-                subst (λ b. PartStands make b p0 there.0) (other_done false j i p0 ne) there.2,
+                subst (λ b. PartStands start.size make b p0 there.0)
+                    (other_done false j i p0 ne) there.2,
               )
 
           owed : (v : Assignment) → Extends (with_outcome j o x r) v
@@ -227,7 +240,7 @@ module _ (make : Option Maker) (given : Wires) (start : World) (scope : Scope) (
 
     pub part_goes : is_fed p.signals ≡ true → Goes Then (Ok r.known) (run_part q j (Some x) r)
     part_goes fed =
-        ends_goes (BodyRan make p x) Then r.known
+        ends_goes (BodyRan start.size make p x) Then r.known
         (q.body x.where_made x.template x.arguments x.path x.before x.ports r.log) _
         (bodies p x r.log late_part fed)
         (λ o ran. goes_ok Then r.known (with_outcome j o x r) (refl, ran_stands o fed ran))

@@ -34,11 +34,11 @@ use Rattle.cir_meaning.proofs.Numbered.{value_pair}
 use Rattle.cir_meaning.proofs.RunFree.{NoMiss, Any, no_ok, no_stop, no_next, no_if, no_weaker}
 use Rattle.cir_meaning.proofs.Holds.{Extends}
 use Rattle.cir_meaning.proofs.Goes.{Goes, goes_ok, goes_same, goes_refusing, goes_step, pair_no}
-use Rattle.cir_meaning.proofs.Standing.{Stands, changed, stands_changed}
+use Rattle.cir_meaning.proofs.Standing.{Stands, changed, stands_changed, Start}
 use Rattle.cir_meaning.proofs.VariableRuns.{Soundly, like_changed, fits, IsAdded, stepped_adds, After}
 
 -- where nothing is new but what is counted
-pub stands_like : (make : Option Maker) (given : Wires) (start : World) (late : Option ℕ) (r : Run)
+pub stands_like : (make : Option Maker) (given : Wires) (start : Start) (late : Option ℕ) (r : Run)
     (s : State) → Stands make given start late r → Like r.known s → Fine s
     → Stands make given start late (with_known s r)
 stands_like make given start late r s h l fine =
@@ -53,7 +53,7 @@ abbrev pub with_equations : State → List Equation → State
 with_equations s es =
     record s { world = record (s.world) { equations = s.world.equations ++ es } }
 
-pub stands_equations : (make : Option Maker) (given : Wires) (start : World) (late : Option ℕ)
+pub stands_equations : (make : Option Maker) (given : Wires) (start : Start) (late : Option ℕ)
     (r : Run) (es : List Equation) → Stands make given start late r
     → Fine (with_equations r.known es)
     → ((v : Assignment) → Extends r v → AllByRecursion (IsEqualAt v) es)
@@ -69,6 +69,7 @@ stands_equations make given start late r es h fine holds = record {
   equations = λ v ex debts old.
       all_append (IsEqualAt v) r.known.world.equations es (h.equations v ex debts old)
       (holds v ex);
+  numbered = h.numbered;
 }
 
 -- a pair of which the first goes on alone
@@ -110,7 +111,7 @@ settle_like f w s l =
 pub added_like : (f s t : State) → Like f s → IsAdded s t → Like f t
 added_like f s t l h = subst (λ x. Like f x) (sym h.1) l
 
-module _ (make : Option Maker) (given : Wires) (start : World) (scope : Scope) (q : Running)
+module _ (make : Option Maker) (given : Wires) (start : Start) (scope : Scope) (q : Running)
     (sound : Soundly scope q) where
   abbrev Then : State → Run → Type 0
   Then = After make given start scope q sound

@@ -21,6 +21,8 @@ use Rattle.cir_meaning.proofs.FineValues.{FineMake}
 use Rattle.cir_meaning.proofs.FineBodies.{calls_fine}
 use Rattle.cir_meaning.proofs.KnownCalls.{all_get, calls_both, calls_keep}
 use Rattle.cir_meaning.proofs.RunFree.{run_calls}
+use Rattle.cir_meaning.proofs.Standing.{Start}
+use Rattle.cir_meaning.proofs.GroupSizes.{IsGrowing}
 use Rattle.cir_meaning.proofs.Starting.{BodiesRun}
 use Rattle.cir_meaning.proofs.VariableRuns.{Soundly}
 use Rattle.cir_meaning.proofs.ScopeLaws.{IsSound}
@@ -37,8 +39,9 @@ both_are xs ys v u e =
     (ap (λ (x : Signals × World). x.0) same, ap (λ (x : Signals × World). x.1) same)
 
 module _ (p : Program) (resolved : IsResolved p) (size fuel : ℕ) (make : Option Maker)
-    (makes : OnSome' FineMake make) (group : Direction → List ℕ → Group) (body : Runner)
-    (bodies : BodiesRun make body) (n : ℕ) (t : Template) (is : slice_get p.templates n ≡ Some t)
+    (makes : OnSome' FineMake make) (growing : OnSome' IsGrowing make)
+    (group : Direction → List ℕ → Group) (body : Runner) (bodies : BodiesRun size make body) (n : ℕ)
+    (t : Template) (is : slice_get p.templates n ≡ Some t)
     (path : List ℕ) (world : World) where
   abbrev pub functions : ℕ
   functions = length p.functions
@@ -55,6 +58,7 @@ module _ (p : Program) (resolved : IsResolved p) (size fuel : ℕ) (make : Optio
     both = calls_both p size most_open resolved.functions;
     keeps = calls_keep p size most_open;
     calls = run_calls p most_open resolved.functions;
+    grows = growing;
   }
 
   abbrev pub template_scope : Scope
@@ -77,6 +81,9 @@ module _ (p : Program) (resolved : IsResolved p) (size fuel : ℕ) (make : Optio
     abbrev pub first : State
     first = template_state t arguments path world
 
+    abbrev pub begin : Start
+    begin = record { world = first.world; size = size }
+
     pub template_body_is : next (exec_all context t.body first) (ended_flow context) ≡ Ok
         (signals, after)
     template_body_is =
@@ -93,7 +100,7 @@ module _ (p : Program) (resolved : IsResolved p) (size fuel : ℕ) (make : Optio
 
     pub template_last : (u : State) × (template_flow.0 ≡ Going u)
     template_last =
-        goes_on_all (λ n k. None) first.world functions q template_sounds bodies template_scope
+        goes_on_all (λ n k. None) begin functions q template_sounds bodies refl template_scope
         t.body first template_flow.0 template_sound_scope
         template_scoped template_flow.1
 
@@ -135,7 +142,7 @@ module _ (p : Program) (resolved : IsResolved p) (size fuel : ℕ) (make : Optio
               (λ x. Ok x) template_last.1)
               (exec_all_kept context template_sounds.keeps
               (behind_all template_scope t.body).signals Q closed t.body
-              (none_declared (λ n k. None) first.world functions q template_sounds bodies
+              (none_declared (λ n k. None) begin functions q template_sounds bodies
               template_scope t.body
               (behind_all template_scope t.body).signals template_sound_scope template_scoped (inr
               (omega arith))) first h),

@@ -1,5 +1,5 @@
 -- A template's body runs to its end, with a number for each signal, or stops as a program may.
-use Rattle.std.proofs.Common.{◌≡◌, ℕ, zero, suc, ◌-◌, Bool, true, false, ◌||◌, List, [], ◌∷◌, ◌++◌, length, replicate, Option, Some, None, is_some, Ok, Err, refl, sym, ap, subst, ◌∙◌, slice_get}
+use Rattle.std.proofs.Common.{◌≡◌, ℕ, ◌+◌, zero, suc, ◌-◌, Bool, true, false, ◌||◌, List, [], ◌∷◌, ◌++◌, length, replicate, Option, Some, None, is_some, Ok, Err, refl, sym, ap, subst, ◌∙◌, slice_get, arith}
 use Rattle.std.specs.List.{AllByRecursion}
 use Rattle.cir_ast.specs.declared.operators.Direction.{Direction}
 use Rattle.cir_ast.specs.declared.refusal.Kind.TheVariants.{WrongKind, NeverWritten, InputsMissing}
@@ -16,15 +16,19 @@ use Rattle.cir_meaning.specs.Run.{Wires, RunPart, Run, RunTried, Rejected, Stopp
 use Rattle.cir_meaning.specs.RunSimple.{Outcome, Runner, Running}
 use Rattle.cir_meaning.specs.RunBodies.{run_all, port_tables, run_begun, run_ended, run_template_body}
 use Rattle.cir_meaning.proofs.Good.{OnSome'}
+use Rattle.cir_meaning.proofs.Rows.{all_append}
 use Rattle.cir_meaning.proofs.FineValues.{IsDatum, FineWorld, FineMake}
 use Rattle.cir_meaning.proofs.FineBodies.{begun_fine}
 use Rattle.cir_meaning.proofs.KnownValues.{KnownDatum, KnownStore}
 use Rattle.cir_meaning.proofs.KnownCalls.{all_get, begun_known}
 use Rattle.cir_meaning.proofs.Marking.{KeepsWires}
-use Rattle.cir_meaning.proofs.Holds.{Agrees, PartAgrees, Extends}
+use Rattle.cir_meaning.proofs.Holds.{Agrees, PartAgrees, Full, Extends}
 use Rattle.cir_meaning.proofs.Settling.{Variable, known_same}
 use Rattle.cir_meaning.proofs.Goes.{Goes}
-use Rattle.cir_meaning.proofs.Standing.{Stands, Adds}
+use Rattle.cir_meaning.proofs.GroupSizes.{Fits, IsGrowing}
+use Rattle.cir_meaning.proofs.Weights.{cover_entries, cover_tables, under, Bounded}
+use Rattle.cir_meaning.proofs.PartWeights.{parts_weigh}
+use Rattle.cir_meaning.proofs.Standing.{Start, Numbered, parts_weight, PartStands, Stands, Adds}
 use Rattle.cir_meaning.proofs.Starting.{Ends, BodiesRun, all_true}
 use Rattle.cir_meaning.proofs.VariableRuns.{Soundly}
 use Rattle.cir_meaning.proofs.UndecidedRuns.{variable_from}
@@ -55,6 +59,13 @@ none_entry zero n = refl
 none_entry (suc count) zero = refl
 none_entry (suc count) (suc n) = none_entry count n
 
+none_covered : (m count : ℕ) → cover_entries m (replicate count None) ≡ 0
+none_covered m zero = refl
+none_covered m (suc count) = none_covered m count
+
+none_first : (c u : ℕ) → c ≡ 0 → c + (0 + u) ≡ u
+none_first c u e = omega arith
+
 -- two lists behind each other
 all_front : {A : Type 0} (P : A → Type 0) (xs ys : List A) → AllByRecursion P (xs ++ ys)
     → AllByRecursion P xs
@@ -82,6 +93,24 @@ parts_agree v (x ∷ ps) (y ∷ qs) h zero p q ep eq =
 parts_agree v (x ∷ ps) (y ∷ qs) h (suc j) p q ep eq =
     parts_agree v ps qs
     (all_back (λ t. Agrees v t.signals t.wires) y.inside (port_tables ps qs) h.1) j p q ep eq
+
+parts_full : (ps : List Part) (qs : List RunPart)
+    → ((j : ℕ) (p : Part) → slice_get ps j ≡ Some p
+    → (q : RunPart) × (slice_get qs j ≡ Some q)
+    × Full record { signals = p.signals; wires = q.ports } × AllByRecursion Full q.inside)
+    → AllByRecursion Full (port_tables ps qs)
+parts_full [] qs h = tt
+parts_full (p ∷ ps) [] h = tt
+parts_full (p ∷ ps) (q ∷ qs) h =
+    let first : (x : RunPart) × (Some q ≡ Some x)
+    × Full record { signals = p.signals; wires = x.ports } × AllByRecursion Full x.inside =
+    h 0 p refl in
+    let same : first.0 ≡ q = let both : Some q ≡ Some first.0 = first.1 in cc in (
+      subst (λ (x : RunPart). Full record { signals = p.signals; wires = x.ports }) same first.2,
+      all_append Full q.inside (port_tables ps qs)
+          (subst (λ (x : RunPart). AllByRecursion Full x.inside) same first.3)
+          (parts_full ps qs (λ j x e. h (suc j) x e)),
+    )
 
 -- the ends of a body
 either_written : (a b : Bool) → (a || b) ≡ true → a ≡ false → b ≡ true
@@ -121,24 +150,30 @@ fed_of k (x ∷ ps) u h (suc j) p e =
     fed_of k ps u both.1 j p e
 
 -- what the run of a body has made
-pub record Ran (signals : Signals) (given : Wires) (before after : World) (o : Outcome)
+pub record Ran (size : ℕ) (signals : Signals) (given : Wires) (before after : World) (o : Outcome)
     : Type 0 where
   pub keeps : KeepsWires given o.own
   pub all : (n : ℕ) (e : SignalEntry) → entry_at signals n ≡ Some e → (k : ℕ) (b : Bool)
       → slice_get e.written k ≡ Some b → is_some (o.own n k) ≡ true
+  pub full : AllByRecursion Full o.inside
   pub paid : (v : Assignment) → Agrees v signals o.own
       → AllByRecursion (λ t. Agrees v t.signals t.wires) o.inside → Adds v before after
+  pub weighs : Bounded after.sizes → (m : ℕ)
+      → cover_entries m signals + (cover_tables m o.inside + under size before.sizes m)
+      ≡ under size after.sizes m
 
 pub some_of : (o : Option ℕ) → is_some o ≡ true → (x : ℕ) × (o ≡ Some x)
 some_of None e = cc
 some_of (Some x) e = (x, refl)
 
 module _ (p : Program) (resolved : IsResolved p) (size fuel : ℕ) (make : Option Maker)
-    (makes : OnSome' FineMake make) (group : Direction → List ℕ → Group) (body : Runner)
-    (bodies : BodiesRun make body) (w : Where) (n : ℕ) (t : Template)
+    (makes : OnSome' FineMake make) (growing : OnSome' IsGrowing make)
+    (group : Direction → List ℕ → Group) (body : Runner)
+    (bodies : BodiesRun size make body) (w : Where) (n : ℕ) (t : Template)
     (is : slice_get p.templates n ≡ Some t) (arguments : List Datum) (path : List ℕ)
     (world : World) (given : Wires) (log : List (List ℕ)) (known : KnownStore arguments)
-    (data' : AllByRecursion IsDatum arguments) (fine : FineWorld world) (signals : Signals)
+    (data' : AllByRecursion IsDatum arguments) (fine : FineWorld world) (fits : Fits world.sizes)
+    (signals : Signals)
     (after : World) where
   abbrev functions : ℕ
   functions = length p.functions
@@ -150,13 +185,17 @@ module _ (p : Program) (resolved : IsResolved p) (size fuel : ℕ) (make : Optio
   q = record { context = context; fuel = fuel; call = run_call p most_open; body = body }
 
   sounds : Soundly (everything functions) q
-  sounds = template_sounds p resolved size fuel make makes group body bodies n t is path world
+  sounds = template_sounds p resolved size fuel make makes growing group body bodies n t is path
+      world
 
   abbrev scope : Scope
-  scope = template_scope p resolved size fuel make makes group body bodies n t is path world
+  scope = template_scope p resolved size fuel make makes growing group body bodies n t is path world
 
   abbrev first : State
   first = template_state t arguments path world
+
+  abbrev begin : Start
+  begin = record { world = first.world; size = size }
 
   abbrev begun : Run
   begun = run_begun t arguments path world given log
@@ -167,7 +206,7 @@ module _ (p : Program) (resolved : IsResolved p) (size fuel : ℕ) (make : Optio
       known_same E d None (all_get KnownDatum first.frame.variables i d
       (begun_known arguments (t.variables - length arguments) known) there))
 
-  stands : Stands make given first.world None begun
+  stands : Stands make given begin None begun
   stands = record {
     variables = variables_known (Extends begun);
     own = λ i e there k b at.
@@ -181,6 +220,12 @@ module _ (p : Program) (resolved : IsResolved p) (size fuel : ℕ) (make : Optio
       fine,
     );
     equations = λ v ex debts before. before;
+    numbered = (
+      fits,
+      tt,
+      (λ few m. none_first (cover_entries m (replicate t.signals None))
+          (under size world.sizes m) (none_covered m t.signals)),
+    );
   }
 
   module _ (made : exec_template p size (call_at p size most_open) make group w n arguments path
@@ -189,12 +234,12 @@ module _ (p : Program) (resolved : IsResolved p) (size fuel : ℕ) (make : Optio
     abbrev flow : (z : Flow) × (exec_all context t.body first ≡ Ok z)
         × (ended_flow context z ≡ Ok (signals, after))
     flow =
-        template_flow p resolved size fuel make makes group body bodies n t is path world w
+        template_flow p resolved size fuel make makes growing group body bodies n t is path world w
         arguments signals after made
 
     last : (u : State) × (flow.0 ≡ Going u)
     last =
-        template_last p resolved size fuel make makes group body bodies n t is path world w
+        template_last p resolved size fuel make makes growing group body bodies n t is path world w
         arguments signals after made
 
     ends : (u : State) → ended context u ≡ Ok (signals, after)
@@ -202,7 +247,7 @@ module _ (p : Program) (resolved : IsResolved p) (size fuel : ℕ) (make : Optio
         × (all_fed context u.frame.parts ≡ Ok b) × (u.frame.signals ≡ signals)
         × (u.world ≡ after)
     ends =
-        template_ends p resolved size fuel make makes group body bodies n t is path world w
+        template_ends p resolved size fuel make makes growing group body bodies n t is path world w
         arguments signals after made
 
     shapes_of : (u : State) → exec_all context t.body first ≡ Ok (Going u) → Shapes given u
@@ -211,22 +256,25 @@ module _ (p : Program) (resolved : IsResolved p) (size fuel : ℕ) (make : Optio
         × (all_fed context u.frame.parts ≡ Ok b) × (u.frame.signals ≡ signals)
         × (u.world ≡ after) =
         ends u (sym (ap (λ m. next m (ended_flow context)) e)
-        ∙ template_body_is p resolved size fuel make makes group body bodies n t is path world w
+        ∙ template_body_is p resolved size fuel make makes growing group body bodies n t is path
+        world w
         arguments signals after made) in
         shapes i x (subst (λ xs. entry_at xs i ≡ Some x) its.4 there)
 
-    goes : Goes (AfterFlow make given first.world (everything functions) q sounds)
+    goes : Goes (AfterFlow make given begin (everything functions) q sounds)
         (exec_all context t.body first) (run_all q t.body begun)
     goes =
-        statements_flow given first.world functions q sounds bodies scope t.body
-        (template_sound_scope p resolved size fuel make makes group body bodies n t is path world)
-        (template_scoped p resolved size fuel make makes group body bodies n t is path world)
+        statements_flow given begin functions q sounds bodies refl scope t.body
+        (template_sound_scope p resolved size fuel make makes growing group body bodies n t is path
+        world)
+        (template_scoped p resolved size fuel make makes growing group body bodies n t is path
+        world)
         begun stands (λ i le. none_entry t.signals i) shapes_of
 
     -- behind its last statement
-    ran : (r : Run) → Stands make given first.world None r
+    ran : (r : Run) → Stands make given begin None r
         → ended context r.known ≡ Ok (signals, after)
-        → Ran signals given world after record {
+        → Ran size signals given world after record {
           own = r.own;
           inside = port_tables r.known.frame.parts r.parts;
           log = r.log;
@@ -234,6 +282,16 @@ module _ (p : Program) (resolved : IsResolved p) (size fuel : ℕ) (make : Optio
     ran r h e = record {
       keeps = h.kept;
       all = λ i x there k b at. all_of i x there k b at (is_input x.direction) refl;
+      full = parts_full r.known.frame.parts r.parts (λ j x e.
+          let there : (y : RunPart) × (slice_get r.parts j ≡ Some y)
+          × PartStands size make (is_fed x.signals) x y = h.parts j x e in
+          let fed : is_fed x.signals ≡ true = fed_of context r.known.frame.parts its.1 its.3 j x e
+          in (
+            there.0,
+            there.1,
+            (λ i z at k b mark. there.2.outputs fed i z at k b mark),
+            there.2.full fed,
+          ));
       paid = λ v agrees inside. subst (λ u. Adds v world u) its.5
           (h.equations v (
             subst (λ xs. Agrees v xs r.own) (sym its.4) agrees,
@@ -242,6 +300,7 @@ module _ (p : Program) (resolved : IsResolved p) (size fuel : ℕ) (make : Optio
           let fed : is_fed x.signals ≡ true = fed_of context r.known.frame.parts its.1 its.3 j x ex
           in
           cc));
+      weighs = weighs;
     }
       where
         its : (a : Unit {0}) × (b : Unit {0})
@@ -249,6 +308,28 @@ module _ (p : Program) (resolved : IsResolved p) (size fuel : ℕ) (make : Optio
             × (all_fed context r.known.frame.parts ≡ Ok b) × (r.known.frame.signals ≡ signals)
             × (r.known.world ≡ after)
         its = ends r.known e
+
+        weighs : Bounded after.sizes → (m : ℕ)
+            → cover_entries m signals
+            + (cover_tables m (port_tables r.known.frame.parts r.parts)
+            + under size world.sizes m) ≡ under size after.sizes m
+        weighs few m =
+            let numbers : Numbered make begin after.sizes signals r.parts =
+            subst (λ (u : World). Numbered make begin u.sizes signals r.parts) its.5
+            (subst (λ xs. Numbered make begin r.known.world.sizes xs r.parts) its.4 h.numbered) in
+            let tables : cover_tables m (port_tables r.known.frame.parts r.parts)
+            ≡ parts_weight make size m r.parts =
+            parts_weigh make size after.sizes r.known.frame.parts r.parts m few h.count numbers.1
+            (λ j x e.
+            let there : (y : RunPart) × (slice_get r.parts j ≡ Some y)
+            × PartStands size make (is_fed x.signals) x y = h.parts j x e in (
+              there.0,
+              there.1,
+              there.2.weighs
+                  (fed_of context r.known.frame.parts its.1 its.3 j x e),
+            )) in
+            ap (λ (n : ℕ). cover_entries m signals + (n + under size world.sizes m)) tables
+            ∙ numbers.2 few m
 
         all_of : (i : ℕ) (x : SignalEntry) → entry_at signals i ≡ Some x → (k : ℕ) (b : Bool)
             → slice_get x.written k ≡ Some b → (c : Bool) → is_input x.direction ≡ c
@@ -264,11 +345,11 @@ module _ (p : Program) (resolved : IsResolved p) (size fuel : ℕ) (make : Optio
             ∙ all_true x.written k b
             (written_of context r.known.frame.signals its.0 its.2 i x known_there input) at
 
-    pub template_runs : Ends (Ran signals given world after)
+    pub template_runs : Ends (Ran size signals given world after)
         (run_template_body p size fuel (call_at p size most_open) make group body w n arguments path
         world given log)
     template_runs =
-        subst (λ o. Ends (Ran signals given world after)
+        subst (λ o. Ends (Ran size signals given world after)
         (next (refusing (found w WrongKind o)) (λ t.
         next (run_all record {
           context = template_context p size (call_at p size most_open) make group t path world;
@@ -278,19 +359,20 @@ module _ (p : Program) (resolved : IsResolved p) (size fuel : ℕ) (make : Optio
         } t.body (run_begun t arguments path world given log))
         (run_ended (template_context p size (call_at p size most_open) make group t path world)))))
         (sym is)
-        (ends_of (AfterFlow make given first.world (everything functions) q sounds)
-        (Ran signals given world after) (Going last.0) (run_all q t.body begun) (run_ended context)
-        (subst (λ m. Goes (AfterFlow make given first.world (everything functions) q sounds) m
+        (ends_of (AfterFlow make given begin (everything functions) q sounds)
+        (Ran size signals given world after) (Going last.0) (run_all q t.body begun)
+        (run_ended context)
+        (subst (λ m. Goes (AfterFlow make given begin (everything functions) q sounds) m
         (run_all q t.body begun)) (flow.1 ∙ ap (λ x. Ok x) last.1) goes) (λ r after_r.
         let done : ended context r.known ≡ Ok (signals, after) =
         subst (λ u. ended context u ≡ Ok (signals, after)) (sym after_r.0)
         (subst (λ z. ended_flow context z ≡ Ok (signals, after)) last.1 flow.2) in
-        subst (λ m. Ends (Ran signals given world after) (next (refusing m) (λ u. Ok record {
+        subst (λ m. Ends (Ran size signals given world after) (next (refusing m) (λ u. Ok record {
           own = r.own;
           inside = port_tables r.known.frame.parts r.parts;
           log = r.log;
         }))) (sym done)
-        (ends_ok (Ran signals given world after) record {
+        (ends_ok (Ran size signals given world after) record {
           own = r.own;
           inside = port_tables r.known.frame.parts r.parts;
           log = r.log;

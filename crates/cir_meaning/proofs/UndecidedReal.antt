@@ -29,7 +29,7 @@ use Rattle.cir_meaning.proofs.CallsTold.{call_told}
 use Rattle.cir_meaning.proofs.RunFree.{NoMiss, Any, Calls, no_weaker}
 use Rattle.cir_meaning.proofs.Fading.{IsOpaque, Rest, scan_rest, scan_keeps, may_any}
 use Rattle.cir_meaning.proofs.Holds.{Extends, Holds, own_fit, part_fit}
-use Rattle.cir_meaning.proofs.Standing.{Stands, holds_of, changed}
+use Rattle.cir_meaning.proofs.Standing.{Stands, holds_of, changed, Start}
 use Rattle.cir_meaning.proofs.PartWrites.{set_count}
 use Rattle.cir_meaning.proofs.VariableRuns.{IsAdded, stepped_adds}
 use Rattle.cir_meaning.proofs.StepRuns.{settle_like, added_like}
@@ -106,7 +106,7 @@ fit_changed r holds k keeps both call w vs a c scope store calls variables = rec
   calls = calls;
 }
 
-module _ (make : Option Maker) (given : Wires) (start : World) (q : Running)
+module _ (make : Option Maker) (given : Wires) (start : Start) (q : Running)
     (fine : FineContext q.context) (both : CallBoth q.context.call)
     (keeps : CallKeeps q.context.call) (functions : ℕ) (calls : Calls functions q.call)
     (spot : Spot) (fault : Option Fault) (a : Statement Spot Meant) (scope : Scope)

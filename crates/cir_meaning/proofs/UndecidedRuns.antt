@@ -30,7 +30,7 @@ use Rattle.cir_meaning.proofs.Fading.{IsOpaque, Faded, scan_faded, Rest, scan_re
 use Rattle.cir_meaning.proofs.Holds.{Extends}
 use Rattle.cir_meaning.proofs.Settling.{settle_of, known_same, opaque_same, Variable, variable_of, put_variables}
 use Rattle.cir_meaning.proofs.Goes.{Goes, goes_ok, goes_refusing, goes_step}
-use Rattle.cir_meaning.proofs.Standing.{Stands, changed, stands_changed}
+use Rattle.cir_meaning.proofs.Standing.{Stands, changed, stands_changed, Start}
 use Rattle.cir_meaning.proofs.VariableRuns.{Soundly, IsAdded, stepped_adds, After}
 
 -- the numbers of a variable, by what it is
@@ -128,7 +128,7 @@ rest_changed f s l =
       world = world;
     }
 
-module _ (make : Option Maker) (given : Wires) (start : World) (scope : Scope) (q : Running)
+module _ (make : Option Maker) (given : Wires) (start : Start) (scope : Scope) (q : Running)
     (sound : Soundly scope q) where
   abbrev Then : State → Run → Type 0
   Then = After make given start scope q sound

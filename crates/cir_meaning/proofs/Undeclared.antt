@@ -1,12 +1,12 @@
 -- A statement declares the signals of the numbers that the text gives it, and no others.
 use Rattle.std.proofs.Common.{◌≡◌, ◌⊎◌, inl, inr, ℕ, ◌+◌, ◌<◌, ◌≤◌, List, [], ◌∷◌, sym, subst, arith}
+use Rattle.cir_meaning.proofs.Standing.{Start}
 use Rattle.std.specs.List.{AllByRecursion}
 use Rattle.cir_ast.specs.declared.operators.Direction.{Direction}
 use Rattle.cir_ast.specs.declared.program.Spot.{Spot}
 use Rattle.cir_ast.specs.declared.program.Meant.{Meant}
 use Rattle.cir_ast.specs.Tree.{Signal, First, FirstVars, FirstAssign, Simple, Vars, Signals, Declared, Created, Assigned, Constrain, Right, TargetLeft, TargetRight, Alone, Statement, Block, If, IfElse, While, For, Return, Assert, Log, Ended, Statements, empty, then_more}
 use Rattle.cir_meaning.specs.Scoped.{Scope, with_signal, AreSignalsScoped, with_signals, IsSimpleScoped, behind_simple, behind_first, closed, behind, behind_all, IsScoped, AreScoped}
-use Rattle.cir_meaning.specs.Frame.{World}
 use Rattle.cir_meaning.specs.Anonymous.{lift_simple}
 use Rattle.cir_meaning.specs.Statement.{first_simple}
 use Rattle.cir_meaning.specs.Run.{Wires}
@@ -83,8 +83,9 @@ lifted_not s n (x ∷ xs) h = (one x h.0, lifted_not s n xs h.1)
     one (TargetRight source arrow target) g = tt
     one (Alone parallel name m arguments inputs) g = tt
 
-module _ (given : Wires) (start : World) (functions : ℕ) (q : Running)
-    (sounds : Soundly (everything functions) q) (bodies : BodiesRun q.context.make q.body) where
+module _ (given : Wires) (start : Start) (functions : ℕ) (q : Running)
+    (sounds : Soundly (everything functions) q)
+    (bodies : BodiesRun start.size q.context.make q.body) where
   abbrev All : Scope
   All = everything functions
 

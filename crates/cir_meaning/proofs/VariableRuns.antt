@@ -1,5 +1,6 @@
 -- Assignments to variables in a run.
 use Rattle.std.proofs.Common.{◌≡◌, ℕ, zero, suc, Bool, true, false, not, cond, List, [], ◌∷◌, ◌++◌, Option, Some, None, Ok, refl, sym, ap, subst, ◌∙◌, slice_get, slice_set}
+use Rattle.cir_meaning.proofs.GroupSizes.{IsGrowing}
 use Rattle.std.specs.Prelude.{◌==◌, unwrap_or}
 use Rattle.cir_ast.specs.declared.program.Meant.{Meant}
 use Rattle.cir_ast.specs.declared.program.Meant.TheVariants as meant
@@ -24,7 +25,7 @@ use Rattle.cir_meaning.specs.RunValues.{Numbers, Store, stored}
 use Rattle.cir_meaning.specs.RunStatements.{step_set}
 use Rattle.cir_meaning.specs.Run.{Wires, Run, refusing, settled_store, store_of, environment, put_numbers}
 use Rattle.cir_meaning.specs.RunSimple.{Running, with_known, variable_step, run_set_variable}
-use Rattle.cir_meaning.proofs.Good.{OnGood, good_ok, good_bad, good_next, good_on, good_needed, good_is}
+use Rattle.cir_meaning.proofs.Good.{OnGood, good_ok, good_bad, good_next, good_on, good_needed, good_is, OnSome'}
 use Rattle.cir_meaning.proofs.Likes.{CallKeeps, Like, like_itself, value_like}
 use Rattle.cir_meaning.proofs.FineValues.{FineContext, Fine}
 use Rattle.cir_meaning.proofs.FineStatements.{set_variable_fine}
@@ -39,7 +40,7 @@ use Rattle.cir_meaning.proofs.KnownValues.{all_pass}
 use Rattle.cir_meaning.proofs.KnownCalls.{CallBoth}
 use Rattle.cir_meaning.proofs.CallsTold.{call_told}
 use Rattle.cir_meaning.proofs.Goes.{Goes, goes_ok, goes_twice, goes_refusing, goes_step, pair_no}
-use Rattle.cir_meaning.proofs.Standing.{Stands, holds_of, changed, stands_changed}
+use Rattle.cir_meaning.proofs.Standing.{Stands, holds_of, changed, stands_changed, Start}
 use Rattle.cir_meaning.proofs.Settling.{settle_of, same_settled, opaque_same, put_same, Variable, variable_of, set_variables, put_variables}
 
 -- what is known of the functions of a run
@@ -48,6 +49,7 @@ pub record Soundly (scope : Scope) (q : Running) : Type 0 where
   pub both : CallBoth q.context.call
   pub keeps : CallKeeps q.context.call
   pub calls : Calls scope.functions q.call
+  pub grows : OnSome' IsGrowing q.context.make
 
 -- a state that differs in counts alone
 pub like_changed : (f s : State) → Like f s
@@ -75,7 +77,7 @@ like_changed f s l =
     }
 
 -- the environment of a run between statements
-pub fits : (make : Option Maker) (given : Wires) (start : World) (scope : Scope) (q : Running)
+pub fits : (make : Option Maker) (given : Wires) (start : Start) (scope : Scope) (q : Running)
     (r : Run) → Soundly scope q → Stands make given start None r → (w : Where)
     → Fitting (Extends r) q.context w scope r.known (environment q.context w q.call r.known r)
     (store_of r.known r.numbers)
@@ -155,7 +157,7 @@ pub stored_set : (store : Store) (n : ℕ) (m x : Numbers) → slice_get store n
 stored_set store n m x e =
     ap (λ (o : Option Numbers). unwrap_or o (single 0)) (get_set store n m x e)
 
-module _ (make : Option Maker) (given : Wires) (start : World) (scope : Scope) (q : Running)
+module _ (make : Option Maker) (given : Wires) (start : Start) (scope : Scope) (q : Running)
     (sound : Soundly scope q) where
   abbrev pub After : State → Run → Type 0
   After s r = (r.known ≡ s) × Stands make given start None r

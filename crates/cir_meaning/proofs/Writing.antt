@@ -1,5 +1,5 @@
 -- The write of a signal's elements, at compile time and with the numbers of a run.
-use Rattle.std.proofs.Common.{◌≡◌, ◌≢◌, ◌⊎◌, inl, inr, ℕ, zero, suc, ◌+◌, Bool, true, false, not, List, [], ◌∷◌, length, Option, Some, None, is_some, slice_get, slice_set, unwrap_or, refl, sym, ap, subst, arith}
+use Rattle.std.proofs.Common.{◌≡◌, ◌≢◌, ◌<◌, ◌⊎◌, inl, inr, ℕ, zero, suc, ◌+◌, Bool, true, false, not, List, [], ◌∷◌, length, Option, Some, None, is_some, slice_get, slice_set, unwrap_or, refl, sym, ap, subst, arith, ◌∙◌}
 use Rattle.cir_ast.specs.declared.operators.Arrow.{Arrow}
 use Rattle.cir_ast.specs.declared.operators.Arrow.TheVariants.{Assign as AssignArrow, Constrain as ConstrainArrow}
 use Rattle.cir_ast.specs.declared.operators.Direction.{Direction}
@@ -225,3 +225,79 @@ module _ (test : Direction → Bool) (t : Target) where
             (wire_new t.number place value t.number place wires refl refl),
         z.1,
       ))))
+
+-- the places that are written are the signal's
+abbrev pub AllBelow : ℕ → List ℕ → List ℕ → Type 0
+AllBelow count [] values = ⊤
+AllBelow count (place ∷ places) [] = ⊤
+AllBelow count (place ∷ places) (value ∷ values) = (place < count) × AllBelow count places values
+
+abbrev Counted : ℕ → ℕ → Signals → Type 0
+Counted count n signals =
+    (e : SignalEntry) → entry_at signals n ≡ Some e → length e.written ≡ count
+
+set_length : (xs : List Bool) (k : ℕ) (b : Bool) → length (slice_set xs k b) ≡ length xs
+set_length [] k b = refl
+set_length (x ∷ xs) zero b = refl
+set_length (x ∷ xs) (suc k) b = ap (λ (n : ℕ). suc n) (set_length xs k b)
+
+get_below : {A : Type 0} (xs : List A) (i : ℕ) (x : A) → slice_get xs i ≡ Some x → i < length xs
+get_below [] i x e = cc
+get_below (y ∷ ys) zero x e = omega arith
+get_below (y ∷ ys) (suc i) x e =
+    let less : i < length ys = get_below ys i x e in omega arith
+
+element_below : (t : Target) (count : ℕ) (w : Where) (place : ℕ) (s : State)
+    → Counted count t.number (signals_of t.part s.frame)
+    → OnGood (λ x. (place < count) × Counted count t.number (signals_of t.part x.1.frame))
+    (write_element w t place s)
+element_below t count w place s counts =
+    good_found_as (λ x. (place < count) × Counted count t.number (signals_of t.part x.1.frame)) w
+    ReadBeforeWrite (entry_at (signals_of t.part s.frame) t.number) _ (λ e there.
+    good_needed_as (λ x. (place < count) × Counted count t.number (signals_of t.part x.1.frame))
+    (not (is_written e place)) w SecondWrite _ (λ free.
+    let now : signals_of t.part (with_signals t.part (put_at t.number (marked e place)
+    (signals_of t.part s.frame)) s.frame) ≡ put_at t.number (marked e place)
+    (signals_of t.part s.frame) =
+    signals_put t.part t.number e (put_at t.number (marked e place) (signals_of t.part s.frame))
+    s.frame there in
+    good_ok (λ x. (place < count) × Counted count t.number (signals_of t.part x.1.frame)) _ (
+      subst (λ (n : ℕ). place < n) (counts e there)
+          (get_below e.written place false (unwritten (slice_get e.written place) free)),
+      subst (Counted count t.number) (sym now) (λ d here.
+          of_entry e there d
+          (put_entry t.number t.number (marked e place) d (signals_of t.part s.frame) here)),
+    )))
+  where
+    of_entry : (e : SignalEntry) → entry_at (signals_of t.part s.frame) t.number ≡ Some e
+        → (d : SignalEntry)
+        → ((t.number ≡ t.number) × (marked e place ≡ d)) ⊎
+        ((t.number ≢ t.number) × (entry_at (signals_of t.part s.frame) t.number ≡ Some d))
+        → length d.written ≡ count
+    of_entry e there d (inl i) =
+        subst (λ x. length x.written ≡ count) i.1 (set_length e.written place true ∙ counts e there)
+    of_entry e there d (inr i) = absurd (i.0 refl)
+
+pub elements_below : (t : Target) (count : ℕ) (k : Context) (w : Where) (arrow : Arrow)
+    (places : List ℕ) (vs : List Value) (values : List ℕ) (s : State)
+    → length values ≡ length vs → Counted count t.number (signals_of t.part s.frame)
+    → OnGood (λ s1. AllBelow count places values) (write_elements k w arrow t places vs s)
+elements_below t count k w arrow [] vs values s same counts =
+    good_ok (λ s1. AllBelow count [] values) s tt
+elements_below t count k w arrow (place ∷ places) [] [] s same counts =
+    good_ok (λ s1. AllBelow count (place ∷ places) []) s tt
+elements_below t count k w arrow (place ∷ places) [] (m ∷ ms) s same counts = cc
+elements_below t count k w arrow (place ∷ places) (v ∷ vs) [] s same counts = cc
+elements_below t count k w arrow (place ∷ places) (v ∷ vs) (value ∷ values) s same counts =
+    good_next (λ x. (place < count) × Counted count t.number (signals_of t.part x.1.frame))
+    (λ s1. AllBelow count (place ∷ places) (value ∷ values)) (write_element w t place s) _
+    (element_below t count w place s counts) (λ x p.
+    good_next (λ s2. signals_of t.part s2.frame ≡ signals_of t.part x.1.frame)
+    (λ s1. AllBelow count (place ∷ places) (value ∷ values))
+    (constrained_by k w arrow (Linear (signal (x.0.first + place))) v x.1) _
+    (constrained_signals k w t.part arrow (Linear (signal (x.0.first + place))) v x.1) (λ s2 g.
+    good_weaker (λ s3. AllBelow count places values)
+    (λ s3. AllBelow count (place ∷ places) (value ∷ values))
+    (write_elements k w arrow t places vs s2)
+    (elements_below t count k w arrow places vs values s2 (rest_length vs values same)
+    (subst (Counted count t.number) (sym g) p.1)) (λ s3 q. (p.0, q))))

@@ -1,7 +1,7 @@
 //! Laws over the values of expressions and the constraints of a source, each the contract of a
 //! function that does nothing.
 
-ghost use Rattle.std.specs.Prelude.{◌≡◌, ◌≢◌, ◌↔◌, ◌+◌, ◌<◌, ℕ, true, Some, Ok, Err, List, All, length, sum_by};
+ghost use Rattle.std.specs.Prelude.{◌≡◌, ◌≢◌, ◌↔◌, ◌+◌, ◌<◌, ◌≤◌, ℕ, true, Option, Some, is_some, Ok, Err, List, All, length, slice_get, sum_by};
 ghost use Rattle.std.specs.List.{list_all};
 ghost use Rattle.gold_field.specs.declared.form.Constraint.{Constraint};
 ghost use Rattle.gold_field.specs.declared.operators.Op1.{Op1};
@@ -25,7 +25,7 @@ ghost use Rattle.cir_meaning.specs.Bodies.{call_at};
 ghost use Rattle.cir_meaning.specs.RunValues.{Numbers, missing};
 ghost use Rattle.cir_meaning.specs.RunStatements.{run_call};
 ghost use Rattle.cir_meaning.specs.Run.{Rejected, Stopped};
-ghost use Rattle.cir_meaning.specs.RunBodies.{run_with};
+ghost use Rattle.cir_meaning.specs.RunBodies.{Ending, run_with};
 ghost use Rattle.cir_meaning.specs.Source.{Equation, IsDifference, IsEqualAt, IsSource, all_terms};
 
 /// The class of an operator's result is the table's, whatever the numbers are.
@@ -162,4 +162,20 @@ pub fn runs_never_miss()
         (w : Where) (log : List (List ℕ)) → IsResolved p → compiled p ≡ Ok c
         → length inputs ≡ c.public_inputs + c.private_inputs → length inputs < group_size
         → run_with group_size p fuel inputs ≡ Err (Stopped stop w log) → stop ≢ missing }
+{}
+
+/// Where a run of a program that compiles ends, with no more than 2^20 values in all, it has a value
+/// for signal 0 and each signal, by their numbers, and the assignments with these values satisfy
+/// the program: the two sides of each equation are equal at them.
+pub fn runs_satisfy()
+    ensures values { (p : Program) (c : Circuit) (fuel : ℕ) (inputs : List ℕ) (e : Ending)
+        → IsResolved p → compiled p ≡ Ok c
+        → length inputs ≡ c.public_inputs + c.private_inputs → length inputs < group_size
+        → run_with group_size p fuel inputs ≡ Ok e → length e.values ≤ group_size
+        → All (λ o. is_some o ≡ true) e.values }
+    ensures satisfied { (p : Program) (c : Circuit) (fuel : ℕ) (inputs : List ℕ) (e : Ending)
+        (s : Assignment) → IsResolved p → compiled p ≡ Ok c
+        → length inputs ≡ c.public_inputs + c.private_inputs → length inputs < group_size
+        → run_with group_size p fuel inputs ≡ Ok e → length e.values ≤ group_size
+        → ((i x : ℕ) → slice_get e.values i ≡ Some (Some x) → s.at i ≡ x) → Satisfies p s }
 {}

@@ -1,0 +1,8 @@
+use Rattle.cir_meaning.proofs.RunLaws.{run_has_values, run_satisfies}
+use Rattle.cir_meaning.proofs.laws.runs_satisfy.Goals as goal
+
+pub returns-clause-values : goal.returns-clause-values
+returns-clause-values c = run_has_values
+
+pub returns-clause-satisfied : goal.returns-clause-satisfied
+returns-clause-satisfied c = run_satisfies
