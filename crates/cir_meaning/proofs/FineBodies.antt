@@ -14,7 +14,7 @@ use Rattle.cir_meaning.specs.Values.{Known}
 use Rattle.cir_meaning.specs.Frame.{Signals, Group, Sizes, World, State, Caller, Maker, Context, at, begun, settle}
 use Rattle.cir_meaning.specs.Evaluate.{arguments_in}
 use Rattle.cir_meaning.specs.Statement.{Flow, Going, Returned, exec_all}
-use Rattle.cir_meaning.specs.Bodies.{numbered_others, all_written, all_fed, ended, ended_flow, template_context, template_state, exec_template, answer_of, counted_in, function_context, exec_function, call_at, most_open, make_at}
+use Rattle.cir_meaning.specs.Bodies.{numbered_others, all_written, all_fed, ended, ended_flow, template_context, template_state, exec_template, answer_of, counted_in, emptied, function_context, exec_function, call_at, most_open, make_at}
 use Rattle.cir_meaning.specs.Compile.{main_group, main_context, main_state, exec_main, as_executed, renumbered_equation, circuit_of, the_main, compiled_with}
 use Rattle.cir_meaning.proofs.Good.{OnGood, good_ok, good_bad, good_next, good_on, OnSome'}
 use Rattle.cir_meaning.proofs.Rows.{all_append, all_replicate}
@@ -65,10 +65,10 @@ function_fine : (p : Program) (size : ℕ) (call : Caller) → FineCall call
 function_fine p size call c w n arguments world h g =
     good_on FineReturned (found w WrongKind (slice_get p.functions n)) _ (λ f.
     good_next FineFlow FineReturned (exec_all (function_context p size call w f) f.body
-    record { frame = begun arguments (f.variables - length arguments) 0 0; world = world }) _
+    record { frame = begun arguments (f.variables - length arguments) 0 0; world = emptied world }) _
     (exec_all_fine (function_context p size call w f) record { call = c; make = tt } f.body
-    record { frame = begun arguments (f.variables - length arguments) 0 0; world = world }
-    (begun_fine arguments (f.variables - length arguments) 0 0 h, g))
+    record { frame = begun arguments (f.variables - length arguments) 0 0; world = emptied world }
+    (begun_fine arguments (f.variables - length arguments) 0 0 h, tt))
     (λ flow q. good_ok FineReturned (counted_in world (answer_of flow))
     ((answer_fine flow q).0, g)))
 

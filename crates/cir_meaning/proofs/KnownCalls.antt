@@ -11,7 +11,7 @@ use Rattle.cir_meaning.specs.Arrays.{Datum, single, is_all_known}
 use Rattle.cir_meaning.specs.Values.{Known}
 use Rattle.cir_meaning.specs.Frame.{World, Caller, begun}
 use Rattle.cir_meaning.specs.Statement.{Flow, Going, Returned, exec_all}
-use Rattle.cir_meaning.specs.Bodies.{function_context, exec_function, call_at, answer_of, counted_in}
+use Rattle.cir_meaning.specs.Bodies.{emptied, function_context, exec_function, call_at, answer_of, counted_in}
 use Rattle.cir_meaning.proofs.Good.{good_ok, good_bad, good_on}
 use Rattle.cir_meaning.proofs.Likes.{CallKeeps}
 use Rattle.cir_meaning.proofs.Rows.{all_append, all_replicate}
@@ -75,25 +75,25 @@ function_both p size call free h w n ds world c known below =
         → Twin KnownWorldTwin
         (next (found w WrongKind o) (λ f.
         next (exec_all (function_context p size call w f) f.body
-        record { frame = begun ds (f.variables - length ds) 0 0; world = world })
+        record { frame = begun ds (f.variables - length ds) 0 0; world = emptied world })
         (λ flow. Ok (counted_in world (answer_of flow)))))
         (next (found w WrongKind o) (λ f.
         next (exec_all (function_context p size call w f) f.body record {
           frame = begun ds (f.variables - length ds) 0 0;
-          world = record world { counts = c };
+          world = emptied (record world { counts = c });
         }) (λ flow. Ok (counted_in (record world { counts = c }) (answer_of flow)))))
     at None e = twin_bad KnownWorldTwin _ _
     at (Some f) e =
         twin_next FlowTwin KnownWorldTwin (exec_all (function_context p size call w f) f.body
-        record { frame = begun ds (f.variables - length ds) 0 0; world = world })
+        record { frame = begun ds (f.variables - length ds) 0 0; world = emptied world })
         (exec_all (function_context p size call w f) f.body record {
           frame = begun ds (f.variables - length ds) 0 0;
-          world = record world { counts = c };
+          world = emptied (record world { counts = c });
         }) _ _
         (exec_all_both (function_context p size call w f) (both_twin call h) (both_known call h)
         (length p.functions) f.body
         (all_get (λ g. AreFreeStatements (length p.functions) g.body) p.functions n f free e)
-        record { frame = begun ds (f.variables - length ds) 0 0; world = world } nothing c
+        record { frame = begun ds (f.variables - length ds) 0 0; world = emptied world } nothing c
         (nothing_below nothing) below
         (begun_known ds (f.variables - length ds) (all_known_data ds known)))
         (λ flow other q. twin_ok KnownWorldTwin _ _ (answer_twin world c flow other q))
@@ -112,6 +112,6 @@ calls_keep p size (suc room) w n ds world =
     (found w WrongKind (slice_get p.functions n)) _ (λ f.
     good_on (λ x. x.1 ≡ record world { counts = x.1.counts })
     (exec_all (function_context p size (call_at p size room) w f) f.body
-    record { frame = begun ds (f.variables - length ds) 0 0; world = world }) _ (λ flow.
+    record { frame = begun ds (f.variables - length ds) 0 0; world = emptied world }) _ (λ flow.
     good_ok (λ x. x.1 ≡ record world { counts = x.1.counts })
     (counted_in world (answer_of flow)) refl))

@@ -15,6 +15,7 @@ pub mod FineBodies
 pub mod FineLaws
 pub mod Meaning
 pub mod Strict
+pub mod ValueKeepings
 pub mod Likes
 pub mod Pairs
 pub mod Reaching
@@ -86,3 +87,11 @@ pub mod MainPlaces
 pub mod MainInputs
 pub mod MainRuns
 pub mod Weights
+pub mod Depending
+pub mod DependingValues
+pub mod DependingWriting
+pub mod Keepings
+pub mod DependingStatements
+pub mod DependingBodies
+pub mod Counting
+pub mod CountingBodies

@@ -72,6 +72,10 @@ answer_of (Returned d world) = (d, world)
 abbrev pub counted_in : World → Datum × World → Datum × World
 counted_in world x = (x.0, record world { counts = x.1.counts })
 
+-- it sees what is counted and how many signals there are, and no lists
+abbrev pub emptied : World → World
+emptied world = record world { rows = []; equations = []; instances = [] }
+
 abbrev pub function_context : Program → ℕ → Caller → Where → Function → Context
 function_context p size call w f = record {
   program = p;
@@ -89,7 +93,7 @@ abbrev pub exec_function : Program → ℕ → Caller → Caller
 exec_function p size call w n arguments world =
     next (found w WrongKind (slice_get p.functions n)) (λ f.
     next (exec_all (function_context p size call w f) f.body
-    record { frame = begun arguments (f.variables - length arguments) 0 0; world = world })
+    record { frame = begun arguments (f.variables - length arguments) 0 0; world = emptied world })
     (λ flow. Ok (counted_in world (answer_of flow))))
 
 -- with room for n open calls

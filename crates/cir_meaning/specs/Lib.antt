@@ -19,6 +19,7 @@ pub mod Scan
 pub mod Statement
 pub mod Bodies
 pub mod Compile
+pub mod Dependence
 pub mod RunValues
 pub mod RunStatements
 pub mod Run

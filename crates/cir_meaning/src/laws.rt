@@ -14,13 +14,15 @@ ghost use Rattle.cir_meaning.specs.Classes.{class_by, unary_class};
 ghost use Rattle.cir_meaning.specs.Values.{IsValue, Parts, Value, class_of, difference_of, known_number, number_of, parts_of, result_of, unary_result};
 ghost use Rattle.cir_meaning.specs.Values.{Known as KnownValue, Decided, Shaded, Both, and_left, or_left, lazy_result, side_of, chosen};
 ghost use Rattle.cir_meaning.specs.Values.{and_number, or_number, choice_number};
-ghost use Rattle.cir_ast.specs.Program.{Program};
-ghost use Rattle.cir_meaning.specs.Compile.{Circuit, Satisfies, compiled, group_size};
+ghost use Rattle.cir_meaning.specs.Compile.{Circuit, Satisfies, compiled, group_size, exec_main};
+ghost use Rattle.cir_ast.specs.Program.{Main, Program};
+ghost use Rattle.cir_ast.specs.declared.program.Meant.{Meant};
+ghost use Rattle.cir_meaning.specs.Dependence.{IsAllDeclared, IsFew};
 ghost use Rattle.cir_meaning.specs.SignalFree.{AreFunctionsFree};
 ghost use Rattle.cir_meaning.specs.Scoped.{IsResolved};
 ghost use Rattle.cir_meaning.specs.Tried.{Where, Refused};
 ghost use Rattle.cir_meaning.specs.Arrays.{Datum, is_all_known};
-ghost use Rattle.cir_meaning.specs.Frame.{World};
+ghost use Rattle.cir_meaning.specs.Frame.{Signals, World};
 ghost use Rattle.cir_meaning.specs.Bodies.{call_at};
 ghost use Rattle.cir_meaning.specs.RunValues.{Numbers, missing};
 ghost use Rattle.cir_meaning.specs.RunStatements.{run_call};
@@ -178,4 +180,18 @@ pub fn runs_satisfy()
         → length inputs ≡ c.public_inputs + c.private_inputs → length inputs < group_size
         → run_with group_size p fuel inputs ≡ Ok e → length e.values ≤ group_size
         → ((i x : ℕ) → slice_get e.values i ≡ Some (Some x) → s.at i ≡ x) → Satisfies p s }
+{}
+
+/// The equations that the execution of main leaves depend on no signals but declared ones, where no
+/// function has signals in it.
+pub fn equations_are_over_declared_signals()
+    ensures { (p : Program) (size : ℕ) (m : Main) (t : Meant) (signals : Signals) (world : World) →
+        AreFunctionsFree p → exec_main p size m t ≡ Ok (signals, world) →
+        IsAllDeclared size world }
+{}
+
+/// The execution of main leaves no more signals, equations and terms than the limits.
+pub fn limits_hold()
+    ensures { (p : Program) (size : ℕ) (m : Main) (t : Meant) (signals : Signals) (world : World) →
+        exec_main p size m t ≡ Ok (signals, world) → IsFew size world }
 {}
