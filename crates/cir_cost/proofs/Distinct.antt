@@ -1,6 +1,6 @@
 -- How many cells are distinct: as many as stand in a list in which each stands once.
 use Rattle.std.proofs.Common.{◌≡◌, ◌∙◌, ℕ, ◌+◌, ◌≤◌, List, [], ◌∷◌, length, ap, sym, refl, arith}
-use Rattle.std.proofs.Common.{subst, Contains}
+use Rattle.std.proofs.Common.{Contains}
 use Rattle.std.specs.Prelude.{Bool, true, false, not, ◌&&◌, ◌||◌, ◌==◌, if◌then◌else◌, map, filter}
 use Rattle.std.specs.Cmp.{IsEquivalence}
 use Rattle.std.specs.List.{list_any, AllByRecursion, dedup}

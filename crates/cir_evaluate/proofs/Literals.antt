@@ -1,4 +1,5 @@
--- How many items an array literal has.
+-- The items of an array literal: how many they are, and how they are moved.
+use Rattle.std.proofs.Common.{◌++◌, append_assoc, drop, get_or, set}
 use Rattle.std.proofs.Common.{◌≡◌, ◌∙◌, ℕ, zero, suc, ◌+◌, ◌*◌, ◌<◌, ◌≤◌, Bool, true, false, List}
 use Rattle.std.proofs.Common.{[], ◌∷◌, length, ap, sym, refl, arith, zero-mul, Ok}
 use Rattle.std.specs.Prelude.{max, map, flat_map, fold, ◌&&◌, ◌==◌, if◌then◌else◌}
@@ -6,8 +7,9 @@ use Rattle.std.specs.List.{list_all}
 use Rattle.std.specs.Str.{bytes_eq}
 use Rattle.std.proofs.Math.Nat.{le-mul_of_pos_right, mul_comm}
 use Rattle.std.proofs.lemmas.Bool.{ltb-false, le-ltb}
-use Rattle.std.proofs.lemmas.List.{length-append, length-map}
+use Rattle.std.proofs.lemmas.List.{append-nil, drop_all, drop-set-lt, length-append, length-map}
 use Rattle.std.proofs.lemmas.Slice.Eq.{bytes_eq-Decides}
+use Rattle.cir_arrays.proofs.Lists.{at_read}
 use Rattle.cir_values.specs.declared.value.Value.{Value}
 use Rattle.cir_values.specs.Meant.{meant}
 use Rattle.cir_meaning.specs.Places.{elements}
@@ -116,3 +118,21 @@ gathered_is w (d ∷ ds) s some h =
       adding (with_array (dims_of (d ∷ ds))) s,
     ) in
     ap (λ t. needed t w ShapeDiffers result) h
+
+-- ---- elements that are moved, one after the other
+pub moved : {X Y : Type 0} (F : List X → List Y) (g : X → List Y) (vs others : List X) (at : ℕ)
+    (v x : X) (front back all : List Y) → ((rest : List X) → F (v ∷ rest) ≡ g v ++ F rest)
+    → at < length vs → v ≡ get_or vs at v → others ≡ set vs at x → back ≡ front ++ g v
+    → front ++ F (drop at vs) ≡ all → back ++ F (drop (at + 1) others) ≡ all
+moved F g vs others at v x front back all step h is written e whole =
+    let later : at < at + 1 = omega arith in
+    rw (e, written, drop-set-lt (at + 1) vs at x later)
+    (append_assoc front (g v) (F (drop (at + 1) vs))
+    ∙ ap (λ ys. front ++ ys) (sym (step (drop (at + 1) vs)))
+    ∙ sym (at_read (λ xs. front ++ F xs) vs at v h is) ∙ whole)
+
+pub all_moved : {X Y : Type 0} (F : List X → List Y) (vs : List X) (at : ℕ) (front all : List Y)
+    → F [] ≡ [] → length vs ≤ at → front ++ F (drop at vs) ≡ all → front ≡ all
+all_moved F vs at front all none h whole =
+    sym (append-nil front) ∙ ap (λ ys. front ++ ys) (sym none)
+    ∙ ap (λ xs. front ++ F xs) (sym (drop_all at vs h)) ∙ whole

@@ -88,12 +88,14 @@ impl<'p, C> Context<'p, C> {
 }
 
 impl<'a, C> Here<'a, C> {
+    /// Where memory is taken.
     pub fn alloc(&self) -> Global
         ensures { result ≡ self.now.context.now.alloc }
     {
         self.context.alloc
     }
 
+    /// The place of the statement that the expression stands in.
     pub fn site(&self) -> Site<'a>
         ensures { where_of result ≡ where_at self.now }
     {

@@ -13,11 +13,12 @@ ghost use Rattle.cir_evaluate.specs.Within.{kept_of, where_at};
 ghost use Rattle.cir_evaluate.specs.Literal.{are_of_one_shape, dims_of};
 
 use crate::context::Here;
-use cir_arrays::{Datum, Fault, add_array, same_dims};
+use cir_arrays::{Array, Datum, Fault, add_array, same_dims};
 use cir_ast::Kind;
 use cir_frame::World;
 use cir_values::Value;
 use std::alloc::{AllocError, Global};
+use std::mem::replace;
 
 /// The elements of a literal have one shape.
 pub fn gathered<C>(here: &Here<C>, all: Vec<Datum>, world: &mut World) -> Result<Datum, Fault>
@@ -34,7 +35,7 @@ pub fn gathered<C>(here: &Here<C>, all: Vec<Datum>, world: &mut World) -> Result
     }
     let dims = literal_dims(here.alloc(), all.as_slice())?;
     add_array(&mut world.added, dims.as_slice());
-    let items = items_in(here.alloc(), all.as_slice())?;
+    let items = items_in(here.alloc(), all)?;
     Ok(Datum::made(here.alloc(), dims, items))
 }
 
@@ -63,36 +64,48 @@ fn literal_dims(alloc: Global, all: &[Datum]) -> Result<Vec<u64>, AllocError>
     Ok(dims)
 }
 
-fn items_in(alloc: Global, all: &[Datum]) -> Result<Vec<Value>, AllocError>
+fn items_in(alloc: Global, mut all: Vec<Datum>) -> Result<Vec<Value>, AllocError>
     ensures { IfOk result (λ items. map meant items.items
-        ≡ flat_map (λ d. d.items) (map datum_of all.now)) }
+        ≡ flat_map (λ d. d.items) (map datum_of all.items)) }
 {
     let mut items = Vec::new(alloc);
-    for d in all {
-        add_items(alloc, &mut items, d)?;
+    for at in 0..all.len() {
+        let d = replace(&mut all[at], Datum::Number(Value::Opaque));
+        add_items(&mut items, d)?;
     }
     Ok(items)
 }
 
-fn add_items(alloc: Global, items: &mut Vec<Value>, d: &Datum) -> Result<(), AllocError>
+fn add_items(items: &mut Vec<Value>, d: Datum) -> Result<(), AllocError>
     ensures { OnOk result (map meant items.new.items
-        ≡ map meant items.old.items ++ (datum_of d.now).items) }
+        ≡ map meant items.old.items ++ (datum_of d).items) }
 {
     match d {
         Datum::Number(v) => {
-            let v = v.copy(alloc)?;
             items.push(v)?;
+            Ok(())
         }
-        Datum::Array(array) => {
-            for v in array.items.as_slice() {
-                let v = v.copy(alloc)?;
-                items.push(v)?;
-            }
-        }
+        Datum::Array(
+            Array {
+                dims: _,
+                items: more,
+            },
+        ) => add_all(items, more),
+    }
+}
+
+fn add_all(items: &mut Vec<Value>, mut more: Vec<Value>) -> Result<(), AllocError>
+    ensures { OnOk result (map meant items.new.items
+        ≡ map meant items.old.items ++ map meant more.items) }
+{
+    for at in 0..more.len() {
+        let v = replace(&mut more[at], Value::Opaque);
+        items.push(v)?;
     }
     Ok(())
 }
 
+/// Whether all items of all arguments are known.
 pub fn is_each_known(all: &[Datum]) -> bool
     ensures { result ≡ list_all is_all_known (map datum_of all.now) }
 {

@@ -14,6 +14,7 @@ use cir_ast::program::{Binary, Unary};
 use cir_values::{Lazy, Side, Value, and_left, or_left, result_of, side_of, truth_of};
 use gold_field::{Op1, Op2};
 
+/// An operator of one operand.
 pub fn op_of(op: Unary) -> Op1
     ensures { result ≡ O.unary_of op }
 {
@@ -32,6 +33,7 @@ pub enum Operator {
     Or,
 }
 
+/// An operator of two operands.
 pub fn operator_of(op: Binary) -> Operator
     ensures { operator_by result ≡ O.operator_of op }
 {

@@ -3,7 +3,6 @@ use Rattle.std.proofs.lemmas.List.{drop_all}
 use Rattle.cir_ast.specs.declared.marked.Accessor.{Accessor as CodeAccessor}
 use Rattle.cir_ast.specs.declared.program.Meant.{Meant}
 use Rattle.cir_ast.specs.Tree.{bare, bare_exprs, as_accessors, place_accessors}
-use Rattle.cir_meaning.specs.Limits.{standing}
 use Rattle.cir_meaning.specs.Costs as M
 use Rattle.cir_cost.proofs.Trees.{nodes_array, nodes_call, nodes_place}
 use Rattle.cir_cost.proofs.nodes.+counting.Goals as goal

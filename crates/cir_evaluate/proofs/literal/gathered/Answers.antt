@@ -10,7 +10,7 @@ made-requires g c =
     let some : 0 < length c.args.all.items = omega (arith, full, c.args.all.ok.0) in
     let alike = rw c.as_slice.ensures.value at c.if-not-have_one_shape.ensures in
     let dims = rw c.as_slice-2.ensures.value at c.in_ok-dims.ensures in
-    let items = rw c.as_slice-4.ensures.value at c.in_ok-items.ensures in
+    let items = c.in_ok-items.ensures in
     λ small. literal_made c.in_ok-items.items.items c.args.all.items c.in_ok-dims.dims.items some
     (sym alike) dims items small
 
@@ -20,6 +20,6 @@ returns-clause-value g c =
     let some : 0 < length c.args.all.items = omega (arith, full, c.args.all.ok.0) in
     let alike = rw c.as_slice.ensures.value at c.if-not-have_one_shape.ensures in
     let dims = rw c.as_slice-2.ensures.value at c.in_ok-dims.ensures in
-    let items = rw c.as_slice-4.ensures.value at c.in_ok-items.ensures in
+    let items = c.in_ok-items.ensures in
     λ f qs. rw (c.made.ensures, c.add_array.ensures, c.as_slice-3.ensures.value, items, dims)
     (gathered_is _ _ _ (omega (arith, some, length-map c.args.all.items datum_of)) (sym alike))

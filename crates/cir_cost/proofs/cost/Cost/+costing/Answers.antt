@@ -1,4 +1,4 @@
-use Rattle.std.proofs.Common.{◌≡◌, ◌∙◌, [], Ok, Err, OnOk, ap, sym, subst}
+use Rattle.std.proofs.Common.{◌∙◌, [], Ok, Err, OnOk, ap, sym, subst}
 use Rattle.std.proofs.lemmas.Result.{on_ok_weaker}
 use Rattle.cir_ast.specs.Tree.{as_accessors, bare}
 use Rattle.cir_arrays.specs.Counted.{counts_of}
