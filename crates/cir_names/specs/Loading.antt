@@ -6,7 +6,7 @@ use Rattle.cir_ast.specs.declared.program.Program.{Program as CodeProgram}
 use Rattle.cir_ast.specs.declared.refusal.Refusal.{Refusal}
 use Rattle.cir_ast.specs.Program.{Program, bare_program}
 use Rattle.cir_sources.specs.Includes.{Source}
-use Rattle.cir_sources.specs.Loading.{AreAll, IsFirstFault, IsIncludeFault}
+use Rattle.cir_sources.specs.Loading.{AreAll, AreSources, IsFirstFault, IsIncludeFault}
 use Rattle.cir_sources.specs.declared.fault.LoadFault.{LoadFault}
 use Rattle.cir_sources.specs.declared.fault.LoadFault.TheVariants as fault
 use Rattle.cir_names.specs.Programs.{IsProgramOf, IsNameFault}
@@ -16,6 +16,12 @@ pub record IsLoaded (files : Contents) (name : List ℕ) (library : Option (List
     (program : Program) : Type 0 where
   pub sources : List Source
   pub all : AreAll files name library sources
+  pub theirs : IsProgramOf sources program
+
+-- the program of some sources: this is known of it also where the store doesn't tell its contents
+pub record IsOfSources (program : Program) : Type 0 where
+  pub sources : List Source
+  pub are : AreSources sources
   pub theirs : IsProgramOf sources program
 
 -- something is wrong with the names in all sources

@@ -8,7 +8,7 @@ ghost use Rattle.cir_checks.specs.Checked.{IsChecked};
 ghost use Rattle.cir_sources.specs.Includes.{seen};
 ghost use Rattle.cir_sources.specs.Loading.{AreSources};
 ghost use Rattle.cir_sources.specs.Steps.{Refuses};
-ghost use Rattle.cir_names.specs.Loading.{Loads, Checks};
+ghost use Rattle.cir_names.specs.Loading.{Loads, Checks, IsOfSources};
 ghost use Rattle.cir_names.specs.Programs.{refusal_of};
 
 use crate::gathering::gather;
@@ -32,6 +32,7 @@ pub fn load<S: Store>(
     ensures loads { Loads (S.contents store.old) name.now (option_copied library.entry)
         (Rose (S.faults store.old) (S.faults store.new)) result }
     ensures checked { IfOk result (λ p. IsChecked (bare_program p)) }
+    ensures theirs { IfOk result (λ p. IsOfSources (bare_program p)) }
     ensures store { OnlyReads (S.contents store.old) (S.contents store.new)
         (S.faults store.old) (S.faults store.new) (S.never_fails store.old)
         (S.never_fails store.new) }

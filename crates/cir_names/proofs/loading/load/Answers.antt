@@ -12,6 +12,13 @@ returns-clause-loads g c =
     (map seen c.in_ok-sources.sources.items) (bare_program c.in_ok-program.program)
     c.in_ok-sources.ensures.loads c.in_ok-program.ensures.program
 
+pub returns-clause-theirs : goal.returns-clause-theirs
+returns-clause-theirs g c = record {
+  sources = map seen c.in_ok-sources.sources.items;
+  are = c.in_ok-sources.ensures.read;
+  theirs = c.in_ok-program.ensures.program;
+}
+
 pub returns-in_err-sources-clause-loads : goal.returns-in_err-sources-clause-loads
 returns-in_err-sources-clause-loads g c =
     let p = err_from_is_err_and c.from_residual.result c.from_residual.ensures.1 in

@@ -1,0 +1,195 @@
+-- The body of a definition, behind its parameters.
+use Rattle.std.proofs.Common.{◌≡◌, ℕ, ◌+◌, Bool, true, false, cond, List, [], ◌∷◌, length}
+use Rattle.std.proofs.Common.{Option, Some, None, refl, sym, subst, arith}
+use Rattle.std.specs.Prelude.{is_some, nat_lt}
+use Rattle.std.specs.Map.{update}
+use Rattle.std.specs.Str.{bytes_eq}
+use Rattle.std.proofs.lemmas.Bool.{ltb-true, lt-ltb}
+use Rattle.cir_ast.specs.declared.program.Spot.{Spot}
+use Rattle.cir_ast.specs.declared.program.Meant.{Meant}
+use Rattle.cir_ast.specs.declared.program.Meant.TheVariants as meant
+use Rattle.cir_ast.specs.Tree.{Statements}
+use Rattle.cir_ast.specs.Plain.{plain_statements}
+use Rattle.cir_ast.specs.Shape.{AreShapedStatements}
+use Rattle.cir_resolve.specs.Steps.{made, in_turn}
+use Rattle.cir_resolve.specs.Scope.{Lookup, State, opening, counted, with_name, declared}
+use Rattle.cir_resolve.specs.Naming.{named_statements}
+use Rattle.cir_resolve.specs.Definitions.{Definition, IsTemplate, IsFunction, IsMain, Numbers}
+use Rattle.cir_resolve.specs.Definitions.{with_new, with_definition, behind_definition, defined_by}
+use Rattle.cir_resolve.specs.Definitions.{named_parameter, named_body}
+use Rattle.cir_checks.specs.declared.positions.Position.TheVariants.{InFunction, Outermost}
+use Rattle.cir_checks.specs.Heads.{Table}
+use Rattle.cir_checks.specs.Checked.{AreStatements}
+use Rattle.cir_names.proofs.Unnamed.{statements_same}
+use Rattle.cir_meaning.specs.SignalFree.{AreFreeStatements}
+use Rattle.cir_meaning.specs.Scoped.{Scope, AreScoped}
+use Rattle.cir_scope.proofs.Given.{OnGiven, given_behind, given_made, given_declared, given_less}
+use Rattle.cir_scope.proofs.Agreement.{IsCovered, Covers, Agrees, wider_covered, covers_more}
+use Rattle.cir_scope.proofs.FreeNames.{IsFreeName, AreFreeNames, IsFreeState, free_variable}
+use Rattle.cir_scope.proofs.ScopedStatements as scoped
+use Rattle.cir_scope.proofs.FreeStatements as free
+
+-- ---- the names of the definitions
+updated : (P : Option Meant → Type 0) (b : Bool) (o p : Option Meant) → P o → P p → P (cond b o p)
+updated P true o p h k = h
+updated P false o p h k = k
+
+chosen : (P : Option Meant → Type 0) (b : Bool) (f g : Lookup) → ((name : List ℕ) → P (f name))
+    → ((name : List ℕ) → P (g name)) → (name : List ℕ) → P (cond b f g name)
+chosen P true f g h k = h
+chosen P false f g h k = k
+
+with_new_each : (P : Option Meant → Type 0) (names : Lookup) (new : List ℕ) (m : Meant)
+    → P (Some m) → ((name : List ℕ) → P (names name))
+    → (name : List ℕ) → P (with_new names new m name)
+with_new_each P names new m h k =
+    chosen P (is_some (names new)) names (update bytes_eq names new (Some m)) k
+    (λ name. updated P (bytes_eq new name) (Some m) (names name) h (k name))
+
+-- what holds of templates and functions holds of each
+defined_each : (P : Option Meant → Type 0) → ((n : ℕ) → P (Some (meant.Template n)))
+    → ((n : ℕ) → P (Some (meant.Function n))) → (names : Lookup) (n : Numbers)
+    (ds : List Definition) → ((name : List ℕ) → P (names name))
+    → (name : List ℕ) → P (defined_by names n ds name)
+defined_each P t f names n [] h = h
+defined_each P t f names n (IsTemplate d ∷ ds) h =
+    defined_each P t f (with_definition names n (IsTemplate d))
+    (behind_definition n (IsTemplate d)) ds
+    (with_new_each P names d.name (meant.Template n.templates) (t n.templates) h)
+defined_each P t f names n (IsFunction d ∷ ds) h =
+    defined_each P t f (with_definition names n (IsFunction d))
+    (behind_definition n (IsFunction d)) ds
+    (with_new_each P names d.name (meant.Function n.functions) (f n.functions) h)
+defined_each P t f names n (IsMain d ∷ ds) h = defined_each P t f names n ds h
+
+-- no definition's name means what a body declares
+pub record AreDefined (names : Lookup) : Type 0 where
+  pub covered : (seen : ℕ → Bool) → Covers seen names
+  pub free : AreFreeNames names
+
+pub are_defined : (names : Lookup) (n : Numbers) (ds : List Definition)
+    → ((name : List ℕ) → names name ≡ None) → AreDefined (defined_by names n ds)
+are_defined names n ds none = record {
+  covered = λ seen. defined_each (IsCovered seen) (λ k. tt) (λ k. tt) names n ds
+      (λ name. subst (IsCovered seen) (sym (none name)) tt);
+  free = defined_each IsFreeName (λ k. tt) (λ k. tt) names n ds
+      (λ name. subst IsFreeName (sym (none name)) tt);
+}
+
+-- ---- parameters
+abbrev pub body_scope : (functions parameters : ℕ) → Scope
+body_scope functions n =
+    record { functions = functions; seen = λ k. nat_lt k n; variables = n; signals = 0 }
+
+wider : (names : Lookup) (n : ℕ) → Covers (λ k. nat_lt k n) names
+    → Covers (λ k. nat_lt k (n + 1)) names
+wider names n h name =
+    wider_covered (λ k. nat_lt k n) (λ k. nat_lt k (n + 1))
+    (λ k e. lt-ltb k (n + 1) (omega (arith, ltb-true k n e))) (names name) (h name)
+
+parameter_agrees : (t : Table) (functions : ℕ) (st : State) (name : List ℕ)
+    → Agrees t (body_scope functions st.variables) st
+    → Agrees t (body_scope functions (st.variables + 1))
+    (with_name (counted st (meant.Variable st.variables)) name (meant.Variable st.variables))
+parameter_agrees t functions st name a =
+    record {
+      functions = a.functions;
+      variables = refl;
+      signals = omega (arith, a.signals);
+      defined = a.defined;
+      outer = wider st.outer st.variables a.outer;
+      inner =
+          covers_more (λ k. nat_lt k (st.variables + 1)) st.inner name
+          (meant.Variable st.variables)
+          (lt-ltb st.variables (st.variables + 1) (omega arith))
+          (wider st.inner st.variables a.inner);
+    }
+
+abbrev Counts : {A : Type 0} → Table → ℕ → ℕ → A → State → Type 0
+Counts t functions n x st =
+    Agrees t (body_scope functions st.variables) st × (st.variables ≡ n)
+
+given_parameters : (t : Table) (functions : ℕ) (spot : Spot) (names : List (List ℕ)) (st : State)
+    (n : ℕ) → Agrees t (body_scope functions st.variables) st → n ≡ st.variables + length names
+    → OnGiven (Counts t functions n) (in_turn (named_parameter spot) st names)
+given_parameters t functions spot [] st n a e = (a, omega (arith, e))
+given_parameters t functions spot (name ∷ names) st n a e =
+    given_behind (Counts t functions (st.variables + 1)) (Counts t functions n)
+    (named_parameter spot st name)
+    (λ b y. made (λ bs. b ∷ bs) (in_turn (named_parameter spot) y names))
+    (given_made (Counts t functions (st.variables + 1)) (Counts t functions (st.variables + 1))
+    (λ m. name) (declared spot st name (meant.Variable st.variables))
+    (given_declared (Counts t functions (st.variables + 1)) spot st name
+    (meant.Variable st.variables) (parameter_agrees t functions st name a, refl))
+    (λ m y c. c))
+    (λ b y c. given_made (Counts t functions n) (Counts t functions n) (λ bs. b ∷ bs)
+    (in_turn (named_parameter spot) y names)
+    (given_parameters t functions spot names y n c.0 (omega (arith, e, c.1)))
+    (λ bs z d. d))
+
+free_parameters : (spot : Spot) (names : List (List ℕ)) (st : State) → IsFreeState st
+    → OnGiven (λ bs after. IsFreeState after) (in_turn (named_parameter spot) st names)
+free_parameters spot [] st s = s
+free_parameters spot (name ∷ names) st s =
+    given_behind (λ b after. IsFreeState after) (λ bs after. IsFreeState after)
+    (named_parameter spot st name)
+    (λ b y. made (λ bs. b ∷ bs) (in_turn (named_parameter spot) y names))
+    (given_made (λ m after. IsFreeState after) (λ b after. IsFreeState after) (λ m. name)
+    (declared spot st name (meant.Variable st.variables))
+    (given_declared (λ m after. IsFreeState after) spot st name (meant.Variable st.variables)
+    (free_variable st st.variables name s))
+    (λ m y f. f))
+    (λ b y f. given_made (λ bs after. IsFreeState after) (λ bs after. IsFreeState after)
+    (λ bs. b ∷ bs) (in_turn (named_parameter spot) y names) (free_parameters spot names y f)
+    (λ bs z g. g))
+
+-- ---- bodies
+abbrev pub TemplateFits : Table → (functions parameters : ℕ) → Statements Spot Meant → State
+    → Type 0
+TemplateFits t functions n xs st =
+    AreStatements t Outermost xs → AreScoped (body_scope functions n) xs
+
+pub given_template : (t : Table) (functions : ℕ) (names : Lookup) (spot : Spot)
+    (parameters : List (List ℕ)) (xs : Statements Spot Meant) → functions ≡ length t.functions
+    → AreDefined names
+    → OnGiven (TemplateFits t functions (length parameters)) (named_body names spot parameters xs)
+given_template t functions names spot parameters xs all d =
+    given_behind (Counts t functions (length parameters))
+    (TemplateFits t functions (length parameters))
+    (in_turn (named_parameter spot) (opening names) parameters) (λ bs st. named_statements st xs)
+    (given_parameters t functions spot parameters (opening names) (length parameters) record {
+      functions = all;
+      variables = refl;
+      signals = refl;
+      defined = d.covered;
+      outer = λ name. tt;
+      inner = λ name. tt;
+    } (omega arith))
+    (λ bs st c. given_less
+    (scoped.StatementsFit t Outermost (body_scope functions (length parameters)))
+    (TemplateFits t functions (length parameters)) (named_statements st xs)
+    (scoped.given_statements t Outermost (body_scope functions (length parameters)) st tt
+    (subst (λ n. Agrees t (body_scope functions n) st) c.1 c.0) xs)
+    (λ ys after f. f.0))
+
+abbrev pub FunctionFits : Table → ℕ → Statements Spot Meant → State → Type 0
+FunctionFits t functions xs st =
+    AreStatements t InFunction xs → AreFreeStatements functions xs
+
+pub given_function : (t : Table) (functions : ℕ) (names : Lookup) (spot : Spot)
+    (parameters : List (List ℕ)) (xs : Statements Spot Meant) → functions ≡ length t.functions
+    → AreDefined names → AreShapedStatements (plain_statements xs)
+    → OnGiven (FunctionFits t functions) (named_body names spot parameters xs)
+given_function t functions names spot parameters xs all d shaped =
+    given_behind (λ bs after. IsFreeState after) (FunctionFits t functions)
+    (in_turn (named_parameter spot) (opening names) parameters) (λ bs st. named_statements st xs)
+    (free_parameters spot parameters (opening names) record {
+      defined = d.free;
+      outer = λ name. tt;
+      inner = λ name. tt;
+    })
+    (λ bs st s. subst (OnGiven (FunctionFits t functions)) (statements_same st xs)
+    (given_less (free.StatementsFit t functions all st) (FunctionFits t functions)
+    (named_statements st (plain_statements xs))
+    (free.given_statements t functions all st (plain_statements xs) shaped)
+    (λ ys after f. λ h. (f s h).0)))

@@ -1,0 +1,12 @@
+pub mod Given
+pub mod Agreement
+pub mod ScopedExprs
+pub mod Unlooped
+pub mod ScopedDeclarations
+pub mod ScopedStatements
+pub mod FreeNames
+pub mod FreeExprs
+pub mod FreeStatements
+pub mod Bodies
+pub mod Definitions
+pub mod Loaded

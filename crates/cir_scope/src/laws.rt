@@ -1,0 +1,16 @@
+//! What holds of every loaded program, as the contract of a function that does nothing.
+ghost use Rattle.std.specs.Prelude.{ℕ, List, Option};
+ghost use Rattle.out_io.specs.Contents.{Contents};
+ghost use Rattle.cir_ast.specs.Program.{Program};
+ghost use Rattle.cir_names.specs.Loading.{IsLoaded, IsOfSources};
+ghost use Rattle.cir_meaning.specs.Scoped.{IsResolved};
+
+/// In a program that loading gives, each variable that is named is in scope, each call means a
+/// function, and declarations have their numbers in the order of the text; no loop declares a
+/// signal, no template returns, and functions have variables and calls of functions alone. This
+/// holds over any store, whether it tells its contents or not.
+pub fn loaded_programs_are_resolved()
+    ensures any { (p : Program) → IsOfSources p → IsResolved p }
+    ensures loaded { (files : Contents) (name : List ℕ) (library : Option (List ℕ))
+        (p : Program) → IsLoaded files name library p → IsResolved p }
+{}

@@ -1,0 +1,4 @@
+//! The names of a program that loading gives mean what is in scope.
+#![tactic(auto)]
+
+pub mod laws;
