@@ -1,12 +1,12 @@
 -- Where the names of a definition are resolved, its scope has the same numbers, and each name that
 -- means a variable means one that is in scope.
-use Rattle.std.proofs.Common.{◌≡◌, ℕ, ◌+◌, ◌<◌, Bool, true, false, cond, List, length}
-use Rattle.std.proofs.Common.{Option, Some, None, refl, ap, sym, subst, arith}
-use Rattle.std.specs.Prelude.{◌==◌, ◌||◌, ⊤}
+use Rattle.std.proofs.Common.{◌≡◌, ℕ, ◌+◌, ◌<◌, Bool, true, List, length}
+use Rattle.std.proofs.Common.{Option, Some, None, ap, sym, subst, arith}
+use Rattle.std.specs.Prelude.{◌==◌, ⊤}
 use Rattle.std.specs.Option.{option_or}
 use Rattle.std.specs.Map.{update}
 use Rattle.std.specs.Str.{bytes_eq}
-use Rattle.std.proofs.lemmas.Bool.{eq-eqb}
+use Rattle.std.proofs.lemmas.Bool.{eq-eqb, or_left, or_right}
 use Rattle.std.proofs.lemmas.Option.{slice_get_within}
 use Rattle.cir_ast.specs.declared.operators.Direction.{Direction}
 use Rattle.cir_ast.specs.declared.program.Meant.{Meant}
@@ -17,6 +17,7 @@ use Rattle.cir_checks.specs.Heads.{Table}
 use Rattle.cir_checks.specs.Checked.{IsCall}
 use Rattle.cir_meaning.specs.SignalFree.{IsFunction}
 use Rattle.cir_meaning.specs.Scoped.{Scope, IsSeen, with_variable, with_signal, closed}
+use Rattle.cir_scope.proofs.Lookups.{of_first, of_more}
 
 -- it isn't a variable that isn't seen
 abbrev pub IsCovered : (ℕ → Bool) → Option Meant → Type 0
@@ -34,11 +35,6 @@ pub record Agrees (t : Table) (s : Scope) (st : State) : Type 0 where
   pub outer : Covers s.seen st.outer
   pub inner : Covers s.seen st.inner
 
-covered_or : (seen : ℕ → Bool) (o p : Option Meant) → IsCovered seen o → IsCovered seen p
-    → IsCovered seen (option_or o p)
-covered_or seen None p h k = k
-covered_or seen (Some m) p h k = h
-
 seen_meaning : (s : Scope) (o : Option Meant) → IsCovered s.seen o → IsSeen s (meaning o)
 seen_meaning s None h = tt
 seen_meaning s (Some (meant.Variable n)) h = h
@@ -49,8 +45,8 @@ pub is_seen : (t : Table) (s : Scope) (st : State) (name : List ℕ) → Agrees 
     → IsSeen s (read_at st name)
 is_seen t s st name a =
     seen_meaning s (option_or (in_scope st name) (st.defined name))
-    (covered_or s.seen (in_scope st name) (st.defined name)
-    (covered_or s.seen (st.inner name) (st.outer name) (a.inner name) (a.outer name))
+    (of_first (IsCovered s.seen) (in_scope st name) (st.defined name)
+    (of_first (IsCovered s.seen) (st.inner name) (st.outer name) (a.inner name) (a.outer name))
     (a.defined s.seen name))
 
 -- what is called is one of the program's functions
@@ -71,23 +67,9 @@ wider_covered seen wider so None h = tt
 wider_covered seen wider so (Some (meant.Variable n)) h = so n h
 wider_covered seen wider so (Some _) h = tt
 
-covered_cond : (seen : ℕ → Bool) (b : Bool) (o p : Option Meant) → IsCovered seen o
-    → IsCovered seen p → IsCovered seen (cond b o p)
-covered_cond seen true o p h k = h
-covered_cond seen false o p h k = k
-
 pub covers_more : (seen : ℕ → Bool) (names : Lookup) (name : List ℕ) (m : Meant)
     → IsCovered seen (Some m) → Covers seen names → Covers seen (update bytes_eq names name (Some m))
-covers_more seen names name m h k other =
-    covered_cond seen (bytes_eq name other) (Some m) (names other) h (k other)
-
-or_left : (a b : Bool) → a ≡ true → (a || b) ≡ true
-or_left true b e = refl
-or_left false b e = cc
-
-or_right : (a b : Bool) → b ≡ true → (a || b) ≡ true
-or_right true b e = refl
-or_right false b e = e
+covers_more seen names name m h k = of_more (IsCovered seen) names name m h k
 
 pub with_seen : (s : Scope) (names : Lookup) → Covers s.seen names
     → Covers (with_variable s).seen names
@@ -148,7 +130,7 @@ agrees_entered t s st a =
       variables = a.variables;
       signals = a.signals;
       defined = a.defined;
-      outer = λ name. covered_or s.seen (st.inner name) (st.outer name) (a.inner name)
+      outer = λ name. of_first (IsCovered s.seen) (st.inner name) (st.outer name) (a.inner name)
           (a.outer name);
       inner = λ name. tt;
     }

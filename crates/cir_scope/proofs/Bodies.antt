@@ -1,9 +1,7 @@
 -- The body of a definition, behind its parameters.
-use Rattle.std.proofs.Common.{◌≡◌, ℕ, ◌+◌, Bool, true, false, cond, List, [], ◌∷◌, length}
-use Rattle.std.proofs.Common.{Option, Some, None, refl, sym, subst, arith}
-use Rattle.std.specs.Prelude.{is_some, nat_lt}
-use Rattle.std.specs.Map.{update}
-use Rattle.std.specs.Str.{bytes_eq}
+use Rattle.std.proofs.Common.{◌≡◌, ℕ, ◌+◌, Bool, List, [], ◌∷◌, length}
+use Rattle.std.proofs.Common.{None, refl, sym, subst, arith}
+use Rattle.std.specs.Prelude.{nat_lt}
 use Rattle.std.proofs.lemmas.Bool.{ltb-true, lt-ltb}
 use Rattle.cir_ast.specs.declared.program.Spot.{Spot}
 use Rattle.cir_ast.specs.declared.program.Meant.{Meant}
@@ -14,8 +12,8 @@ use Rattle.cir_ast.specs.Shape.{AreShapedStatements}
 use Rattle.cir_resolve.specs.Steps.{made, in_turn}
 use Rattle.cir_resolve.specs.Scope.{Lookup, State, opening, counted, with_name, declared}
 use Rattle.cir_resolve.specs.Naming.{named_statements}
-use Rattle.cir_resolve.specs.Definitions.{Definition, IsTemplate, IsFunction, IsMain, Numbers}
-use Rattle.cir_resolve.specs.Definitions.{with_new, with_definition, behind_definition, defined_by}
+use Rattle.cir_resolve.specs.Definitions.{Definition, Numbers}
+use Rattle.cir_resolve.specs.Definitions.{defined_by}
 use Rattle.cir_resolve.specs.Definitions.{named_parameter, named_body}
 use Rattle.cir_checks.specs.declared.positions.Position.TheVariants.{InFunction, Outermost}
 use Rattle.cir_checks.specs.Heads.{Table}
@@ -25,42 +23,10 @@ use Rattle.cir_meaning.specs.SignalFree.{AreFreeStatements}
 use Rattle.cir_meaning.specs.Scoped.{Scope, AreScoped}
 use Rattle.cir_scope.proofs.Given.{OnGiven, given_behind, given_made, given_declared, given_less}
 use Rattle.cir_scope.proofs.Agreement.{IsCovered, Covers, Agrees, wider_covered, covers_more}
+use Rattle.cir_scope.proofs.Lookups.{of_definitions}
 use Rattle.cir_scope.proofs.FreeNames.{IsFreeName, AreFreeNames, IsFreeState, free_variable}
 use Rattle.cir_scope.proofs.ScopedStatements as scoped
 use Rattle.cir_scope.proofs.FreeStatements as free
-
--- ---- the names of the definitions
-updated : (P : Option Meant → Type 0) (b : Bool) (o p : Option Meant) → P o → P p → P (cond b o p)
-updated P true o p h k = h
-updated P false o p h k = k
-
-chosen : (P : Option Meant → Type 0) (b : Bool) (f g : Lookup) → ((name : List ℕ) → P (f name))
-    → ((name : List ℕ) → P (g name)) → (name : List ℕ) → P (cond b f g name)
-chosen P true f g h k = h
-chosen P false f g h k = k
-
-with_new_each : (P : Option Meant → Type 0) (names : Lookup) (new : List ℕ) (m : Meant)
-    → P (Some m) → ((name : List ℕ) → P (names name))
-    → (name : List ℕ) → P (with_new names new m name)
-with_new_each P names new m h k =
-    chosen P (is_some (names new)) names (update bytes_eq names new (Some m)) k
-    (λ name. updated P (bytes_eq new name) (Some m) (names name) h (k name))
-
--- what holds of templates and functions holds of each
-defined_each : (P : Option Meant → Type 0) → ((n : ℕ) → P (Some (meant.Template n)))
-    → ((n : ℕ) → P (Some (meant.Function n))) → (names : Lookup) (n : Numbers)
-    (ds : List Definition) → ((name : List ℕ) → P (names name))
-    → (name : List ℕ) → P (defined_by names n ds name)
-defined_each P t f names n [] h = h
-defined_each P t f names n (IsTemplate d ∷ ds) h =
-    defined_each P t f (with_definition names n (IsTemplate d))
-    (behind_definition n (IsTemplate d)) ds
-    (with_new_each P names d.name (meant.Template n.templates) (t n.templates) h)
-defined_each P t f names n (IsFunction d ∷ ds) h =
-    defined_each P t f (with_definition names n (IsFunction d))
-    (behind_definition n (IsFunction d)) ds
-    (with_new_each P names d.name (meant.Function n.functions) (f n.functions) h)
-defined_each P t f names n (IsMain d ∷ ds) h = defined_each P t f names n ds h
 
 -- no definition's name means what a body declares
 pub record AreDefined (names : Lookup) : Type 0 where
@@ -70,9 +36,9 @@ pub record AreDefined (names : Lookup) : Type 0 where
 pub are_defined : (names : Lookup) (n : Numbers) (ds : List Definition)
     → ((name : List ℕ) → names name ≡ None) → AreDefined (defined_by names n ds)
 are_defined names n ds none = record {
-  covered = λ seen. defined_each (IsCovered seen) (λ k. tt) (λ k. tt) names n ds
+  covered = λ seen. of_definitions (IsCovered seen) (λ k. tt) (λ k. tt) names n ds
       (λ name. subst (IsCovered seen) (sym (none name)) tt);
-  free = defined_each IsFreeName (λ k. tt) (λ k. tt) names n ds
+  free = of_definitions IsFreeName (λ k. tt) (λ k. tt) names n ds
       (λ name. subst IsFreeName (sym (none name)) tt);
 }
 

@@ -1,5 +1,5 @@
 -- The definitions of files, once their names are resolved.
-use Rattle.std.proofs.Common.{◌≡◌, ℕ, ◌+◌, Bool, true, false, cond, List, [], ◌∷◌, ◌++◌, length}
+use Rattle.std.proofs.Common.{◌≡◌, ℕ, ◌+◌, Bool, true, false, cond, List, [], ◌∷◌, length}
 use Rattle.std.proofs.Common.{Result, Ok, Err, refl, sym, subst}
 use Rattle.std.specs.Prelude.{map, IfOk, ⊤}
 use Rattle.std.specs.List.{AllByRecursion}
@@ -25,6 +25,7 @@ use Rattle.cir_checks.specs.Checks.{program_with}
 use Rattle.cir_checks.specs.Checked.{Each, IsUsed}
 use Rattle.cir_checks.specs.Checked as checked
 use Rattle.cir_names.specs.Programs.{definitions_from}
+use Rattle.cir_meaning.proofs.Rows.{all_append}
 use Rattle.cir_meaning.specs.SignalFree.{AreFreeStatements}
 use Rattle.cir_meaning.specs.Scoped.{IsTemplateScoped, IsResolved}
 use Rattle.cir_scope.proofs.Given.{OnGiven, given_behind, given_made}
@@ -46,17 +47,12 @@ shaped_file n (tree.Template spot parallel name parameters ss ∷ is) h =
 shaped_file n (tree.Function spot name parameters ss ∷ is) h = (h.0, shaped_file n is h.1)
 shaped_file n (tree.Main spot names template m arguments ∷ is) h = (tt, shaped_file n is h.1)
 
-both : {A : Type 0} (P : A → Type 0) (xs ys : List A) → AllByRecursion P xs → AllByRecursion P ys
-    → AllByRecursion P (xs ++ ys)
-both P [] ys h k = k
-both P (x ∷ xs) ys h k = (h.0, both P xs ys h.1 k)
-
 shaped_files : (n : ℕ) (files : List (File Spot Meant))
     → AllByRecursion IsShaped (map plain_file files)
     → AllByRecursion IsShapedDefinition (definitions_from n files)
 shaped_files n [] h = tt
 shaped_files n (file ∷ files) h =
-    both IsShapedDefinition (definitions_of n file) (definitions_from (n + 1) files)
+    all_append IsShapedDefinition (definitions_of n file) (definitions_from (n + 1) files)
     (shaped_file n file h.0) (shaped_files (n + 1) files h.1)
 
 -- ---- once their names are resolved, where they are used as they may be

@@ -1,14 +1,14 @@
 -- In a function no signal and no component is in scope.
-use Rattle.std.proofs.Common.{◌≡◌, ℕ, Bool, true, false, cond, List, Option, Some, None}
+use Rattle.std.proofs.Common.{◌≡◌, ℕ, List, Option, Some, None}
 use Rattle.std.specs.Prelude.{⊤}
 use Rattle.std.specs.Option.{option_or}
-use Rattle.std.specs.Str.{bytes_eq}
 use Rattle.cir_ast.specs.declared.program.Meant.{Meant}
 use Rattle.cir_ast.specs.declared.program.Meant.TheVariants as meant
 use Rattle.cir_resolve.specs.Scope.{Lookup, State, in_scope, meaning, read_at, entered, left}
 use Rattle.cir_resolve.specs.Scope.{counted, with_name}
 use Rattle.cir_checks.specs.Checked.{IsRead, IsWritten, IsDriven}
 use Rattle.cir_meaning.specs.SignalFree.{IsVariable}
+use Rattle.cir_scope.proofs.Lookups.{of_first, of_more}
 
 abbrev pub IsFreeName : Option Meant → Type 0
 IsFreeName (Some (meant.Signal d n)) = ⊥
@@ -23,10 +23,6 @@ pub record IsFreeState (st : State) : Type 0 where
   pub outer : AreFreeNames st.outer
   pub inner : AreFreeNames st.inner
 
-free_or : (o p : Option Meant) → IsFreeName o → IsFreeName p → IsFreeName (option_or o p)
-free_or None p h k = k
-free_or (Some m) p h k = h
-
 free_meaning : (o : Option Meant) → IsFreeName o → IsFreeName (Some (meaning o))
 free_meaning None h = tt
 free_meaning (Some m) h = h
@@ -35,13 +31,8 @@ pub free_read : (st : State) → IsFreeState st → (name : List ℕ)
     → IsFreeName (Some (read_at st name))
 free_read st f name =
     free_meaning (option_or (in_scope st name) (st.defined name))
-    (free_or (in_scope st name) (st.defined name)
-    (free_or (st.inner name) (st.outer name) (f.inner name) (f.outer name)) (f.defined name))
-
-free_cond : (b : Bool) (o p : Option Meant) → IsFreeName o → IsFreeName p
-    → IsFreeName (cond b o p)
-free_cond true o p h k = h
-free_cond false o p h k = k
+    (of_first IsFreeName (in_scope st name) (st.defined name)
+    (of_first IsFreeName (st.inner name) (st.outer name) (f.inner name) (f.outer name)) (f.defined name))
 
 pub free_variable : (st : State) (n : ℕ) (name : List ℕ) → IsFreeState st
     → IsFreeState (with_name (counted st (meant.Variable n)) name (meant.Variable n))
@@ -49,16 +40,14 @@ free_variable st n name f =
     record {
       defined = f.defined;
       outer = f.outer;
-      inner =
-          λ other. free_cond (bytes_eq name other) (Some (meant.Variable n)) (st.inner other) tt
-          (f.inner other);
+      inner = of_more IsFreeName st.inner name (meant.Variable n) tt f.inner;
     }
 
 pub free_entered : (st : State) → IsFreeState st → IsFreeState (entered st)
 free_entered st f =
     record {
       defined = f.defined;
-      outer = λ name. free_or (st.inner name) (st.outer name) (f.inner name) (f.outer name);
+      outer = λ name. of_first IsFreeName (st.inner name) (st.outer name) (f.inner name) (f.outer name);
       inner = λ name. tt;
     }
 

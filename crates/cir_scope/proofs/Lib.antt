@@ -1,4 +1,5 @@
 pub mod Given
+pub mod Lookups
 pub mod Agreement
 pub mod ScopedExprs
 pub mod Unlooped
