@@ -1,5 +1,6 @@
 -- A step's code writes as many numbers as its task gives.
-use Rattle.std.proofs.Common.{◌≡◌, ℕ, zero, suc, ◌+◌, ◌<◌, ◌≤◌, List, [], ◌∷◌, ◌++◌, length, Option, Some, None, refl, sym, ap, subst, ◌∙◌, arith, length-append, inl, inr}
+use Rattle.std.proofs.Common.{◌≡◌, ℕ, zero, suc, ◌+◌, ◌<◌, ◌≤◌, List, [], ◌∷◌, ◌++◌, length, Option}
+use Rattle.std.proofs.Common.{Some, None, refl, sym, ap, subst, ◌∙◌, arith, length-append, inl, inr}
 use Rattle.std.specs.Prelude.{slice_get}
 use Rattle.std.proofs.lemmas.Bool.{cases_lt}
 use Rattle.wit_code.specs.declared.code.Op.{Op}
@@ -15,12 +16,16 @@ use Rattle.wit_lower.specs.Pieces.{Code}
 use Rattle.wit_lower.specs.Values.{expr_code, size_of}
 use Rattle.wit_lower.specs.Statements.{statement_code}
 use Rattle.wit_lower.specs.Procedures.{IsTable}
-use Rattle.wit_lower.specs.Sources.{Input, Constant, Cell, Source, Sources, scope_of, cells_read, load_code, source_code, sources_code}
-use Rattle.wit_lower.specs.Tasks.{Element, Task, Gives, Equal, Logs, Executes, writes, logs_code, target_code, targets_code, task_code, step_ground, step_code}
+use Rattle.wit_lower.specs.Sources.{Input, Constant, Cell, Source, Sources, scope_of, cells_read}
+use Rattle.wit_lower.specs.Sources.{load_code, source_code, sources_code}
+use Rattle.wit_lower.specs.Tasks.{Element, Task, Gives, Equal, Logs, Executes, writes, logs_code}
+use Rattle.wit_lower.specs.Tasks.{target_code, targets_code, task_code, step_ground, step_code}
 use Rattle.wit_lower.specs.Steps.{TargetsFit, TaskFits, StepFits, count_of}
 use Rattle.wit_lower.proofs.Does.{HasAt, has_front, has_back, has_itself}
-use Rattle.wit_lower.proofs.Counting.{writes_in, before, all_writes, before_none, before_next, Level, IsLevel, writes_all}
-use Rattle.wit_lower.proofs.Inner.{IsInner, Inner, IsWhole, whole_append, expr_whole, statement_whole}
+use Rattle.wit_lower.proofs.Counting.{writes_in, before, all_writes, before_none, before_next}
+use Rattle.wit_lower.proofs.Counting.{Level, IsLevel, writes_all}
+use Rattle.wit_lower.proofs.Inner.{IsInner, Inner, IsWhole, whole_append, expr_whole}
+use Rattle.wit_lower.proofs.Inner.{statement_whole}
 use Rattle.wit_lower.proofs.FormedTable.{step_is}
 
 inner_quiet : (low high : ℕ) (o : Op) → IsInner low high o → writes_in o ≡ 0

@@ -1,17 +1,22 @@
 -- Code whose jumps pass no Write writes as many numbers as it has Writes, where it doesn't stop.
-use Rattle.std.proofs.Common.{◌≡◌, ℕ, zero, suc, ◌+◌, ◌-◌, Bool, true, false, cond, not, List, [], ◌∷◌, length, Option, Some, None, refl, sym, ap, subst, ◌∙◌, arith, length-append}
+use Rattle.std.proofs.Common.{◌≡◌, ℕ, zero, suc, ◌+◌, ◌-◌, Bool, true, false, cond, not, List, []}
+use Rattle.std.proofs.Common.{◌∷◌, length, Option, Some, None, refl, sym, ap, subst, ◌∙◌, arith}
+use Rattle.std.proofs.Common.{length-append}
 use Rattle.std.specs.Prelude.{slice_get, slice_index, unwrap_or, nat_lt, ◌==◌}
 use Rattle.gold_field.specs.Operators.{binary_of}
 use Rattle.wit_code.specs.declared.code.Op.{Op}
 use Rattle.wit_code.specs.declared.code.Op.TheVariants as op
 use Rattle.wit_code.specs.declared.code.Proc.{Proc}
 use Rattle.wit_code.specs.declared.code.Stop.{Stop}
-use Rattle.wit_code.specs.declared.code.Stop.TheVariants.{ConstraintFails, AssertFails, IndexOut, FuelSpent, TooDeep}
+use Rattle.wit_code.specs.declared.code.Stop.TheVariants.{ConstraintFails, AssertFails, IndexOut}
+use Rattle.wit_code.specs.declared.code.Stop.TheVariants.{FuelSpent, TooDeep}
 use Rattle.wit_code.specs.declared.frames.Running.{Running}
 use Rattle.wit_code.specs.declared.frames.Running.TheVariants.{Own, Called}
 use Rattle.wit_code.specs.Code.{IsWellFormed}
 use Rattle.wit_code.specs.Frames.{Open}
-use Rattle.wit_code.specs.Table.{State, Wrote, Stopped, Next, Goes, Over, RunsTo, act, step, exec, next_of, start_of, unless, put_result, in_frame, proc_at, no_code, go_on, jump_to, call, frame_of}
+use Rattle.wit_code.specs.Table.{State, Wrote, Stopped, Next, Goes, Over, RunsTo, act, step, exec}
+use Rattle.wit_code.specs.Table.{next_of, start_of, unless, put_result, in_frame, proc_at, no_code}
+use Rattle.wit_code.specs.Table.{go_on, jump_to, call, frame_of}
 use Rattle.wit_lower.specs.Pieces.{Code}
 
 abbrev pub writes_in : Op → ℕ

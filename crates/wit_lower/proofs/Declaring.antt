@@ -1,5 +1,7 @@
 -- Declarations do what they mean.
-use Rattle.std.proofs.Common.{◌≡◌, ℕ, zero, suc, ◌+◌, ◌<◌, ◌≤◌, Bool, true, false, cond, List, [], ◌∷◌, ◌++◌, length, map, replicate, Option, Some, None, refl, sym, ap, ap₂, subst, ◌∙◌, arith, length-append}
+use Rattle.std.proofs.Common.{◌≡◌, ℕ, zero, suc, ◌+◌, ◌<◌, ◌≤◌, Bool, true, false, cond, List, []}
+use Rattle.std.proofs.Common.{◌∷◌, ◌++◌, length, map, replicate, Option, Some, None, refl, sym, ap}
+use Rattle.std.proofs.Common.{ap₂, subst, ◌∙◌, arith, length-append}
 use Rattle.std.specs.Prelude.{slice_index, slice_set, unwrap_or}
 use Rattle.wit_code.specs.Table.{State}
 use Rattle.cir_ast.specs.declared.program.Meant.{Meant}
@@ -15,9 +17,12 @@ use Rattle.cir_meaning.specs.RunStatements.{step_value, step_variable, step_vari
 use Rattle.wit_lower.specs.Homes.{Homes, Scope, Ground, slots_of, row, with_variable}
 use Rattle.wit_lower.specs.Pieces.{Code, zeros}
 use Rattle.wit_lower.specs.Values.{shape_of, expr_code}
-use Rattle.wit_lower.specs.Statements.{dims_code, known_dims, declared_scope, variable_scope, variables_scope, value_code, variable_code, variables_code}
-use Rattle.wit_lower.specs.Fits.{AreLaid, DimsFit, ValueFits, DeclarationFits, DeclaredFits, VariablesFit}
-use Rattle.wit_lower.proofs.Does.{Setting, Does, does_next, does_weaker, gives as there, HasAt, has_front, has_back}
+use Rattle.wit_lower.specs.Statements.{dims_code, known_dims, declared_scope, variable_scope}
+use Rattle.wit_lower.specs.Statements.{variables_scope, value_code, variable_code, variables_code}
+use Rattle.wit_lower.specs.Fits.{AreLaid, DimsFit, ValueFits, DeclarationFits, DeclaredFits}
+use Rattle.wit_lower.specs.Fits.{VariablesFit}
+use Rattle.wit_lower.proofs.Does.{Setting, Does, does_next, does_weaker, gives as there, HasAt}
+use Rattle.wit_lower.proofs.Does.{has_front, has_back}
 use Rattle.wit_lower.proofs.Frames.{Below, below_itself, below_then}
 use Rattle.wit_lower.proofs.Spots.{Spot, here, body_at, IsWide, at_state, at_place}
 use Rattle.wit_lower.proofs.Pieces.{zeros_go, Zeroed}

@@ -1,8 +1,12 @@
 -- Procedures do what their functions mean, however deep the calls are.
-use Rattle.std.proofs.Common.{◌≡◌, ℕ, zero, suc, ◌+◌, ◌-◌, ◌%◌, ◌<◌, ◌≤◌, max, Bool, true, false, cond, List, [], ◌∷◌, ◌++◌, length, drop, replicate, map, Option, Some, None, Ok, Err, refl, sym, ap, ap₂, subst, ◌∙◌, arith, length-append, length-set, get_or-drop, get_or-take}
+use Rattle.std.proofs.Common.{◌≡◌, ℕ, zero, suc, ◌+◌, ◌-◌, ◌%◌, ◌<◌, ◌≤◌, max, Bool, true, false}
+use Rattle.std.proofs.Common.{cond, List, [], ◌∷◌, ◌++◌, length, drop, replicate, map, Option, Some}
+use Rattle.std.proofs.Common.{None, Ok, Err, refl, sym, ap, ap₂, subst, ◌∙◌, arith, length-append}
+use Rattle.std.proofs.Common.{length-set, get_or-drop, get_or-take}
 use Rattle.std.specs.Prelude.{slice_get, slice_index, slice_set, slice_range, unwrap_or, sum_by}
 use Rattle.std.proofs.lemmas.Bool.{lt-ltb, le-ltb}
-use Rattle.std.proofs.lemmas.List.{get_or_append_left, length-replicate, length-take-le, length-drop}
+use Rattle.std.proofs.lemmas.List.{get_or_append_left, length-replicate, length-take-le}
+use Rattle.std.proofs.lemmas.List.{length-drop}
 use Rattle.std.proofs.lemmas.List.Sums.{sum_by-cons}
 use Rattle.std.proofs.lemmas.Option.{slice_get_past}
 use Rattle.gold_field.specs.declared.gold.TheConstants.{P}
@@ -12,23 +16,31 @@ use Rattle.wit_code.specs.declared.code.Proc.{Proc}
 use Rattle.wit_code.specs.declared.code.Stop.TheVariants.{FuelSpent, TooDeep}
 use Rattle.wit_code.specs.declared.frames.Running.TheVariants.{Called}
 use Rattle.wit_code.specs.Frames.{Open}
-use Rattle.wit_code.specs.Table.{State, Goes, unless, act, call as opens, frame_of, proc_at, no_code}
+use Rattle.wit_code.specs.Table.{State, Goes, unless, act, call as opens, frame_of, proc_at}
+use Rattle.wit_code.specs.Table.{no_code}
 use Rattle.cir_ast.specs.declared.program.Meant.{Meant}
 use Rattle.cir_ast.specs.Program.{Program, Function}
-use Rattle.cir_ast.specs.Tree.{Expr, Number, Place as PlaceOf, Call, Anonymous, Parentheses, Array, Unary, Binary, Choice}
+use Rattle.cir_ast.specs.Tree.{Expr, Number, Place as PlaceOf, Call, Anonymous, Parentheses, Array}
+use Rattle.cir_ast.specs.Tree.{Unary, Binary, Choice}
 use Rattle.cir_meaning.specs.Places.{is_inside}
 use Rattle.cir_meaning.specs.Arrays.{single}
 use Rattle.cir_meaning.specs.Costs.{Made}
 use Rattle.cir_meaning.specs.Reached.{body_of}
 use Rattle.cir_meaning.specs.Texts.{literal_number}
-use Rattle.cir_meaning.specs.RunValues.{Ran, Numbers, Environment, Store, stored, gives, number_in, the_number, too_deep}
-use Rattle.cir_meaning.specs.RunStatements.{StepFlow, StepGoing, StepReturned, spend, step_statements, in_function, returned_number, run_function, run_call}
-use Rattle.wit_lower.specs.Homes.{Name, Variable, same_name, Home, Homes, Scope, Ground, find, with_variable, slots_of, row}
+use Rattle.cir_meaning.specs.RunValues.{Ran, Numbers, Environment, Store, stored, gives, number_in}
+use Rattle.cir_meaning.specs.RunValues.{the_number, too_deep}
+use Rattle.cir_meaning.specs.RunStatements.{StepFlow, StepGoing, StepReturned, spend}
+use Rattle.cir_meaning.specs.RunStatements.{step_statements, in_function, returned_number}
+use Rattle.cir_meaning.specs.RunStatements.{run_function, run_call}
+use Rattle.wit_lower.specs.Homes.{Name, Variable, same_name, Home, Homes, Scope, Ground, find}
+use Rattle.wit_lower.specs.Homes.{with_variable, slots_of, row}
 use Rattle.wit_lower.specs.Pieces.{Code, named, most_named}
 use Rattle.wit_lower.specs.Statements.{statements_code}
-use Rattle.wit_lower.specs.Procedures.{arguments_scope, no_scope, function_ground, params_of, params_at, AreSmall, IsLowered, HasProcedure, IsTable}
+use Rattle.wit_lower.specs.Procedures.{arguments_scope, no_scope, function_ground, params_of}
+use Rattle.wit_lower.specs.Procedures.{params_at, AreSmall, IsLowered, HasProcedure, IsTable}
 use Rattle.wit_lower.specs.Fits.{AreLaid}
-use Rattle.wit_lower.proofs.Does.{Setting, Does, does_next, does_same, gives as there, goes, stops, HasAt, has_itself}
+use Rattle.wit_lower.proofs.Does.{Setting, Does, does_next, does_same, gives as there, goes, stops}
+use Rattle.wit_lower.proofs.Does.{HasAt, has_itself}
 use Rattle.wit_lower.proofs.Frames.{set_same, below_set, row_from}
 use Rattle.wit_lower.proofs.Spots.{Spot, here, body_at, IsWide, step_at, at_state}
 use Rattle.wit_lower.proofs.Shows.{Held, Shows}

@@ -1,12 +1,16 @@
 -- The code from a state does what a meaning says: it goes on from a state that shows the meaning's
 -- result, or stops as the meaning does.
-use Rattle.std.proofs.Common.{◌≡◌, ℕ, suc, ◌+◌, Bool, true, false, cond, List, [], ◌∷◌, ◌++◌, length, Option, Some, None, Result, Ok, Err, refl, sym, ap, subst, ◌∙◌, arith}
+use Rattle.std.proofs.Common.{◌≡◌, ℕ, suc, ◌+◌, Bool, true, false, cond, List, [], ◌∷◌, ◌++◌}
+use Rattle.std.proofs.Common.{length, Option, Some, None, Result, Ok, Err, refl, sym, ap, subst}
+use Rattle.std.proofs.Common.{◌∙◌, arith}
 use Rattle.std.specs.Prelude.{slice_get, ◌==◌}
 use Rattle.wit_code.specs.declared.code.Op.{Op}
 use Rattle.wit_code.specs.declared.code.Proc.{Proc}
 use Rattle.wit_code.specs.declared.code.Stop.{Stop}
-use Rattle.wit_code.specs.declared.code.Stop.TheVariants.{ConstraintFails, AssertFails, ZeroDivisor, IndexOut, FuelSpent, TooDeep, OutOfMemory}
-use Rattle.wit_code.specs.Table.{State, Outcome, Stopped, Next, Goes, Over, exec, step, next_of, unless, stop_number}
+use Rattle.wit_code.specs.declared.code.Stop.TheVariants.{ConstraintFails, AssertFails, ZeroDivisor}
+use Rattle.wit_code.specs.declared.code.Stop.TheVariants.{IndexOut, FuelSpent, TooDeep, OutOfMemory}
+use Rattle.wit_code.specs.Table.{State, Outcome, Stopped, Next, Goes, Over, exec, step, next_of}
+use Rattle.wit_code.specs.Table.{unless, stop_number}
 use Rattle.cir_meaning.specs.Tried.{next}
 use Rattle.wit_lower.specs.Tasks.{IsStop}
 

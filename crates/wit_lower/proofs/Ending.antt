@@ -1,6 +1,8 @@
 -- A run-time statement does its task, from a frame that shows what it reads on: it writes what the
 -- task gives, or stops as the task does.
-use Rattle.std.proofs.Common.{◌≡◌, ℕ, zero, suc, ◌+◌, ◌<◌, ◌≤◌, cond, List, [], ◌∷◌, ◌++◌, length, map, None, Result, Ok, Err, refl, sym, ap, subst, ◌∙◌, arith, length-append, length-set, append_assoc, append-nil}
+use Rattle.std.proofs.Common.{◌≡◌, ℕ, zero, suc, ◌+◌, ◌<◌, ◌≤◌, cond, List, [], ◌∷◌, ◌++◌, length}
+use Rattle.std.proofs.Common.{map, None, Result, Ok, Err, refl, sym, ap, subst, ◌∙◌, arith}
+use Rattle.std.proofs.Common.{length-append, length-set, append_assoc, append-nil}
 use Rattle.std.specs.Prelude.{slice_get, slice_index, slice_set, ◌==◌}
 use Rattle.wit_code.specs.declared.code.Op.{Op}
 use Rattle.wit_code.specs.declared.code.Op.TheVariants as op
@@ -10,8 +12,10 @@ use Rattle.cir_ast.specs.declared.program.Spot.{Spot as Place}
 use Rattle.cir_ast.specs.declared.program.Meant.{Meant}
 use Rattle.cir_ast.specs.Tree.{Expr, Assign, Assigned, Statement, Ended as EndedBy}
 use Rattle.cir_meaning.specs.Tried.{next}
-use Rattle.cir_meaning.specs.RunValues.{Ran, Numbers, Environment, Store, gives, number, number_in, constraint_fails}
-use Rattle.cir_meaning.specs.RunStatements.{StepFlow, StepGoing, StepReturned, step_assign, step_statement}
+use Rattle.cir_meaning.specs.RunValues.{Ran, Numbers, Environment, Store, gives, number, number_in}
+use Rattle.cir_meaning.specs.RunValues.{constraint_fails}
+use Rattle.cir_meaning.specs.RunStatements.{StepFlow, StepGoing, StepReturned, step_assign}
+use Rattle.cir_meaning.specs.RunStatements.{step_statement}
 use Rattle.cir_meaning.specs.RunSimple.{sides}
 use Rattle.cir_meaning.specs.RunBodies.{store_in}
 use Rattle.wit_lower.specs.Homes.{Variable, Home, Scope, Ground, slots_of, row}
@@ -21,10 +25,14 @@ use Rattle.cir_meaning.specs.Writing.{plain}
 use Rattle.wit_lower.specs.Statements.{assign_code, statement_code, scope_behind}
 use Rattle.wit_lower.specs.Fits.{AreLaid, Fits, TestFits, AssignFits, StatementFits}
 use Rattle.wit_lower.specs.Steps.{TargetsFit, AllTests, TaskFits}
-use Rattle.wit_lower.specs.Tasks.{Element, Task, Gives, Equal, Logs, Executes, numbers_wanted, element_in, done_by, writes, logs_code, target_code, targets_code, task_code, IsOutcome}
-use Rattle.wit_lower.proofs.Does.{Setting, takes, Ends, Does, does_next, does_need, gives as there, ends_over, HasAt, has_front, has_back}
+use Rattle.wit_lower.specs.Tasks.{Element, Task, Gives, Equal, Logs, Executes, numbers_wanted}
+use Rattle.wit_lower.specs.Tasks.{element_in, done_by, writes, logs_code, target_code, targets_code}
+use Rattle.wit_lower.specs.Tasks.{task_code, IsOutcome}
+use Rattle.wit_lower.proofs.Does.{Setting, takes, Ends, Does, does_next, does_need, gives as there}
+use Rattle.wit_lower.proofs.Does.{ends_over, HasAt, has_front, has_back}
 use Rattle.wit_lower.proofs.Frames.{row_index}
-use Rattle.wit_lower.proofs.Spots.{Spot, here, body_at, IsWide, step_at, op_goes, at_state, at_place}
+use Rattle.wit_lower.proofs.Spots.{Spot, here, body_at, IsWide, step_at, op_goes, at_state}
+use Rattle.wit_lower.proofs.Spots.{at_place}
 use Rattle.wit_lower.proofs.Shows.{Shows, KnownAt, shows_below}
 use Rattle.wit_lower.proofs.Parts.{Valued}
 use Rattle.wit_lower.proofs.Operators.{number_does}

@@ -1,6 +1,7 @@
 -- A step with a loop, a call that calls itself, and an array: it fits, and the machine gives what
 -- the statement means, or stops as it does.
-use Rattle.std.proofs.Common.{◌≡◌, ℕ, ◌<◌, false, List, [], ◌∷◌, map, max, None, Ok, Err, refl, arith}
+use Rattle.std.proofs.Common.{◌≡◌, ℕ, ◌<◌, false, List, [], ◌∷◌, map, max, None, Ok, Err, refl}
+use Rattle.std.proofs.Common.{arith}
 use Rattle.wit_code.specs.declared.code.Proc.{Proc}
 use Rattle.wit_code.specs.declared.code.Stop.TheVariants.{FuelSpent}
 use Rattle.wit_code.specs.Table.{Over, Wrote, Stopped, Next, exec, start_of}
@@ -9,7 +10,9 @@ use Rattle.cir_ast.specs.declared.program.Meant.{Meant}
 use Rattle.cir_ast.specs.declared.program.Meant.TheVariants as meant
 use Rattle.cir_ast.specs.declared.operators.Binary.TheVariants as binary
 use Rattle.cir_ast.specs.Program.{Program, Function}
-use Rattle.cir_ast.specs.Tree.{Expr, Number, Place, Call, Binary, Choice, none, more, Accessors, done, index, Set, Increment, Vars, Assigned, Statement, Block, IfElse, While, Return, Ended, empty, then_more}
+use Rattle.cir_ast.specs.Tree.{Expr, Number, Place, Call, Binary, Choice, none, more, Accessors}
+use Rattle.cir_ast.specs.Tree.{done, index, Set, Increment, Vars, Assigned, Statement, Block}
+use Rattle.cir_ast.specs.Tree.{IfElse, While, Return, Ended, empty, then_more}
 use Rattle.cir_meaning.specs.Bodies.{most_open}
 use Rattle.cir_meaning.specs.Costs.{Made}
 use Rattle.cir_meaning.specs.RunValues.{Ran}

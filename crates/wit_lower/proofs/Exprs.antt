@@ -1,5 +1,8 @@
 -- The code of an expression does what the expression means.
-use Rattle.std.proofs.Common.{◌≡◌, ℕ, zero, suc, ◌+◌, ◌*◌, ◌%◌, ◌≤◌, max, Bool, true, false, cond, List, [], ◌∷◌, ◌++◌, length, map, drop, flat_map, Option, Some, None, Result, Ok, Err, refl, sym, ap, ap₂, subst, ◌∙◌, arith, length-append, suc-mul, zero-mul}
+use Rattle.std.proofs.Common.{◌≡◌, ℕ, zero, suc, ◌+◌, ◌*◌, ◌%◌, ◌≤◌, max, Bool, true, false, cond}
+use Rattle.std.proofs.Common.{List, [], ◌∷◌, ◌++◌, length, map, drop, flat_map, Option, Some, None}
+use Rattle.std.proofs.Common.{Result, Ok, Err, refl, sym, ap, ap₂, subst, ◌∙◌, arith, length-append}
+use Rattle.std.proofs.Common.{suc-mul, zero-mul}
 use Rattle.std.specs.Prelude.{slice_get, slice_index, ◌==◌}
 use Rattle.std.proofs.lemmas.Bool.{ne_eqb}
 use Rattle.gold_field.specs.declared.gold.TheConstants.{P}
@@ -10,24 +13,35 @@ use Rattle.wit_code.specs.Table.{State}
 use Rattle.cir_ast.specs.declared.program.Meant.{Meant}
 use Rattle.cir_ast.specs.declared.program.Meant.TheVariants as meant
 use Rattle.cir_ast.specs.declared.operators.Unary.{Unary as UnaryOp}
-use Rattle.cir_ast.specs.Tree.{Expr, Number, Place, Call, Anonymous, Parentheses, Array, Unary, Binary, Choice, Exprs, none, more, Accessors, done, index, member}
+use Rattle.cir_ast.specs.Tree.{Expr, Number, Place, Call, Anonymous, Parentheses, Array, Unary}
+use Rattle.cir_ast.specs.Tree.{Binary, Choice, Exprs, none, more, Accessors, done, index, member}
 use Rattle.cir_meaning.specs.Tried.{next}
 use Rattle.cir_meaning.specs.Places.{is_inside, all_known, followed as known_first}
 use Rattle.cir_meaning.specs.Arrays.{Shaped, single, made}
 use Rattle.cir_meaning.specs.Operators.{Operator, Strict, And, Or, operator_of, unary_of}
 use Rattle.cir_meaning.specs.Costs.{Made}
-use Rattle.cir_meaning.specs.RunValues.{Ran, Numbers, Environment, Store, stored, gives, number, number_in, numbers_in, place_in, read_root, RunRoot, RunNamed, RunFound, the_number, index_out, unless_known, read_option, read_wired, gathered_numbers}
-use Rattle.wit_lower.specs.Homes.{Name, Variable, Signal, Port, Home, Homes, Ground, Front, Named, Found, Lost, find, home_of, port_at, slots_of, offset, row}
-use Rattle.wit_lower.specs.Pieces.{Code, either, bounds, read_code, binary_code, decided, lazy_code, choice_code}
-use Rattle.wit_lower.specs.Values.{shape_of, shapes_of, size_of, place_shape, part_shape, expr_code, exprs_code, place_code, number_of, call_code, count_of}
-use Rattle.wit_lower.specs.Fits.{AreLaid, IsCalled, HasHome, EndFits, IsLiteral, HaveShape, Sides, Fits, AllFit, PlaceFits}
-use Rattle.wit_lower.proofs.Does.{Setting, Does, does_next, does_same, does_weaker, gives as there, misses, HasAt, has_front, has_back}
+use Rattle.cir_meaning.specs.RunValues.{Ran, Numbers, Environment, Store, stored, gives, number}
+use Rattle.cir_meaning.specs.RunValues.{number_in, numbers_in, place_in, read_root, RunRoot}
+use Rattle.cir_meaning.specs.RunValues.{RunNamed, RunFound, the_number, index_out, unless_known}
+use Rattle.cir_meaning.specs.RunValues.{read_option, read_wired, gathered_numbers}
+use Rattle.wit_lower.specs.Homes.{Name, Variable, Signal, Port, Home, Homes, Ground, Front, Named}
+use Rattle.wit_lower.specs.Homes.{Found, Lost, find, home_of, port_at, slots_of, offset, row}
+use Rattle.wit_lower.specs.Pieces.{Code, either, bounds, read_code, binary_code, decided, lazy_code}
+use Rattle.wit_lower.specs.Pieces.{choice_code}
+use Rattle.wit_lower.specs.Values.{shape_of, shapes_of, size_of, place_shape, part_shape, expr_code}
+use Rattle.wit_lower.specs.Values.{exprs_code, place_code, number_of, call_code, count_of}
+use Rattle.wit_lower.specs.Fits.{AreLaid, IsCalled, HasHome, EndFits, IsLiteral, HaveShape, Sides}
+use Rattle.wit_lower.specs.Fits.{Fits, AllFit, PlaceFits}
+use Rattle.wit_lower.proofs.Does.{Setting, Does, does_next, does_same, does_weaker, gives as there}
+use Rattle.wit_lower.proofs.Does.{misses, HasAt, has_front, has_back}
 use Rattle.wit_lower.proofs.Frames.{Below, below_itself, below_then, row_below}
 use Rattle.wit_lower.proofs.Spots.{Spot, here, body_at, IsWide, step_at, at_state}
 use Rattle.wit_lower.proofs.Pieces.{bounds_do}
-use Rattle.wit_lower.proofs.Shows.{Carries, CarriesSome, CarriesFound, Shows, Lies, lies, shows_below}
+use Rattle.wit_lower.proofs.Shows.{Carries, CarriesSome, CarriesFound, Shows, Lies, lies}
+use Rattle.wit_lower.proofs.Shows.{shows_below}
 use Rattle.wit_lower.proofs.Parts.{Valued, stored_does, wired_does, slots_are}
-use Rattle.wit_lower.proofs.Operators.{Moved, valued_moved, valued_number, valued_later, number_does, either_does, put_number, unless_map, lazy_does}
+use Rattle.wit_lower.proofs.Operators.{Moved, valued_moved, valued_number, valued_later}
+use Rattle.wit_lower.proofs.Operators.{number_does, either_does, put_number, unless_map, lazy_does}
 
 -- arguments of these shapes in a row of slots
 abbrev pub args_of : List (List ℕ) → (f : List ℕ) → (first : ℕ) → List Numbers

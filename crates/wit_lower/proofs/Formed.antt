@@ -1,6 +1,8 @@
 -- Code that is well formed, besides the slots that it names: what else its instructions ask for is
 -- there, and each jump leads on, or back to a Turn.
-use Rattle.std.proofs.Common.{◌≡◌, ℕ, zero, suc, ◌+◌, ◌%◌, ◌<◌, ◌≤◌, Bool, true, false, cond, List, [], ◌∷◌, ◌++◌, length, drop, Option, Some, None, refl, subst, arith, length-append, mod-lt}
+use Rattle.std.proofs.Common.{◌≡◌, ℕ, zero, suc, ◌+◌, ◌%◌, ◌<◌, ◌≤◌, Bool, true, false, cond, List}
+use Rattle.std.proofs.Common.{[], ◌∷◌, ◌++◌, length, drop, Option, Some, None, refl, subst, arith}
+use Rattle.std.proofs.Common.{length-append, mod-lt}
 use Rattle.std.specs.Prelude.{slice_get, ◌==◌}
 use Rattle.gold_field.specs.declared.gold.TheConstants.{P}
 use Rattle.gold_field.specs.declared.operators.Op2.TheVariants as op2
@@ -10,14 +12,20 @@ use Rattle.wit_code.specs.declared.code.Stands.{Stands}
 use Rattle.wit_code.specs.Code.{StandsInStep, StandsInProc, MayRead, MayJump, Leads}
 use Rattle.cir_ast.specs.declared.program.Meant.{Meant}
 use Rattle.cir_ast.specs.declared.program.Meant.TheVariants as meant
-use Rattle.cir_ast.specs.Tree.{Expr, Number, Place, Call, Anonymous, Parentheses, Array, Unary, Binary, Choice, Exprs, none, more, Accessors, done, index, member}
+use Rattle.cir_ast.specs.Tree.{Expr, Number, Place, Call, Anonymous, Parentheses, Array, Unary}
+use Rattle.cir_ast.specs.Tree.{Binary, Choice, Exprs, none, more, Accessors, done, index, member}
 use Rattle.cir_meaning.specs.Places.{elements}
 use Rattle.cir_meaning.specs.Operators.{Operator, Strict, And, Or, operator_of}
 use Rattle.cir_meaning.specs.Costs.{Made}
-use Rattle.wit_lower.specs.Homes.{Home, Homes, Ground, Front, Named, home_of, port_of, component_dims, slots_of}
-use Rattle.wit_lower.specs.Pieces.{Code, unless_zero, either, turned, truth_code, binary_code, decided, lazy_code, choice_code, moves, loads, stores, zeros, bounds, offset_code, read_code, write_code}
-use Rattle.wit_lower.specs.Values.{size_of, shapes_of, expr_code, exprs_code, place_code, indices_code, call_code}
-use Rattle.wit_lower.specs.Fits.{IsCalled, UnlessSkipped, Sides, Fits, AllFit, PlaceFits, IndicesFit}
+use Rattle.wit_lower.specs.Homes.{Home, Homes, Ground, Front, Named, home_of, port_of}
+use Rattle.wit_lower.specs.Homes.{component_dims, slots_of}
+use Rattle.wit_lower.specs.Pieces.{Code, unless_zero, either, turned, truth_code, binary_code}
+use Rattle.wit_lower.specs.Pieces.{decided, lazy_code, choice_code, moves, loads, stores, zeros}
+use Rattle.wit_lower.specs.Pieces.{bounds, offset_code, read_code, write_code}
+use Rattle.wit_lower.specs.Values.{size_of, shapes_of, expr_code, exprs_code, place_code}
+use Rattle.wit_lower.specs.Values.{indices_code, call_code}
+use Rattle.wit_lower.specs.Fits.{IsCalled, UnlessSkipped, Sides, Fits, AllFit, PlaceFits}
+use Rattle.wit_lower.specs.Fits.{IndicesFit}
 use Rattle.wit_lower.proofs.Does.{HasAt, has_front, has_back}
 use Rattle.wit_lower.proofs.Operators.{unless_map}
 use Rattle.wit_lower.proofs.Exprs.{left_at, sides_map}

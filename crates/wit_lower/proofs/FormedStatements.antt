@@ -1,5 +1,6 @@
 -- The code of statements is well formed, and so is that of a step.
-use Rattle.std.proofs.Common.{◌≡◌, ℕ, zero, suc, ◌+◌, List, [], ◌∷◌, ◌++◌, length, Option, Some, None, refl, sym, subst, arith}
+use Rattle.std.proofs.Common.{◌≡◌, ℕ, zero, suc, ◌+◌, List, [], ◌∷◌, ◌++◌, length, Option, Some}
+use Rattle.std.proofs.Common.{None, refl, sym, subst, arith}
 use Rattle.wit_code.specs.declared.code.Op.{Op}
 use Rattle.wit_code.specs.declared.code.Op.TheVariants as op
 use Rattle.wit_code.specs.declared.code.Stands.{Stands}
@@ -8,21 +9,36 @@ use Rattle.wit_code.specs.Code.{StandsInProc}
 use Rattle.cir_ast.specs.declared.program.Spot.{Spot}
 use Rattle.cir_ast.specs.declared.program.Meant.{Meant}
 use Rattle.cir_ast.specs.declared.program.Meant.TheVariants as meant
-use Rattle.cir_ast.specs.Tree.{Expr, Exprs, none, more, Accessors, done, Variable as Declared, Assign, Set, Compound, Left, Increment, Decrement, First, FirstVars, FirstAssign, Simple, Vars, Signals, Declared as DeclaredComponents, Created, Assigned, Constrain, Right, TargetLeft, TargetRight, Alone, Statement, Block, If, IfElse, While, For, Return, Assert, Log, Ended, Statements, empty, then_more}
+use Rattle.cir_ast.specs.Tree.{Expr, Exprs, none, more, Accessors, done, Variable as Declared}
+use Rattle.cir_ast.specs.Tree.{Assign, Set, Compound, Left, Increment, Decrement, First, FirstVars}
+use Rattle.cir_ast.specs.Tree.{FirstAssign, Simple, Vars, Signals, Declared as DeclaredComponents}
+use Rattle.cir_ast.specs.Tree.{Created, Assigned, Constrain, Right, TargetLeft, TargetRight, Alone}
+use Rattle.cir_ast.specs.Tree.{Statement, Block, If, IfElse, While, For, Return, Assert, Log, Ended}
+use Rattle.cir_ast.specs.Tree.{Statements, empty, then_more}
 use Rattle.cir_meaning.specs.Writing.{plain}
 use Rattle.cir_meaning.specs.Reached.{indices_count}
-use Rattle.wit_lower.specs.Homes.{Variable, Home, Homes, Scope, Ground, Named, find, home_of, slots_of}
+use Rattle.wit_lower.specs.Homes.{Variable, Home, Homes, Scope, Ground, Named, find, home_of}
+use Rattle.wit_lower.specs.Homes.{slots_of}
 use Rattle.wit_lower.specs.Pieces.{Code, unless_zero, either, turned, zeros, write_code}
 use Rattle.wit_lower.specs.Values.{size_of, expr_code, indices_code}
-use Rattle.wit_lower.specs.Statements.{set_code, plain_code, assign_code, dims_code, known_dims, declared_scope, variable_scope, value_code, variable_code, variables_code, first_scope, first_code, simple_code, scope_behind, test_code, statement_code, statements_code}
-use Rattle.wit_lower.specs.Fits.{Fits, IndicesFit, PlaceSetFits, PlainFits, DimsFit, ValueFits, DeclaredFits, VariablesFit, FirstFits, SimpleFits, StatementFits, StatementsFit}
-use Rattle.wit_lower.specs.Sources.{Input, Constant, Cell, Source, Sources, scope_of, cells_read, load_code, source_code, sources_code}
-use Rattle.wit_lower.specs.Tasks.{Element, Task, Gives, Equal, Logs, Executes, writes, logs_code, target_code, targets_code, task_code, step_body}
+use Rattle.wit_lower.specs.Statements.{set_code, plain_code, assign_code, dims_code, known_dims}
+use Rattle.wit_lower.specs.Statements.{declared_scope, variable_scope, value_code, variable_code}
+use Rattle.wit_lower.specs.Statements.{variables_code, first_scope, first_code, simple_code}
+use Rattle.wit_lower.specs.Statements.{scope_behind, test_code, statement_code, statements_code}
+use Rattle.wit_lower.specs.Fits.{Fits, IndicesFit, PlaceSetFits, PlainFits, DimsFit, ValueFits}
+use Rattle.wit_lower.specs.Fits.{DeclaredFits, VariablesFit, FirstFits, SimpleFits, StatementFits}
+use Rattle.wit_lower.specs.Fits.{StatementsFit}
+use Rattle.wit_lower.specs.Sources.{Input, Constant, Cell, Source, Sources, scope_of, cells_read}
+use Rattle.wit_lower.specs.Sources.{load_code, source_code, sources_code}
+use Rattle.wit_lower.specs.Tasks.{Element, Task, Gives, Equal, Logs, Executes, writes, logs_code}
+use Rattle.wit_lower.specs.Tasks.{target_code, targets_code, task_code, step_body}
 use Rattle.wit_lower.specs.Steps.{AllTests, TaskFits, IsInput, SourcesFit}
 use Rattle.wit_lower.proofs.Does.{HasAt, has_front, has_back, has_itself}
 use Rattle.wit_lower.proofs.Pieces.{turn_at, test_at}
 use Rattle.wit_lower.proofs.CellsRead.{IsRead, AreRead, all_read, place_less}
-use Rattle.wit_lower.proofs.Formed.{Formed, formed_append, zeros_formed, write_formed, unless_formed, either_formed, turned_formed, expr_formed, indices_formed}
+use Rattle.wit_lower.proofs.Formed.{Formed, formed_append, zeros_formed, write_formed}
+use Rattle.wit_lower.proofs.Formed.{unless_formed, either_formed, turned_formed, expr_formed}
+use Rattle.wit_lower.proofs.Formed.{indices_formed}
 
 module _ (stands : Stands) (body : List Op) (g : Ground) (free : ℕ → Type 0) (Ends : Type 0)
     (ends : Ends → StandsInProc stands) where

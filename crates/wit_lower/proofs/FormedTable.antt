@@ -1,5 +1,6 @@
 -- Procedures are well formed, and a step's code with them.
-use Rattle.std.proofs.Common.{◌≡◌, ℕ, zero, suc, ◌+◌, ◌<◌, ◌≤◌, List, [], ◌∷◌, ◌++◌, length, get_or, Some, refl, sym, ap, subst, ◌∙◌, arith}
+use Rattle.std.proofs.Common.{◌≡◌, ℕ, zero, suc, ◌+◌, ◌<◌, ◌≤◌, List, [], ◌∷◌, ◌++◌, length, get_or}
+use Rattle.std.proofs.Common.{Some, refl, sym, ap, subst, ◌∙◌, arith}
 use Rattle.std.specs.Prelude.{slice_get}
 use Rattle.std.proofs.lemmas.Option.{slice_get-get_or, slice_get_within}
 use Rattle.wit_code.specs.declared.code.Op.{Op}
@@ -13,7 +14,8 @@ use Rattle.cir_meaning.specs.Costs.{Made}
 use Rattle.wit_lower.specs.Homes.{Scope}
 use Rattle.wit_lower.specs.Pieces.{Code, named, most_named}
 use Rattle.wit_lower.specs.Statements.{statements_code}
-use Rattle.wit_lower.specs.Procedures.{arguments_scope, no_scope, function_ground, params_at, IsLowered, HasProcedure, IsTable}
+use Rattle.wit_lower.specs.Procedures.{arguments_scope, no_scope, function_ground, params_at}
+use Rattle.wit_lower.specs.Procedures.{IsLowered, HasProcedure, IsTable}
 use Rattle.wit_lower.specs.Sources.{Sources, cells_read}
 use Rattle.wit_lower.specs.Tasks.{Task, step_ground, step_code}
 use Rattle.wit_lower.specs.Steps.{StepFits}

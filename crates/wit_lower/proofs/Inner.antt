@@ -1,5 +1,6 @@
 -- Code of expressions and statements has no Write, and its jumps stay within it.
-use Rattle.std.proofs.Common.{◌≡◌, ℕ, zero, suc, ◌+◌, ◌%◌, ◌≤◌, Bool, true, false, cond, List, [], ◌∷◌, ◌++◌, length, drop, Option, Some, None, arith, length-append}
+use Rattle.std.proofs.Common.{◌≡◌, ℕ, zero, suc, ◌+◌, ◌%◌, ◌≤◌, Bool, true, false, cond, List, []}
+use Rattle.std.proofs.Common.{◌∷◌, ◌++◌, length, drop, Option, Some, None, arith, length-append}
 use Rattle.std.specs.Prelude.{◌==◌}
 use Rattle.gold_field.specs.declared.gold.TheConstants.{P}
 use Rattle.gold_field.specs.declared.operators.Op2.TheVariants as op2
@@ -8,15 +9,28 @@ use Rattle.wit_code.specs.declared.code.Op.TheVariants as op
 use Rattle.cir_ast.specs.declared.program.Meant.{Meant}
 use Rattle.cir_ast.specs.declared.program.Meant.TheVariants as meant
 use Rattle.cir_ast.specs.declared.program.Spot.{Spot}
-use Rattle.cir_ast.specs.Tree.{Expr, Number, Place, Call, Anonymous, Parentheses, Array, Unary, Binary, Choice, Exprs, none, more, Accessors, done, index, member, Variable as Declared, Assign, Set, Compound, Left, Increment, Decrement, First, FirstVars, FirstAssign, Simple, Vars, Signals, Declared as DeclaredComponents, Created, Assigned, Constrain, Right, TargetLeft, TargetRight, Alone, Statement, Block, If, IfElse, While, For, Return, Assert, Log, Ended, Statements, empty, then_more}
+use Rattle.cir_ast.specs.Tree.{Expr, Number, Place, Call, Anonymous, Parentheses, Array, Unary}
+use Rattle.cir_ast.specs.Tree.{Binary, Choice, Exprs, none, more, Accessors, done, index, member}
+use Rattle.cir_ast.specs.Tree.{Variable as Declared, Assign, Set, Compound, Left, Increment}
+use Rattle.cir_ast.specs.Tree.{Decrement, First, FirstVars, FirstAssign, Simple, Vars, Signals}
+use Rattle.cir_ast.specs.Tree.{Declared as DeclaredComponents, Created, Assigned, Constrain, Right}
+use Rattle.cir_ast.specs.Tree.{TargetLeft, TargetRight, Alone, Statement, Block, If, IfElse, While}
+use Rattle.cir_ast.specs.Tree.{For, Return, Assert, Log, Ended, Statements, empty, then_more}
 use Rattle.cir_meaning.specs.Places.{elements}
 use Rattle.cir_meaning.specs.Operators.{Operator, Strict, And, Or, operator_of}
 use Rattle.cir_meaning.specs.Reached.{indices_count}
 use Rattle.cir_meaning.specs.Writing.{plain}
-use Rattle.wit_lower.specs.Homes.{Home, Homes, Ground, Scope, Front, Named, home_of, port_of, component_dims, slots_of}
-use Rattle.wit_lower.specs.Pieces.{Code, unless_zero, either, turned, truth_code, binary_code, decided, lazy_code, choice_code, moves, loads, stores, zeros, bounds, offset_code, read_code, write_code}
-use Rattle.wit_lower.specs.Values.{size_of, shapes_of, expr_code, exprs_code, place_code, indices_code, call_code}
-use Rattle.wit_lower.specs.Statements.{set_code, plain_code, assign_code, dims_code, known_dims, variable_scope, value_code, variable_code, variables_code, first_scope, first_code, simple_code, scope_behind, test_code, statement_code, statements_code}
+use Rattle.wit_lower.specs.Homes.{Home, Homes, Ground, Scope, Front, Named, home_of, port_of}
+use Rattle.wit_lower.specs.Homes.{component_dims, slots_of}
+use Rattle.wit_lower.specs.Pieces.{Code, unless_zero, either, turned, truth_code, binary_code}
+use Rattle.wit_lower.specs.Pieces.{decided, lazy_code, choice_code, moves, loads, stores, zeros}
+use Rattle.wit_lower.specs.Pieces.{bounds, offset_code, read_code, write_code}
+use Rattle.wit_lower.specs.Values.{size_of, shapes_of, expr_code, exprs_code, place_code}
+use Rattle.wit_lower.specs.Values.{indices_code, call_code}
+use Rattle.wit_lower.specs.Statements.{set_code, plain_code, assign_code, dims_code, known_dims}
+use Rattle.wit_lower.specs.Statements.{variable_scope, value_code, variable_code, variables_code}
+use Rattle.wit_lower.specs.Statements.{first_scope, first_code, simple_code, scope_behind}
+use Rattle.wit_lower.specs.Statements.{test_code, statement_code, statements_code}
 
 abbrev pub IsInner : (low high : ℕ) → Op → Type 0
 IsInner low high (op.Jump to) = (low ≤ to) × (to ≤ high)

@@ -1,25 +1,37 @@
 -- What is known of the numbers of a step holds, whatever it reads.
-use Rattle.std.proofs.Common.{◌≡◌, ℕ, zero, suc, ◌+◌, ◌%◌, ◌^◌, ◌<◌, ◌≤◌, Bool, true, false, cond, not, List, [], ◌∷◌, ◌++◌, length, map, drop, Option, Some, None, Result, Ok, Err, refl, sym, ap, ap₂, subst, ◌∙◌, arith, inl, inr, ◌⊎◌}
+use Rattle.std.proofs.Common.{◌≡◌, ℕ, zero, suc, ◌+◌, ◌%◌, ◌^◌, ◌<◌, ◌≤◌, Bool, true, false, cond}
+use Rattle.std.proofs.Common.{not, List, [], ◌∷◌, ◌++◌, length, map, drop, Option, Some, None}
+use Rattle.std.proofs.Common.{Result, Ok, Err, refl, sym, ap, ap₂, subst, ◌∙◌, arith, inl, inr, ◌⊎◌}
 use Rattle.std.specs.Prelude.{slice_index, unwrap_or, ◌==◌, ◌&&◌}
 use Rattle.std.proofs.Math.Nat.{pow-zero}
 use Rattle.std.specs.List.{list_any}
 use Rattle.std.proofs.lemmas.Bool.{and_parts, eqb-true}
 use Rattle.gold_field.specs.declared.gold.TheConstants.{P}
 use Rattle.gold_field.specs.declared.operators.Op2.{Op2}
-use Rattle.gold_field.specs.declared.operators.Op2.TheVariants.{Add, Sub, Mul, Div, Quot, Rem, Pow, Shl, Shr, And as BitAnd, Xor, Or as BitOr, Lt, Le, Gt, Ge, Eq, Ne}
+use Rattle.gold_field.specs.declared.operators.Op2.TheVariants.{Add, Sub, Mul, Div, Quot, Rem, Pow}
+use Rattle.gold_field.specs.declared.operators.Op2.TheVariants.{Shl, Shr, And as BitAnd, Xor}
+use Rattle.gold_field.specs.declared.operators.Op2.TheVariants.{Or as BitOr, Lt, Le, Gt, Ge, Eq, Ne}
 use Rattle.gold_field.specs.Operators.{unary_of as number_by, binary_of}
 use Rattle.cir_ast.specs.declared.program.Meant.{Meant}
 use Rattle.cir_ast.specs.declared.program.Meant.TheVariants as meant
-use Rattle.cir_ast.specs.Tree.{Expr, Number, Place, Call, Anonymous, Parentheses, Array, Unary, Binary, Choice, Accessors, done, index, member}
+use Rattle.cir_ast.specs.Tree.{Expr, Number, Place, Call, Anonymous, Parentheses, Array, Unary}
+use Rattle.cir_ast.specs.Tree.{Binary, Choice, Accessors, done, index, member}
 use Rattle.cir_meaning.specs.Tried.{next}
-use Rattle.cir_meaning.specs.Places.{elements, is_inside, all_known, left_of, places_of, numbers_from}
+use Rattle.cir_meaning.specs.Places.{elements, is_inside, all_known, left_of, places_of}
+use Rattle.cir_meaning.specs.Places.{numbers_from}
 use Rattle.cir_meaning.specs.Arrays.{single, made}
 use Rattle.cir_meaning.specs.Operators.{Operator, Strict, And, Or, operator_of, unary_of}
 use Rattle.cir_meaning.specs.Values.{truth_number}
-use Rattle.cir_meaning.specs.RunValues.{Ran, Numbers, Environment, Store, stored, gives, number, number_in, place_in, RunNamed, read_stored, read_root, the_number, when, needs_right, result_number, unless_zero_divisor, index_out}
+use Rattle.cir_meaning.specs.RunValues.{Ran, Numbers, Environment, Store, stored, gives, number}
+use Rattle.cir_meaning.specs.RunValues.{number_in, place_in, RunNamed, read_stored, read_root}
+use Rattle.cir_meaning.specs.RunValues.{the_number, when, needs_right, result_number}
+use Rattle.cir_meaning.specs.RunValues.{unless_zero_divisor, index_out}
 use Rattle.wit_lower.specs.Homes.{Variable, Home, find, offset, slots_of}
-use Rattle.wit_lower.specs.Sources.{Input, Constant, Cell, Sources, scope_of, input_of, number_from, read_at, environment_of, all_numbers, store_of}
-use Rattle.wit_lower.specs.Known.{constant_of, element_known, variable_known, unary_known, both_known, power_known, strict_known, binary_known, choice_known, number_known, place_known}
+use Rattle.wit_lower.specs.Sources.{Input, Constant, Cell, Sources, scope_of, input_of, number_from}
+use Rattle.wit_lower.specs.Sources.{read_at, environment_of, all_numbers, store_of}
+use Rattle.wit_lower.specs.Known.{constant_of, element_known, variable_known, unary_known}
+use Rattle.wit_lower.specs.Known.{both_known, power_known, strict_known, binary_known, choice_known}
+use Rattle.wit_lower.specs.Known.{number_known, place_known}
 use Rattle.wit_lower.specs.Steps.{ShapesFit, SourcesFit}
 use Rattle.wit_lower.proofs.Places.{checked, checked_is, checked_fits, left_is, places_are}
 use Rattle.wit_lower.proofs.Shows.{Lies, lies}

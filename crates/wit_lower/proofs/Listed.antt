@@ -1,16 +1,25 @@
 -- A statement assigns and declares no variables but those that it lists.
-use Rattle.std.proofs.Common.{◌≡◌, ℕ, Bool, true, false, List, [], ◌∷◌, ◌++◌, Option, Some, None, refl, sym, subst}
+use Rattle.std.proofs.Common.{◌≡◌, ℕ, Bool, true, false, List, [], ◌∷◌, ◌++◌, Option, Some, None}
+use Rattle.std.proofs.Common.{refl, sym, subst}
 use Rattle.std.specs.Prelude.{◌==◌, ◌||◌}
 use Rattle.std.specs.List.{list_any}
 use Rattle.std.proofs.lemmas.Bool.{eq-eqb, or_left, or_right}
 use Rattle.cir_ast.specs.declared.program.Spot.{Spot}
 use Rattle.cir_ast.specs.declared.program.Meant.{Meant}
 use Rattle.cir_ast.specs.declared.program.Meant.TheVariants as meant
-use Rattle.cir_ast.specs.Tree.{Expr, Accessors, done, Variable as Declared, Assign, Set, Compound, Left, Increment, Decrement, First, FirstVars, FirstAssign, Simple, Vars, Signals, Declared as DeclaredComponents, Created, Assigned, Constrain, Right, TargetLeft, TargetRight, Alone, Statement, Block, If, IfElse, While, For, Return, Assert, Log, Ended, Statements, empty, then_more}
-use Rattle.cir_meaning.specs.Unknown.{variable_of, assign_writes, first_writes, simple_writes, writes, all_writes, vars_declare, first_declares, simple_declares, declares, all_declares}
+use Rattle.cir_ast.specs.Tree.{Expr, Accessors, done, Variable as Declared, Assign, Set, Compound}
+use Rattle.cir_ast.specs.Tree.{Left, Increment, Decrement, First, FirstVars, FirstAssign, Simple}
+use Rattle.cir_ast.specs.Tree.{Vars, Signals, Declared as DeclaredComponents, Created, Assigned}
+use Rattle.cir_ast.specs.Tree.{Constrain, Right, TargetLeft, TargetRight, Alone, Statement, Block}
+use Rattle.cir_ast.specs.Tree.{If, IfElse, While, For, Return, Assert, Log, Ended, Statements}
+use Rattle.cir_ast.specs.Tree.{empty, then_more}
+use Rattle.cir_meaning.specs.Unknown.{variable_of, assign_writes, first_writes, simple_writes}
+use Rattle.cir_meaning.specs.Unknown.{writes, all_writes, vars_declare, first_declares}
+use Rattle.cir_meaning.specs.Unknown.{simple_declares, declares, all_declares}
 use Rattle.wit_lower.specs.Homes.{Homes, Scope, Ground}
 use Rattle.wit_lower.specs.Known.{changes}
-use Rattle.wit_lower.specs.Fits.{PlaceSetFits, AssignFits, ValueFits, DeclaredFits, VariablesFit, FirstFits, SimpleFits, StatementFits, StatementsFit}
+use Rattle.wit_lower.specs.Fits.{PlaceSetFits, AssignFits, ValueFits, DeclaredFits, VariablesFit}
+use Rattle.wit_lower.specs.Fits.{FirstFits, SimpleFits, StatementFits, StatementsFit}
 use Rattle.wit_lower.specs.Statements.{variable_scope, first_scope, scope_behind}
 
 abbrev pub In : ℕ → List ℕ → Type 0

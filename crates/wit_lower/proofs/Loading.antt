@@ -1,5 +1,7 @@
 -- The sources are loaded, and then the step does its task.
-use Rattle.std.proofs.Common.{◌≡◌, ℕ, zero, suc, ◌+◌, ◌<◌, ◌≤◌, true, false, List, [], ◌∷◌, ◌++◌, length, map, replicate, Option, Some, None, Result, refl, sym, ap, subst, ◌∙◌, arith, length-append, length-set}
+use Rattle.std.proofs.Common.{◌≡◌, ℕ, zero, suc, ◌+◌, ◌<◌, ◌≤◌, true, false, List, [], ◌∷◌, ◌++◌}
+use Rattle.std.proofs.Common.{length, map, replicate, Option, Some, None, Result, refl, sym, ap}
+use Rattle.std.proofs.Common.{subst, ◌∙◌, arith, length-append, length-set}
 use Rattle.std.specs.Prelude.{slice_get, slice_index, slice_set, ◌==◌}
 use Rattle.std.specs.List.{list_any}
 use Rattle.std.proofs.lemmas.List.{length-replicate}
@@ -21,11 +23,14 @@ use Rattle.cir_meaning.specs.RunStatements.{run_call}
 use Rattle.wit_lower.specs.Homes.{Variable, Home, Homes, Scope, Ground, find}
 use Rattle.wit_lower.specs.Pieces.{Code}
 use Rattle.wit_lower.specs.Procedures.{IsTable, params_at}
-use Rattle.wit_lower.specs.Sources.{Input, Constant, Cell, Source, Sources, scope_of, cells_read, place_of, load_code, source_code, sources_code, number_at, signal_at, environment_of, all_numbers, store_of}
+use Rattle.wit_lower.specs.Sources.{Input, Constant, Cell, Source, Sources, scope_of, cells_read}
+use Rattle.wit_lower.specs.Sources.{place_of, load_code, source_code, sources_code, number_at}
+use Rattle.wit_lower.specs.Sources.{signal_at, environment_of, all_numbers, store_of}
 use Rattle.wit_lower.specs.Known.{changes}
 use Rattle.wit_lower.specs.Fits.{AreLaid}
 use Rattle.wit_lower.specs.Steps.{TaskFits, StepFits}
-use Rattle.wit_lower.specs.Tasks.{Element, Task, Gives, Equal, Logs, Executes, done_by, changed_by, step_ground, task_code, step_code, meant_by, IsOutcome}
+use Rattle.wit_lower.specs.Tasks.{Element, Task, Gives, Equal, Logs, Executes, done_by, changed_by}
+use Rattle.wit_lower.specs.Tasks.{step_ground, task_code, step_code, meant_by, IsOutcome}
 use Rattle.wit_lower.proofs.Does.{Setting, Does, HasAt, has_front, has_back, has_itself}
 use Rattle.wit_lower.proofs.Spots.{Spot, here, body_at, IsWide, op_goes, at_place}
 use Rattle.wit_lower.proofs.Shows.{Shows, KnownAt}

@@ -1,6 +1,8 @@
 -- Operators: strict ones, and those of which the left side tells whether the right one is looked
 -- at.
-use Rattle.std.proofs.Common.{◌≡◌, ℕ, ◌+◌, ◌<◌, ◌≤◌, max, Bool, true, false, cond, not, List, [], ◌∷◌, ◌++◌, length, Option, Some, None, Result, Ok, refl, sym, ap, subst, ◌∙◌, arith, length-set, length-append}
+use Rattle.std.proofs.Common.{◌≡◌, ℕ, ◌+◌, ◌<◌, ◌≤◌, max, Bool, true, false, cond, not, List, []}
+use Rattle.std.proofs.Common.{◌∷◌, ◌++◌, length, Option, Some, None, Result, Ok, refl, sym, ap}
+use Rattle.std.proofs.Common.{subst, ◌∙◌, arith, length-set, length-append}
 use Rattle.std.specs.Prelude.{slice_get, slice_index, slice_set, ◌==◌}
 use Rattle.std.proofs.lemmas.Bool.{eqb-true}
 use Rattle.gold_field.specs.declared.operators.Op1.TheVariants as op1
@@ -13,10 +15,13 @@ use Rattle.cir_meaning.specs.Tried.{next}
 use Rattle.cir_meaning.specs.Arrays.{single}
 use Rattle.cir_meaning.specs.Values.{truth_number}
 use Rattle.cir_meaning.specs.Operators.{Operator, Strict, And, Or}
-use Rattle.cir_meaning.specs.RunValues.{Ran, Numbers, gives, number, the_number, when, needs_right, result_number, unless_zero_divisor}
-use Rattle.wit_lower.specs.Pieces.{Code, unless_zero, either, truth_code, binary_code, decided, lazy_code}
+use Rattle.cir_meaning.specs.RunValues.{Ran, Numbers, gives, number, the_number, when, needs_right}
+use Rattle.cir_meaning.specs.RunValues.{result_number, unless_zero_divisor}
+use Rattle.wit_lower.specs.Pieces.{Code, unless_zero, either, truth_code, binary_code, decided}
+use Rattle.wit_lower.specs.Pieces.{lazy_code}
 use Rattle.wit_lower.specs.Fits.{UnlessSkipped}
-use Rattle.wit_lower.proofs.Does.{Setting, takes, Does, does_next, does_on, does_same, gives as there, goes, stops, HasAt, has_front, has_back}
+use Rattle.wit_lower.proofs.Does.{Setting, takes, Does, does_next, does_on, does_same}
+use Rattle.wit_lower.proofs.Does.{gives as there, goes, stops, HasAt, has_front, has_back}
 use Rattle.wit_lower.proofs.Frames.{set_same, Below, below_itself, below_then, below_set}
 use Rattle.wit_lower.proofs.Spots.{Spot, here, body_at, IsWide, step_at, op_goes, at_state}
 use Rattle.wit_lower.proofs.Parts.{Valued}

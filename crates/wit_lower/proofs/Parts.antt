@@ -1,5 +1,7 @@
 -- A part of an array that is read comes to the free slots.
-use Rattle.std.proofs.Common.{◌≡◌, ℕ, zero, suc, ◌+◌, ◌<◌, ◌≤◌, Bool, true, false, cond, List, [], ◌++◌, length, map, drop, Option, Some, Result, Ok, Err, refl, sym, ap, ap₂, subst, ◌∙◌, arith, length-append, inl, inr, ◌⊎◌}
+use Rattle.std.proofs.Common.{◌≡◌, ℕ, zero, suc, ◌+◌, ◌<◌, ◌≤◌, Bool, true, false, cond, List, []}
+use Rattle.std.proofs.Common.{◌++◌, length, map, drop, Option, Some, Result, Ok, Err, refl, sym, ap}
+use Rattle.std.proofs.Common.{ap₂, subst, ◌∙◌, arith, length-append, inl, inr, ◌⊎◌}
 use Rattle.std.specs.Prelude.{slice_index, unwrap_or, max, fold}
 use Rattle.std.proofs.lemmas.Bool.{ltb-false}
 use Rattle.gold_field.specs.declared.gold.TheConstants.{P}
@@ -9,11 +11,14 @@ use Rattle.cir_meaning.specs.Tried.{next}
 use Rattle.cir_meaning.specs.Places.{elements, is_inside, numbers_from}
 use Rattle.cir_meaning.specs.Limits.{is_too_large}
 use Rattle.cir_meaning.specs.Arrays.{Shaped, made}
-use Rattle.cir_meaning.specs.RunValues.{Ran, Numbers, gives, bounded, index_out, read_stored, read_wired, option_at, all_there}
+use Rattle.cir_meaning.specs.RunValues.{Ran, Numbers, gives, bounded, index_out, read_stored}
+use Rattle.cir_meaning.specs.RunValues.{read_wired, option_at, all_there}
 use Rattle.wit_lower.specs.Homes.{Home, slots_of, offset, row}
 use Rattle.wit_lower.specs.Pieces.{moves, loads, offset_code, read_code}
-use Rattle.wit_lower.proofs.Does.{Setting, Does, does_next, does_same, gives as there, misses, HasAt, has_front, has_back}
-use Rattle.wit_lower.proofs.Frames.{Below, below_then, copied_below, row_got, row_part, row_length, row_below}
+use Rattle.wit_lower.proofs.Does.{Setting, Does, does_next, does_same, gives as there, misses}
+use Rattle.wit_lower.proofs.Does.{HasAt, has_front, has_back}
+use Rattle.wit_lower.proofs.Frames.{Below, below_then, copied_below, row_got, row_part, row_length}
+use Rattle.wit_lower.proofs.Frames.{row_below}
 use Rattle.wit_lower.proofs.Places.{checked, checked_is, checked_fits, left_is, places_are}
 use Rattle.wit_lower.proofs.Spots.{Spot, here, body_at, IsWide, at_state}
 use Rattle.wit_lower.proofs.Pieces.{moves_go, loads_go, offset_does, Offset}

@@ -1,5 +1,8 @@
 -- What the pieces of code do that copy numbers, test indices and find places.
-use Rattle.std.proofs.Common.{◌≡◌, ℕ, zero, suc, ◌+◌, ◌*◌, ◌%◌, ◌<◌, ◌≤◌, max, Bool, true, false, cond, List, [], ◌∷◌, length, map, Some, Result, Ok, Err, refl, sym, ap, ap₂, subst, ◌∙◌, arith, length-set, length-append, inl, inr, ◌⊎◌, mod-eq_of_lt, mul-le-mul_right, suc-mul, mul-one}
+use Rattle.std.proofs.Common.{◌≡◌, ℕ, zero, suc, ◌+◌, ◌*◌, ◌%◌, ◌<◌, ◌≤◌, max, Bool, true, false}
+use Rattle.std.proofs.Common.{cond, List, [], ◌∷◌, length, map, Some, Result, Ok, Err, refl, sym}
+use Rattle.std.proofs.Common.{ap, ap₂, subst, ◌∙◌, arith, length-set, length-append, inl, inr, ◌⊎◌}
+use Rattle.std.proofs.Common.{mod-eq_of_lt, mul-le-mul_right, suc-mul, mul-one}
 use Rattle.std.specs.Prelude.{slice_index, slice_set, nat_lt, ◌==◌, ◌&&◌}
 use Rattle.std.proofs.lemmas.Bool.{cases_lt, ltb-true, lt-ltb, eqb-true}
 use Rattle.gold_field.specs.declared.gold.TheConstants.{P}
@@ -13,10 +16,13 @@ use Rattle.cir_meaning.specs.Places.{elements, is_inside}
 use Rattle.cir_meaning.specs.RunValues.{index_out}
 use Rattle.wit_lower.specs.Homes.{row}
 use Rattle.wit_lower.specs.Pieces.{turned, moves, loads, stores, zeros, bounds, offset_code}
-use Rattle.wit_lower.proofs.Does.{Setting, Does, does_need, does_next, does_same, gives, HasAt, has_front, has_back}
-use Rattle.wit_lower.proofs.Frames.{set_same, set_other, Below, below_itself, below_then, below_set, Copied, copied_none, row_length}
+use Rattle.wit_lower.proofs.Does.{Setting, Does, does_need, does_next, does_same, gives, HasAt}
+use Rattle.wit_lower.proofs.Does.{has_front, has_back}
+use Rattle.wit_lower.proofs.Frames.{set_same, set_other, Below, below_itself, below_then, below_set}
+use Rattle.wit_lower.proofs.Frames.{Copied, copied_none, row_length}
 use Rattle.wit_lower.proofs.Places.{checked, checked_fits}
-use Rattle.wit_lower.proofs.Spots.{Spot, here, body_at, IsWide, step_at, op_goes, at_place, at_state}
+use Rattle.wit_lower.proofs.Spots.{Spot, here, body_at, IsWide, step_at, op_goes, at_place}
+use Rattle.wit_lower.proofs.Spots.{at_state}
 
 -- the last of a row is copied first
 copied_more : (f g : List ℕ) (to from n : ℕ) → to + n < length f

@@ -1,5 +1,7 @@
 -- What a frame shows where a variable is assigned or declared, and where a scope ends.
-use Rattle.std.proofs.Common.{◌≡◌, ℕ, ◌+◌, ◌-◌, ◌<◌, ◌≤◌, Bool, true, false, cond, List, ◌∷◌, length, Option, Some, None, refl, sym, ap, subst, ◌∙◌, arith, inl, inr, ◌⊎◌, get_or-set_same, get_or-set_other, ext_get_or}
+use Rattle.std.proofs.Common.{◌≡◌, ℕ, ◌+◌, ◌-◌, ◌<◌, ◌≤◌, Bool, true, false, cond, List, ◌∷◌}
+use Rattle.std.proofs.Common.{length, Option, Some, None, refl, sym, ap, subst, ◌∙◌, arith, inl}
+use Rattle.std.proofs.Common.{inr, ◌⊎◌, get_or-set_same, get_or-set_other, ext_get_or}
 use Rattle.std.specs.Prelude.{slice_index, slice_set}
 use Rattle.std.proofs.lemmas.Bool.{cases_lt, cases_eq, eqb-true, eqb-false}
 use Rattle.std.proofs.lemmas.Option.{unwrap_or-slice_get}
@@ -9,9 +11,11 @@ use Rattle.cir_meaning.specs.Places.{numbers_from}
 use Rattle.cir_meaning.specs.Limits.{is_too_large}
 use Rattle.cir_meaning.specs.Arrays.{single, put_items}
 use Rattle.cir_meaning.specs.RunValues.{Numbers, Environment, Store, stored}
-use Rattle.wit_lower.specs.Homes.{Name, Variable, Signal, Port, same_name, Home, Homes, Scope, Ground, find, slots_of, row, with_variable}
+use Rattle.wit_lower.specs.Homes.{Name, Variable, Signal, Port, same_name, Home, Homes, Scope}
+use Rattle.wit_lower.specs.Homes.{Ground, find, slots_of, row, with_variable}
 use Rattle.wit_lower.specs.Fits.{AreLaid}
-use Rattle.wit_lower.proofs.Frames.{Copied, row_from, row_index, row_length, row_below, put_length, put_other, put_there}
+use Rattle.wit_lower.proofs.Frames.{Copied, row_from, row_index, row_length, row_below, put_length}
+use Rattle.wit_lower.proofs.Frames.{put_other, put_there}
 use Rattle.wit_lower.proofs.Pieces.{Zeroed}
 use Rattle.wit_lower.proofs.Shows.{Held, Shows, KnownAt, Lies, lies}
 use Rattle.wit_lower.proofs.Names.{same_name_is, apart}

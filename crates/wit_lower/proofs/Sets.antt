@@ -1,23 +1,28 @@
 -- Assignments and declarations do what they mean.
-use Rattle.std.proofs.Common.{◌≡◌, ℕ, zero, suc, ◌+◌, ◌<◌, ◌≤◌, Bool, true, false, cond, List, [], ◌∷◌, ◌++◌, length, drop, Option, Some, refl, sym, ap, ap₂, subst, ◌∙◌, arith, length-append, inl}
+use Rattle.std.proofs.Common.{◌≡◌, ℕ, zero, suc, ◌+◌, ◌<◌, ◌≤◌, Bool, true, false, cond, List, []}
+use Rattle.std.proofs.Common.{◌∷◌, ◌++◌, length, drop, Option, Some, refl, sym, ap, ap₂, subst, ◌∙◌}
+use Rattle.std.proofs.Common.{arith, length-append, inl}
 use Rattle.std.specs.Prelude.{slice_index, slice_set}
 use Rattle.wit_code.specs.Table.{State}
 use Rattle.cir_ast.specs.declared.program.Meant.{Meant}
 use Rattle.cir_ast.specs.declared.program.Meant.TheVariants as meant
-use Rattle.cir_ast.specs.Tree.{Expr, Accessors, done, index, member, Assign, Set, Compound, Left, Increment, Decrement}
+use Rattle.cir_ast.specs.Tree.{Expr, Accessors, done, index, member, Assign, Set, Compound, Left}
+use Rattle.cir_ast.specs.Tree.{Increment, Decrement}
 use Rattle.cir_meaning.specs.Tried.{next}
 use Rattle.cir_meaning.specs.Places.{elements, numbers_from}
 use Rattle.cir_meaning.specs.Limits.{is_too_large}
 use Rattle.cir_meaning.specs.Arrays.{put_items}
 use Rattle.cir_meaning.specs.Reached.{indices_count}
-use Rattle.cir_meaning.specs.RunValues.{Ran, Numbers, Environment, Store, stored, gives, number_in, index_numbers, bounded}
+use Rattle.cir_meaning.specs.RunValues.{Ran, Numbers, Environment, Store, stored, gives, number_in}
+use Rattle.cir_meaning.specs.RunValues.{index_numbers, bounded}
 use Rattle.cir_meaning.specs.RunStatements.{step_set, step_plain}
 use Rattle.wit_lower.specs.Homes.{Variable, Home, Homes, Scope, Ground, find, slots_of, row}
 use Rattle.wit_lower.specs.Pieces.{Code, moves, stores, offset_code, write_code}
 use Rattle.wit_lower.specs.Values.{shape_of, size_of, expr_code, indices_code}
 use Rattle.wit_lower.specs.Statements.{set_code, plain_code}
 use Rattle.wit_lower.specs.Fits.{AreLaid, IndicesFit, SetFits, PlainFits}
-use Rattle.wit_lower.proofs.Does.{Setting, Does, does_next, does_same, does_weaker, gives as there, HasAt, has_front, has_back}
+use Rattle.wit_lower.proofs.Does.{Setting, Does, does_next, does_same, does_weaker, gives as there}
+use Rattle.wit_lower.proofs.Does.{HasAt, has_front, has_back}
 use Rattle.wit_lower.proofs.Frames.{Below, below_itself, below_then, Copied, row_below, row_length}
 use Rattle.wit_lower.proofs.Places.{checked, checked_fits}
 use Rattle.wit_lower.proofs.Spots.{Spot, here, body_at, IsWide, at_state, at_place}

@@ -1,15 +1,22 @@
 -- The frame shows what the step reads, once its sources are loaded.
-use Rattle.std.proofs.Common.{◌≡◌, ℕ, zero, suc, ◌+◌, ◌<◌, ◌≤◌, Bool, true, false, cond, List, [], ◌∷◌, ◌++◌, length, map, replicate, Option, Some, None, Err, refl, sym, ap, ap₂, subst, ◌∙◌, arith, length-set, inl, inr}
+use Rattle.std.proofs.Common.{◌≡◌, ℕ, zero, suc, ◌+◌, ◌<◌, ◌≤◌, Bool, true, false, cond, List, []}
+use Rattle.std.proofs.Common.{◌∷◌, ◌++◌, length, map, replicate, Option, Some, None, Err, refl, sym}
+use Rattle.std.proofs.Common.{ap, ap₂, subst, ◌∙◌, arith, length-set, inl, inr}
 use Rattle.std.specs.Prelude.{slice_get, slice_index, slice_set, unwrap_or, ◌==◌, ◌&&◌}
 use Rattle.std.proofs.lemmas.Bool.{and_parts, eqb-true, eqb-false}
 use Rattle.std.proofs.lemmas.List.{length-replicate}
 use Rattle.wit_code.specs.declared.code.Op.{Op}
 use Rattle.cir_meaning.specs.Places.{is_inside, numbers_from}
 use Rattle.cir_meaning.specs.Arrays.{single}
-use Rattle.cir_meaning.specs.RunValues.{Ran, Numbers, Environment, Store, stored, option_at, index_out}
+use Rattle.cir_meaning.specs.RunValues.{Ran, Numbers, Environment, Store, stored, option_at}
+use Rattle.cir_meaning.specs.RunValues.{index_out}
 use Rattle.cir_meaning.specs.RunBodies.{or_else}
-use Rattle.wit_lower.specs.Homes.{Name, Variable, Signal, Port, same_name, Home, Homes, Scope, Ground, find, slots_of, offset, row}
-use Rattle.wit_lower.specs.Sources.{Shape, Input, Constant, Cell, Source, Sources, homes_from, scope_of, load_code, source_code, sources_code, input_of, number_at, number_from, read_as, read_at, signal_at, or_missing, environment_of, all_numbers, store_of}
+use Rattle.wit_lower.specs.Homes.{Name, Variable, Signal, Port, same_name, Home, Homes, Scope}
+use Rattle.wit_lower.specs.Homes.{Ground, find, slots_of, offset, row}
+use Rattle.wit_lower.specs.Sources.{Shape, Input, Constant, Cell, Source, Sources, homes_from}
+use Rattle.wit_lower.specs.Sources.{scope_of, load_code, source_code, sources_code, input_of}
+use Rattle.wit_lower.specs.Sources.{number_at, number_from, read_as, read_at, signal_at, or_missing}
+use Rattle.wit_lower.specs.Sources.{environment_of, all_numbers, store_of}
 use Rattle.wit_lower.specs.Fits.{AreLaid}
 use Rattle.wit_lower.specs.Steps.{IsBelow, ShapesFit, SourcesFit}
 use Rattle.wit_lower.proofs.Does.{HasAt}

@@ -1,5 +1,7 @@
 -- A frame shows what names mean: each home has the elements of its variable or signal.
-use Rattle.std.proofs.Common.{◌≡◌, ℕ, zero, suc, ◌+◌, ◌<◌, ◌≤◌, Bool, true, false, cond, List, [], ◌∷◌, length, map, Option, Some, None, Result, Ok, Err, refl, sym, ap, ap₂, subst, ◌∙◌, arith, inl, inr, ◌⊎◌}
+use Rattle.std.proofs.Common.{◌≡◌, ℕ, zero, suc, ◌+◌, ◌<◌, ◌≤◌, Bool, true, false, cond, List, []}
+use Rattle.std.proofs.Common.{◌∷◌, length, map, Option, Some, None, Result, Ok, Err, refl, sym, ap}
+use Rattle.std.proofs.Common.{ap₂, subst, ◌∙◌, arith, inl, inr, ◌⊎◌}
 use Rattle.std.specs.Prelude.{slice_index}
 use Rattle.cir_ast.specs.declared.program.Meant.{Meant}
 use Rattle.cir_ast.specs.Tree.{Expr}
@@ -7,8 +9,10 @@ use Rattle.cir_meaning.specs.Tried.{next}
 use Rattle.cir_meaning.specs.Places.{is_inside, numbers_from}
 use Rattle.cir_meaning.specs.Arrays.{Shaped}
 use Rattle.cir_meaning.specs.Limits.{is_too_large}
-use Rattle.cir_meaning.specs.RunValues.{Numbers, Environment, Store, stored, number_in, the_number, option_at, all_there, index_out}
-use Rattle.wit_lower.specs.Homes.{Name, Variable, Signal, Port, same_name, Home, Homes, Ground, find, slots_of, offset, row}
+use Rattle.cir_meaning.specs.RunValues.{Numbers, Environment, Store, stored, number_in, the_number}
+use Rattle.cir_meaning.specs.RunValues.{option_at, all_there, index_out}
+use Rattle.wit_lower.specs.Homes.{Name, Variable, Signal, Port, same_name, Home, Homes, Ground}
+use Rattle.wit_lower.specs.Homes.{find, slots_of, offset, row}
 use Rattle.wit_lower.specs.Fits.{AreLaid}
 use Rattle.wit_lower.proofs.Frames.{Below, row_below, row_index, row_length}
 

@@ -1,6 +1,8 @@
 -- The code of a statement does what the statement means: it goes on with new numbers of variables,
 -- leaves its function, or stops.
-use Rattle.std.proofs.Common.{◌≡◌, ℕ, zero, suc, ◌+◌, ◌-◌, ◌<◌, ◌≤◌, Bool, true, false, cond, not, List, [], ◌∷◌, ◌++◌, length, Some, Ok, Err, refl, sym, ap, ap₂, subst, ◌∙◌, arith, length-append}
+use Rattle.std.proofs.Common.{◌≡◌, ℕ, zero, suc, ◌+◌, ◌-◌, ◌<◌, ◌≤◌, Bool, true, false, cond, not}
+use Rattle.std.proofs.Common.{List, [], ◌∷◌, ◌++◌, length, Some, Ok, Err, refl, sym, ap, ap₂, subst}
+use Rattle.std.proofs.Common.{◌∙◌, arith, length-append}
 use Rattle.std.specs.Prelude.{slice_get, slice_index, slice_set, ◌==◌}
 use Rattle.std.proofs.lemmas.Bool.{lt-ltb}
 use Rattle.wit_code.specs.declared.code.Op.TheVariants as op
@@ -9,17 +11,27 @@ use Rattle.wit_code.specs.Frames.{Open}
 use Rattle.wit_code.specs.Table.{State, Goes, unless, answer}
 use Rattle.cir_ast.specs.declared.program.Spot.{Spot as Place}
 use Rattle.cir_ast.specs.declared.program.Meant.{Meant}
-use Rattle.cir_ast.specs.Tree.{Expr, First, FirstVars, FirstAssign, Simple, Vars, Signals, Declared as DeclaredComponents, Created, Assigned, Constrain, Right, TargetLeft, TargetRight, Alone, Statement, Block, If, IfElse, While, For, Return, Assert, Log, Ended, Statements, empty, then_more}
+use Rattle.cir_ast.specs.Tree.{Expr, First, FirstVars, FirstAssign, Simple, Vars, Signals}
+use Rattle.cir_ast.specs.Tree.{Declared as DeclaredComponents, Created, Assigned, Constrain, Right}
+use Rattle.cir_ast.specs.Tree.{TargetLeft, TargetRight, Alone, Statement, Block, If, IfElse, While}
+use Rattle.cir_ast.specs.Tree.{For, Return, Assert, Log, Ended, Statements, empty, then_more}
 use Rattle.cir_meaning.specs.Tried.{next}
 use Rattle.cir_meaning.specs.Writing.{plain}
-use Rattle.cir_meaning.specs.RunValues.{Ran, Numbers, Environment, Store, gives, number_in, the_number, assert_fails}
-use Rattle.cir_meaning.specs.RunStatements.{StepFlow, StepGoing, StepReturned, step_goes, step_going, spend, step_assign, step_first, step_simple, step_turns, step_statement, step_statements}
+use Rattle.cir_meaning.specs.RunValues.{Ran, Numbers, Environment, Store, gives, number_in}
+use Rattle.cir_meaning.specs.RunValues.{the_number, assert_fails}
+use Rattle.cir_meaning.specs.RunStatements.{StepFlow, StepGoing, StepReturned, step_goes}
+use Rattle.cir_meaning.specs.RunStatements.{step_going, spend, step_assign, step_first, step_simple}
+use Rattle.cir_meaning.specs.RunStatements.{step_turns, step_statement, step_statements}
 use Rattle.wit_lower.specs.Homes.{Homes, Scope, Ground}
 use Rattle.wit_lower.specs.Pieces.{Code, unless_zero, either, turned}
 use Rattle.wit_lower.specs.Values.{shape_of, expr_code}
-use Rattle.wit_lower.specs.Statements.{assign_code, first_scope, first_code, simple_code, simple_scope, scope_behind, test_code, statement_code, statements_code}
-use Rattle.wit_lower.specs.Fits.{AreLaid, TestFits, FirstFits, SimpleFits, StatementFits, StatementsFit}
-use Rattle.wit_lower.proofs.Does.{Setting, takes, Does, does_next, does_on, does_weaker, gives as there, goes, stops, HasAt, has_front, has_back}
+use Rattle.wit_lower.specs.Statements.{assign_code, first_scope, first_code, simple_code}
+use Rattle.wit_lower.specs.Statements.{simple_scope, scope_behind, test_code, statement_code}
+use Rattle.wit_lower.specs.Statements.{statements_code}
+use Rattle.wit_lower.specs.Fits.{AreLaid, TestFits, FirstFits, SimpleFits, StatementFits}
+use Rattle.wit_lower.specs.Fits.{StatementsFit}
+use Rattle.wit_lower.proofs.Does.{Setting, takes, Does, does_next, does_on, does_weaker}
+use Rattle.wit_lower.proofs.Does.{gives as there, goes, stops, HasAt, has_front, has_back}
 use Rattle.wit_lower.proofs.Spots.{Spot, here, body_at, IsWide, step_at, op_goes, at_state}
 use Rattle.wit_lower.proofs.Pieces.{turn_at}
 use Rattle.wit_lower.proofs.Shows.{Shows, KnownAt, shows_below}

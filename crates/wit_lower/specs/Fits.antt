@@ -1,13 +1,19 @@
 -- What has to fit in a statement so that it has code: names have homes, shapes fit, and calls have
 -- their keys.
-use Rattle.std.specs.Prelude.{◌≡◌, ℕ, zero, suc, ◌+◌, ◌≤◌, false, List, [], ◌∷◌, ◌++◌, length, drop, Option, Some, None, slice_get}
+use Rattle.std.specs.Prelude.{◌≡◌, ℕ, zero, suc, ◌+◌, ◌≤◌, false, List, [], ◌∷◌, ◌++◌, length, drop}
+use Rattle.std.specs.Prelude.{Option, Some, None, slice_get}
 use Rattle.cir_ast.specs.declared.program.Spot.{Spot}
 use Rattle.cir_ast.specs.declared.program.Meant.{Meant}
 use Rattle.cir_ast.specs.declared.program.Meant.TheVariants as meant
-use Rattle.cir_ast.specs.Tree.{Expr, Number, Place, Call, Anonymous, Parentheses, Array, Unary, Binary, Choice, Exprs, none, more, Accessors, done, index, member, Variable as Declared, Assign, Set, First, FirstVars, FirstAssign, Simple, Vars, Assigned, Statement, Block, If, IfElse, While, For, Return, Assert, Log, Ended, Statements, empty, then_more}
+use Rattle.cir_ast.specs.Tree.{Expr, Number, Place, Call, Anonymous, Parentheses, Array, Unary}
+use Rattle.cir_ast.specs.Tree.{Binary, Choice, Exprs, none, more, Accessors, done, index, member}
+use Rattle.cir_ast.specs.Tree.{Variable as Declared, Assign, Set, First, FirstVars, FirstAssign}
+use Rattle.cir_ast.specs.Tree.{Simple, Vars, Assigned, Statement, Block, If, IfElse, While, For}
+use Rattle.cir_ast.specs.Tree.{Return, Assert, Log, Ended, Statements, empty, then_more}
 use Rattle.cir_meaning.specs.Limits.{is_too_large}
 use Rattle.cir_meaning.specs.Costs.{Made}
-use Rattle.wit_lower.specs.Homes.{Variable, Home, Homes, Scope, Ground, Front, Named, Found, Lost, find, home_of, port_of, with_variable, slots_of}
+use Rattle.wit_lower.specs.Homes.{Variable, Home, Homes, Scope, Ground, Front, Named, Found, Lost}
+use Rattle.wit_lower.specs.Homes.{find, home_of, port_of, with_variable, slots_of}
 use Rattle.wit_lower.specs.Pieces.{decided}
 use Rattle.cir_meaning.specs.Operators.{operator_of}
 use Rattle.cir_meaning.specs.Writing.{plain}

@@ -1,7 +1,8 @@
 -- The number that an expression of a step has whatever the step reads: that of dimensions, of
 -- indices of components, and of what skips an operand. It comes from numbers and from constant
 -- elements of variables; a power by 0 is 1, whatever its base.
-use Rattle.std.specs.Prelude.{ℕ, zero, ◌%◌, ◌==◌, ◌&&◌, if◌then◌else◌, List, [], ◌∷◌, ◌++◌, length, map, Option, Some, None}
+use Rattle.std.specs.Prelude.{ℕ, zero, ◌%◌, ◌==◌, ◌&&◌, if◌then◌else◌, List, [], ◌∷◌, ◌++◌, length}
+use Rattle.std.specs.Prelude.{map, Option, Some, None}
 use Rattle.std.specs.List.{list_any}
 use Rattle.gold_field.specs.declared.gold.TheConstants.{P}
 use Rattle.gold_field.specs.declared.operators.Op2.{Op2}
@@ -10,7 +11,9 @@ use Rattle.gold_field.specs.Operators.{unary_of as number_by, binary_of}
 use Rattle.cir_ast.specs.declared.program.Meant.{Meant}
 use Rattle.cir_ast.specs.declared.program.Meant.TheVariants as meant
 use Rattle.cir_ast.specs.declared.program.Spot.{Spot}
-use Rattle.cir_ast.specs.Tree.{Expr, Number, Place, Call, Anonymous, Parentheses, Array, Unary, Binary, Choice, Accessors, done, index, member, Assigned, Statement, Ended}
+use Rattle.cir_ast.specs.Tree.{Expr, Number, Place, Call, Anonymous, Parentheses, Array, Unary}
+use Rattle.cir_ast.specs.Tree.{Binary, Choice, Accessors, done, index, member, Assigned, Statement}
+use Rattle.cir_ast.specs.Tree.{Ended}
 use Rattle.cir_meaning.specs.Places.{is_inside, all_known}
 use Rattle.cir_meaning.specs.Operators.{Operator, Strict, And, Or, operator_of, unary_of}
 use Rattle.cir_meaning.specs.Values.{truth_number}

@@ -1,6 +1,7 @@
 -- The table of procedures. A key is a function with the shapes of its arguments; the procedure of a
 -- key has the key's place in the table.
-use Rattle.std.specs.Prelude.{◌≡◌, ℕ, ◌+◌, ◌≤◌, ◌<◌, false, List, [], ◌∷◌, ◌++◌, length, max, sum_by, slice_get, unwrap_or, Option, Some, None}
+use Rattle.std.specs.Prelude.{◌≡◌, ℕ, ◌+◌, ◌≤◌, ◌<◌, false, List, [], ◌∷◌, ◌++◌, length, max}
+use Rattle.std.specs.Prelude.{sum_by, slice_get, unwrap_or, Option, Some, None}
 use Rattle.wit_code.specs.declared.code.Proc.{Proc}
 use Rattle.cir_ast.specs.Program.{Program, Function}
 use Rattle.cir_meaning.specs.Costs.{Made}

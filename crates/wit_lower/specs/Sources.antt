@@ -1,6 +1,7 @@
 -- What a statement reads: shapes of what it names, and for each element that it may read a source,
 -- which is a constant or a cell. The step reads each cell once.
-use Rattle.std.specs.Prelude.{ℕ, suc, ◌+◌, ◌==◌, ◌&&◌, if◌then◌else◌, List, [], ◌∷◌, ◌++◌, map, Option, Some, None, Result, Ok, Err, unwrap_or}
+use Rattle.std.specs.Prelude.{ℕ, suc, ◌+◌, ◌==◌, ◌&&◌, if◌then◌else◌, List, [], ◌∷◌, ◌++◌, map}
+use Rattle.std.specs.Prelude.{Option, Some, None, Result, Ok, Err, unwrap_or}
 use Rattle.std.specs.List.{list_any}
 use Rattle.wit_code.specs.declared.code.Op.{Op}
 use Rattle.wit_code.specs.declared.code.Op.TheVariants as op
@@ -8,7 +9,8 @@ use Rattle.cir_meaning.specs.Places.{numbers_from, is_inside}
 use Rattle.cir_meaning.specs.Arrays.{Shaped, single}
 use Rattle.cir_meaning.specs.RunValues.{Ran, Numbers, Environment, Store, index_out, missing}
 use Rattle.cir_meaning.specs.RunBodies.{or_else}
-use Rattle.wit_lower.specs.Homes.{Name, Variable, Signal, Port, same_name, Home, Homes, Scope, find, slots_of, offset}
+use Rattle.wit_lower.specs.Homes.{Name, Variable, Signal, Port, same_name, Home, Homes, Scope, find}
+use Rattle.wit_lower.specs.Homes.{slots_of, offset}
 use Rattle.wit_lower.specs.Pieces.{Code}
 
 pub record Shape : Type 0 where

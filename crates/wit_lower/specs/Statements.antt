@@ -4,7 +4,10 @@ use Rattle.wit_code.specs.declared.code.Op.TheVariants as op
 use Rattle.cir_ast.specs.declared.program.Spot.{Spot}
 use Rattle.cir_ast.specs.declared.program.Meant.{Meant}
 use Rattle.cir_ast.specs.declared.program.Meant.TheVariants as meant
-use Rattle.cir_ast.specs.Tree.{Expr, Exprs, none, more, Accessors, done, Variable, Assign, Set, First, FirstVars, FirstAssign, Simple, Vars, Assigned, Statement, Block, If, IfElse, While, For, Return, Assert, Log, Ended, Statements, empty, then_more}
+use Rattle.cir_ast.specs.Tree.{Expr, Exprs, none, more, Accessors, done, Variable, Assign, Set}
+use Rattle.cir_ast.specs.Tree.{First, FirstVars, FirstAssign, Simple, Vars, Assigned, Statement}
+use Rattle.cir_ast.specs.Tree.{Block, If, IfElse, While, For, Return, Assert, Log, Ended}
+use Rattle.cir_ast.specs.Tree.{Statements, empty, then_more}
 use Rattle.cir_meaning.specs.Writing.{plain}
 use Rattle.cir_meaning.specs.Reached.{indices_count}
 use Rattle.cir_meaning.specs.Texts.{list_of}

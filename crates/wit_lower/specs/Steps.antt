@@ -9,12 +9,15 @@ use Rattle.cir_ast.specs.Program.{Program}
 use Rattle.cir_ast.specs.Tree.{Expr}
 use Rattle.cir_meaning.specs.Limits.{is_too_large}
 use Rattle.cir_meaning.specs.Costs.{Made}
-use Rattle.wit_lower.specs.Homes.{Name, Variable, Signal, Port, Home, Homes, Scope, Ground, find, slots_of}
+use Rattle.wit_lower.specs.Homes.{Name, Variable, Signal, Port, Home, Homes, Scope, Ground, find}
+use Rattle.wit_lower.specs.Homes.{slots_of}
 use Rattle.wit_lower.specs.Fits.{Fits, TestFits, StatementFits}
 use Rattle.wit_lower.specs.Values.{size_of}
 use Rattle.wit_lower.specs.Procedures.{IsTable}
-use Rattle.wit_lower.specs.Sources.{Shape, Input, Constant, Cell, Source, Sources, scope_of, cells_read}
-use Rattle.wit_lower.specs.Tasks.{Element, Task, Gives, Equal, Logs, Executes, IsOutcome, meant_by, step_ground}
+use Rattle.wit_lower.specs.Sources.{Shape, Input, Constant, Cell, Source, Sources, scope_of}
+use Rattle.wit_lower.specs.Sources.{cells_read}
+use Rattle.wit_lower.specs.Tasks.{Element, Task, Gives, Equal, Logs, Executes, IsOutcome, meant_by}
+use Rattle.wit_lower.specs.Tasks.{step_ground}
 
 -- an element of a variable that has a home
 pub record TargetFits (homes : Homes) (t : Element) : Type 0 where

@@ -1,6 +1,7 @@
 -- A run-time statement with the elements of variables that it is to write: what it means, and its
 -- code. Sources are loaded, the statement is executed, and what it gives is written.
-use Rattle.std.specs.Prelude.{◌≡◌, ℕ, zero, suc, ◌+◌, List, [], ◌∷◌, ◌++◌, map, slice_index, Option, Some, None, Ok, Err}
+use Rattle.std.specs.Prelude.{◌≡◌, ℕ, zero, suc, ◌+◌, List, [], ◌∷◌, ◌++◌, map, slice_index, Option}
+use Rattle.std.specs.Prelude.{Some, None, Ok, Err}
 use Rattle.wit_code.specs.declared.code.Op.TheVariants as op
 use Rattle.wit_code.specs.declared.code.Proc.{Proc}
 use Rattle.wit_code.specs.declared.code.Stop.{Stop}
@@ -8,7 +9,8 @@ use Rattle.wit_code.specs.Table.{Outcome, Wrote, Stopped, stop_number}
 use Rattle.cir_ast.specs.declared.program.Spot.{Spot}
 use Rattle.cir_ast.specs.declared.program.Meant.{Meant}
 use Rattle.cir_ast.specs.Program.{Program}
-use Rattle.cir_ast.specs.Tree.{Expr, Left, LogArgument, Words, LogValue, Simple, Assigned, Constrain, Right, Statement, Log, Ended}
+use Rattle.cir_ast.specs.Tree.{Expr, Left, LogArgument, Words, LogValue, Simple, Assigned}
+use Rattle.cir_ast.specs.Tree.{Constrain, Right, Statement, Log, Ended}
 use Rattle.cir_meaning.specs.Tried.{next}
 use Rattle.cir_meaning.specs.Bodies.{most_open}
 use Rattle.cir_meaning.specs.Costs.{Made}
@@ -21,7 +23,8 @@ use Rattle.wit_lower.specs.Pieces.{Code, followed, most_named}
 use Rattle.wit_lower.specs.Values.{expr_code, size_of}
 use Rattle.wit_lower.specs.Statements.{statement_code}
 use Rattle.wit_lower.specs.Procedures.{params_at}
-use Rattle.wit_lower.specs.Sources.{Sources, scope_of, cells_read, sources_code, environment_of, store_of}
+use Rattle.wit_lower.specs.Sources.{Sources, scope_of, cells_read, sources_code, environment_of}
+use Rattle.wit_lower.specs.Sources.{store_of}
 use Rattle.wit_lower.specs.Known.{changes, number_known}
 
 -- where a number that is written goes: to the cell of a signal, or to a new cell, for an element of

@@ -1,16 +1,20 @@
 -- The code of expressions. The numbers of a value come to the slots from `top` on, which are free:
 -- a number to `top`, an array to as many slots as it has elements.
-use Rattle.std.specs.Prelude.{ℕ, suc, ◌+◌, ◌%◌, if◌then◌else◌, List, [], ◌∷◌, ◌++◌, length, drop, Option, Some, None}
+use Rattle.std.specs.Prelude.{ℕ, suc, ◌+◌, ◌%◌, if◌then◌else◌, List, [], ◌∷◌, ◌++◌, length, drop}
+use Rattle.std.specs.Prelude.{Option, Some, None}
 use Rattle.gold_field.specs.declared.gold.TheConstants.{P}
 use Rattle.wit_code.specs.declared.code.Op.TheVariants as op
 use Rattle.cir_ast.specs.declared.program.Meant.{Meant}
 use Rattle.cir_ast.specs.declared.program.Meant.TheVariants as meant
-use Rattle.cir_ast.specs.Tree.{Expr, Number, Place, Call, Anonymous, Parentheses, Array, Unary, Binary, Choice, Exprs, none, more, Accessors, done, index, member}
+use Rattle.cir_ast.specs.Tree.{Expr, Number, Place, Call, Anonymous, Parentheses, Array, Unary}
+use Rattle.cir_ast.specs.Tree.{Binary, Choice, Exprs, none, more, Accessors, done, index, member}
 use Rattle.cir_meaning.specs.Operators.{operator_of, unary_of}
 use Rattle.cir_meaning.specs.Costs.{Made}
 use Rattle.cir_meaning.specs.Functions.{same_made}
-use Rattle.wit_lower.specs.Homes.{Home, Homes, Ground, Front, Named, home_of, port_of, component_dims, slots_of}
-use Rattle.wit_lower.specs.Pieces.{Code, followed, binary_code, decided, lazy_code, choice_code, bounds, read_code}
+use Rattle.wit_lower.specs.Homes.{Home, Homes, Ground, Front, Named, home_of, port_of}
+use Rattle.wit_lower.specs.Homes.{component_dims, slots_of}
+use Rattle.wit_lower.specs.Pieces.{Code, followed, binary_code, decided, lazy_code, choice_code}
+use Rattle.wit_lower.specs.Pieces.{bounds, read_code}
 
 abbrev pub part_shape : Option Home → (count : ℕ) → List ℕ
 part_shape None count = []
