@@ -61,7 +61,8 @@ ended : (low x c a : ℕ) → standing x ≤ standing (low + c + a) → a ≡ 0
     → standing x ≤ standing (low + c)
 ended low x c a h e = omega arith
 
-pub apart : (low c a x : ℕ) → standing x ≤ standing (low + c + a) → standing x ≤ standing (low + a + c)
+pub apart : (low c a x : ℕ) → standing x ≤ standing (low + c + a)
+    → standing x ≤ standing (low + a + c)
 apart low c a x h = omega arith
 
 pub together : (low c a x : ℕ) → standing x ≤ standing (low + a + c)
@@ -182,7 +183,8 @@ module _ (numbers : ℕ) (m : Measure numbers) where
         added_same s.world s.frame.added (with_array dims s.frame.added)
         (m.array dims s.frame.added) g
 
-    pub calls_count : (k : Context) → BodyCounts k → (w : Where) (n : ℕ) (ds : List Datum) (s : State)
+    pub calls_count : (k : Context) → BodyCounts k → (w : Where) (n : ℕ) (ds : List Datum)
+        (s : State)
         → Kept s → OnGood (λ x. Kept (record s { world = x.1 })) (k.call w n ds s.world)
     calls_count k body w n ds s g =
         good_weaker (λ x. (x.1 ≡ record (s.world) { counts = x.1.counts }) × Grows s.world x.1)

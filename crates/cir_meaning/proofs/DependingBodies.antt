@@ -57,7 +57,8 @@ module _ (size : ℕ) where
       good_ok (MadeOver size world.rows) (s.frame.signals, s.world)
       record { world = g.world; signals = g.frame.signals }))
 
-  ended_flow_over : (world : World) (k : Context) (f : Flow) → FlowIs (StateOver size world.rows) (λ d after. WorldOver size world.rows after) f
+  ended_flow_over : (world : World) (k : Context) (f : Flow)
+      → FlowIs (StateOver size world.rows) (λ d after. WorldOver size world.rows after) f
       → OnGood (MadeOver size world.rows) (ended_flow k f)
   ended_flow_over world k (Going s) h = ended_over world k s h
   ended_flow_over world k (Returned d after) h =

@@ -1,7 +1,5 @@
 -- What writes, declarations and creations leave depends on declared signals alone.
 use Rattle.std.specs.Prelude.{⊤, sum_by, min, ◌^◌, ◌-◌}
-use Rattle.std.proofs.Math.Nat.{min-eq_left, min-eq_right}
-use Rattle.std.proofs.lemmas.Bool.{cases_lt}
 use Rattle.std.proofs.lemmas.List.Sums.{sum_by-append}
 use Rattle.std.proofs.Common.{◌≡◌, ◌⊎◌, inl, inr, ℕ, zero, suc, ◌+◌, ◌<◌, ◌≤◌, Bool, true, false, not, cond, List, [], ◌∷◌, ◌++◌, length, replicate, Option, Some, None, Ok, refl, sym, ap, subst, ◌∙◌, is_some, slice_get, slice_set, unwrap_or, arith}
 use Rattle.std.specs.List.{AllByRecursion, list_all}
@@ -37,7 +35,7 @@ use Rattle.cir_meaning.proofs.Rows.{all_append, all_map, all_put, all_replicate,
 use Rattle.cir_meaning.proofs.Likes.{Like, like_itself, value_like}
 use Rattle.cir_meaning.proofs.KnownValues.{KnownDatum, KnownStore, all_pass}
 use Rattle.cir_meaning.proofs.VariableRuns.{assignment_like}
-use Rattle.cir_meaning.proofs.SignalRuns.{assignment_target}
+use Rattle.cir_meaning.proofs.SignalTargets.{assignment_target}
 use Rattle.cir_meaning.proofs.Creating.{Created, create_at_is, creation_like}
 
 -- more signals
@@ -71,31 +69,11 @@ frame_more D E m f h = record {
 }
 
 -- counts that stand still
-min_add : (m a b : ℕ) → min (min a m + b) m ≡ min (a + b) m
-min_add m a b = at (cases_lt m a)
-  where
-    at : (m < a) ⊎ (a ≤ m) → min (min a m + b) m ≡ min (a + b) m
-    at (inr l) = rw (min-eq_left l) refl
-    at (inl l) =
-        let small : m ≤ a = omega arith in
-        let first : m ≤ m + b = omega arith in
-        let second : m ≤ a + b = omega arith in
-        rw (min-eq_right small, min-eq_right first, min-eq_right second) refl
-
-min_less : (m a : ℕ) → min a m ≤ a
-min_less m a = at (cases_lt m a)
-  where
-    at : (m < a) ⊎ (a ≤ m) → min a m ≤ a
-    at (inr l) = rw (min-eq_left l) (omega arith)
-    at (inl l) =
-        let small : m ≤ a = omega arith in
-        rw (min-eq_right small) small
-
 pub standing_add : (a b : ℕ) → standing (standing a + b) ≡ standing (a + b)
-standing_add a b = min_add (2 ^ 64 - 1) a b
+standing_add a b = omega arith
 
 pub standing_less : (a : ℕ) → standing a ≤ a
-standing_less a = min_less (2 ^ 64 - 1) a
+standing_less a = omega arith
 
 -- one row more
 rows_append : (g : Group) (rows : List Row) (r : Row)

@@ -65,7 +65,10 @@ function_fine : (p : Program) (size : ℕ) (call : Caller) → FineCall call
 function_fine p size call c w n arguments world h g =
     good_on FineReturned (found w WrongKind (slice_get p.functions n)) _ (λ f.
     good_next FineFlow FineReturned (exec_all (function_context p size call w f) f.body
-    record { frame = begun arguments (f.variables - length arguments) 0 0; world = emptied world }) _
+    record {
+      frame = begun arguments (f.variables - length arguments) 0 0;
+      world = emptied world;
+    }) _
     (exec_all_fine (function_context p size call w f) record { call = c; make = tt } f.body
     record { frame = begun arguments (f.variables - length arguments) 0 0; world = emptied world }
     (begun_fine arguments (f.variables - length arguments) 0 0 h, tt))

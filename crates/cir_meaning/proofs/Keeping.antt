@@ -26,7 +26,7 @@ use Rattle.cir_meaning.proofs.Good.{OnGood, good_ok, good_bad, good_next, good_n
 use Rattle.cir_meaning.proofs.Likes.{CallKeeps, Like, like_itself, value_like}
 use Rattle.cir_meaning.proofs.VariableRuns.{IsAdded, stepped_adds, assignment_like}
 use Rattle.cir_meaning.proofs.EqualRuns.{each_stays}
-use Rattle.cir_meaning.proofs.SignalRuns.{SignalLike, assignment_target}
+use Rattle.cir_meaning.proofs.SignalTargets.{SignalLike, assignment_target}
 use Rattle.cir_meaning.proofs.Creating.{Created as IsCreated, create_at_is, creation_like}
 use Rattle.cir_meaning.proofs.SimpleRuns.{dims_like}
 

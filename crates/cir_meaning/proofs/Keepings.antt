@@ -1,5 +1,5 @@
--- What each single step of a body keeps, its whole execution keeps; and what holds where a statement
--- is counted holds at the end.
+-- What each single step of a body keeps, its whole execution keeps; and what holds where a
+-- statement is counted holds at the end.
 use Rattle.std.proofs.Common.{◌≡◌, ℕ, zero, suc, ◌+◌, Bool, true, false, List, [], ◌∷◌, ◌++◌, length, Option, Some, None, Ok, refl, sym, subst}
 use Rattle.std.specs.Prelude.{◌==◌}
 use Rattle.cir_ast.specs.declared.program.Spot.{Spot}
@@ -82,7 +82,8 @@ module _ (k : Context) (keeping : Keeping k) where
       → OnGood Kept (next m go)
   then_keeps m go h f = good_next Kept Kept m go h f
 
-  pub each_keeps : {A : Type 0} (f : A → State → Tried State) (xs : List A) → ((x : A) → Keeps (f x))
+  pub each_keeps : {A : Type 0} (f : A → State → Tried State) (xs : List A)
+      → ((x : A) → Keeps (f x))
       → Keeps (simple.each f xs)
   each_keeps f [] h s g = good_ok Kept s g
   each_keeps f (x ∷ xs) h s g = then_keeps (f x s) (simple.each f xs) (h x s g) (each_keeps f xs h)
@@ -182,8 +183,10 @@ module _ (k : Context) (keeping : Keeping k) where
   set_place_keeps w written (meant.Template n) accessors e s g = good_bad Kept _
   set_place_keeps w written (meant.Function n) accessors e s g = good_bad Kept _
 
-  pub assigned_keeps : (w : Where) (written a : Assign Meant) → Keeps (simple.assigned k w written a)
-  assigned_keeps w written (Set name m accessors e) s g = set_place_keeps w written m accessors e s g
+  pub assigned_keeps : (w : Where) (written a : Assign Meant)
+      → Keeps (simple.assigned k w written a)
+  assigned_keeps w written (Set name m accessors e) s g =
+      set_place_keeps w written m accessors e s g
   assigned_keeps w written (Left name m accessors arrow e) s g =
       keeping.set_signal w written m accessors arrow e s g
   assigned_keeps w written (Compound name m accessors op e) s g = good_bad Kept _
@@ -331,7 +334,8 @@ module _ (k : Context) (keeping : Keeping k) where
       (keeping.scanned n x.0 x.1 g1)))
 
   scan_first_keeps : (w : Where) (f : First Meant) → Keeps (scan_first k w f)
-  scan_first_keeps w (FirstVars vs) s g = each_keeps (scan_variable k w) vs (scan_variable_keeps w) s g
+  scan_first_keeps w (FirstVars vs) s g =
+      each_keeps (scan_variable k w) vs (scan_variable_keeps w) s g
   scan_first_keeps w (FirstAssign a) s g = scan_plain_keeps w (plain a) s g
 
   scan_simple_keeps : (w : Where) (x : Simple Meant) → Keeps (scan_simple k w x)

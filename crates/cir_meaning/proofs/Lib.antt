@@ -33,6 +33,8 @@ pub mod KnownValues
 pub mod FunctionTwins
 pub mod KnownCalls
 pub mod RunFree
+pub mod SmallNumbers
+pub mod SmallSteps
 pub mod CallsTold
 pub mod Goes
 pub mod Standing
@@ -41,6 +43,9 @@ pub mod NewSignals
 pub mod TableWires
 pub mod NumberPlaces
 pub mod MainValues
+pub mod RowCounts
+pub mod MadeRows
+pub mod MainNames
 pub mod Settling
 pub mod VariableRuns
 pub mod StepRuns
@@ -49,6 +54,7 @@ pub mod SignalWrites
 pub mod OwnWrites
 pub mod PartWrites
 pub mod Starting
+pub mod SignalTargets
 pub mod SignalRuns
 pub mod SetSignal
 pub mod Creating

@@ -34,6 +34,7 @@ use Rattle.cir_meaning.proofs.DepthRuns.{makes_grow, bodies_run}
 use Rattle.cir_meaning.proofs.MainPlaces.{Place, Placed, placed_closed}
 use Rattle.cir_meaning.proofs.MainInputs.{inputs_shape}
 use Rattle.cir_meaning.proofs.MainValues.{Fitting, fitting}
+use Rattle.cir_meaning.proofs.RowCounts.{Counted}
 
 ends_refusing : {A B : Type 0} (Q : B → Type 0) (m : Tried A) (on : A → RunTried B) (a : A)
     → m ≡ Ok a → Ends Q (on a) → Ends Q (next (refusing m) on)
@@ -59,6 +60,7 @@ pub record Executed (p : Program) (size : ℕ) (m : Main) (t : ℕ) (signals : S
       (main_group m.public_names) (at (main_context p size m) m.spot) t arguments (codes "main")
       state.world ≡ Ok (signals, world)
   pub like : (after.sizes ≡ world.sizes) × (after.equations ≡ world.equations)
+      × (after.rows ≡ world.rows)
 
 pub executed : (p : Program) (size : ℕ) (m : Main) (t : ℕ) (signals : Signals) (after : World)
     → exec_main p size m (meant.Template t) ≡ Ok (signals, after)
@@ -97,6 +99,8 @@ executed p size m t signals after e =
             ∙ ap (λ (v : World). v.sizes) like.4,
         ap (λ (x : Signals × World). x.1.equations) (sym same)
             ∙ ap (λ (v : World). v.equations) like.4,
+        ap (λ (x : Signals × World). x.1.rows) (sym same)
+            ∙ ap (λ (v : World). v.rows) like.4,
       );
     }
   where
@@ -240,15 +244,15 @@ module _ (p : Program) (resolved : IsResolved p) (size fuel : ℕ) (m : Main) (t
       (codes "main") its.state.world given []
       known fine.0 fine.1.1 first_sizes signals its.world its.made shapes)
 
-  pub main_fits : (o : Outcome) → Ran size signals given its.state.world its.world o
+  pub main_fits : Counted after → (o : Outcome) → Ran size signals given its.state.world its.world o
       → Fitting size (circuit_of size after) record {
         values = all_wires size after.sizes (record { signals = signals; wires = o.own } ∷
             o.inside);
         log = o.log;
       }
-  main_fits o r =
+  main_fits rows o r =
       fitting size signals its.state.world its.world after given o r sizes_are
-      (ap (λ (v : World). v.equations) like.4) its.like.0 its.like.1
+      (ap (λ (v : World). v.equations) like.4) its.like.0 its.like.1 rows
 
 -- all numbers of a program's run
 abbrev pub ending : ℕ → Signals × World → Outcome → RunTried Ending
@@ -262,8 +266,9 @@ ending size x o =
 pub runs : (p : Program) (resolved : IsResolved p) (size fuel : ℕ) (c : Circuit) (inputs : List ℕ)
     → size ≤ 2 ^ 64 - 1 → compiled_with size p ≡ Ok c
     → length inputs ≡ c.public_inputs + c.private_inputs → length inputs < size
+    → ((m : Main) (x : Signals × World) → exec_main p size m m.meant ≡ Ok x → Counted x.1)
     → Ends (Fitting size c) (run_with size p fuel inputs)
-runs p resolved size fuel c inputs small e count few =
+runs p resolved size fuel c inputs small e count few counted =
     let one : (m : Main) × (the_main p ≡ Ok m)
     × (next (exec_main p size m m.meant) circuit ≡ Ok c) =
     next_to (the_main p) (λ m. next (exec_main p size m m.meant) circuit) c e in
@@ -274,18 +279,18 @@ runs p resolved size fuel c inputs small e count few =
     (ends_refusing (Fitting size c) (exec_main p size one.0 one.0.meant) _ two.0 two.1
     (subst (λ d. Ends (Fitting size d) (next (run_program p size fuel one.0 one.0.meant
     (input_wires size two.0.1.sizes inputs two.0.0)) (ending size two.0))) is
-    (by_meant one.0 two.0 one.0.meant refl two.1
+    (by_meant one.0 two.0 (counted one.0 two.0 two.1) one.0.meant refl two.1
     (count ∙ ap (λ (x : Circuit). x.public_inputs + x.private_inputs) (sym is)))))
   where
     circuit : Signals × World → Tried Circuit
     circuit x = Ok (circuit_of size x.1)
 
-    by_meant : (m : Main) (x : Signals × World) (t : Meant) → m.meant ≡ t
+    by_meant : (m : Main) (x : Signals × World) → Counted x.1 → (t : Meant) → m.meant ≡ t
         → exec_main p size m m.meant ≡ Ok x
         → length inputs ≡ x.1.sizes.public_inputs + x.1.sizes.private_inputs
         → Ends (Fitting size (circuit_of size x.1)) (next (run_program p size fuel m m.meant
         (input_wires size x.1.sizes inputs x.0)) (ending size x))
-    by_meant m x (meant.Template t) same ex count =
+    by_meant m x rows (meant.Template t) same ex count =
         let at_t : exec_main p size m (meant.Template t) ≡ Ok (x.0, x.1) =
         subst (λ y. exec_main p size m y ≡ Ok x) same ex in
         subst (λ y. Ends (Fitting size (circuit_of size x.1)) (next (run_program p size fuel m y
@@ -297,19 +302,19 @@ runs p resolved size fuel c inputs small e count few =
         (main_runs p resolved size fuel m t x.0 x.1 (executed p size m t x.0 x.1 at_t) inputs small
         few count) (λ o r. ends_ok (Fitting size (circuit_of size x.1)) _
         (main_fits p resolved size fuel m t x.0 x.1 (executed p size m t x.0 x.1 at_t) inputs small
-        few count o r)))
-    by_meant m x meant.Other same ex count =
+        few count rows o r)))
+    by_meant m x rows meant.Other same ex count =
         let no : exec_main p size m meant.Other ≡ Ok x =
         subst (λ y. exec_main p size m y ≡ Ok x) same ex in cc
-    by_meant m x (meant.Variable n) same ex count =
+    by_meant m x rows (meant.Variable n) same ex count =
         let no : exec_main p size m (meant.Variable n) ≡ Ok x =
         subst (λ y. exec_main p size m y ≡ Ok x) same ex in cc
-    by_meant m x (meant.Signal direction n) same ex count =
+    by_meant m x rows (meant.Signal direction n) same ex count =
         let no : exec_main p size m (meant.Signal direction n) ≡ Ok x =
         subst (λ y. exec_main p size m y ≡ Ok x) same ex in cc
-    by_meant m x (meant.Component n) same ex count =
+    by_meant m x rows (meant.Component n) same ex count =
         let no : exec_main p size m (meant.Component n) ≡ Ok x =
         subst (λ y. exec_main p size m y ≡ Ok x) same ex in cc
-    by_meant m x (meant.Function n) same ex count =
+    by_meant m x rows (meant.Function n) same ex count =
         let no : exec_main p size m (meant.Function n) ≡ Ok x =
         subst (λ y. exec_main p size m y ≡ Ok x) same ex in cc

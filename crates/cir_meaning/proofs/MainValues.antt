@@ -13,17 +13,20 @@ use Rattle.cir_meaning.proofs.Holds.{Agrees, Full}
 use Rattle.cir_meaning.proofs.Weights.{below, inside, cover_entries, cover_tables, under, Bounded}
 use Rattle.cir_meaning.proofs.TableWires.{tables_some, tables_agree}
 use Rattle.cir_meaning.proofs.NumberPlaces.{Roomy, group_once, InGroup, in_group, values_count, values_all, value_at}
+use Rattle.cir_meaning.proofs.RowCounts.{Counted, sizes_counted}
 use Rattle.cir_meaning.proofs.TemplateRuns.{Ran}
 
 -- an assignment of some values
 abbrev pub HasValues : Assignment → List (Option ℕ) → Type 0
 HasValues s values = (i x : ℕ) → slice_get values i ≡ Some (Some x) → s.at i ≡ x
 
--- all values are there, and make the equations equal, where there are few enough
+-- there is a value for signal 0 and each signal, and they make the equations equal, where there
+-- are few enough
 abbrev pub Fitting : ℕ → Circuit → Ending → Type 0
 Fitting size c e =
-    size ≤ 1048576 → length e.values ≤ size
-    → AllByRecursion (λ o. is_some o ≡ true) e.values
+    size ≤ 1048576 → length c.names < size
+    → (length e.values ≡ 1 + length c.names)
+    × AllByRecursion (λ o. is_some o ≡ true) e.values
     × ((s : Assignment) → HasValues s e.values → AllByRecursion (IsEqualAt s) c.equations)
 
 without : (a b u w : ℕ) → u ≡ 0 → a + (b + u) ≡ w → a + b ≡ w
@@ -62,7 +65,7 @@ under_none size m =
 module _ (size : ℕ) (signals : Signals) (first last after : World) (given : Wires) (o : Outcome)
     (ran : Ran size signals given first last o) (none : first.sizes ≡ empty_world.sizes)
     (no_equations : first.equations ≡ []) (sizes_are : after.sizes ≡ last.sizes)
-    (equations_are : after.equations ≡ last.equations) where
+    (equations_are : after.equations ≡ last.equations) (rows : Counted after) where
   abbrev tables : List Table
   tables = record { signals = signals; wires = o.own } ∷ o.inside
 
@@ -129,6 +132,7 @@ module _ (size : ℕ) (signals : Signals) (first last after : World) (given : Wi
 
   pub fitting : Fitting size (circuit_of size after) record { values = values; log = o.log }
   fitting top short = (
+    as_names,
     all_there bounded roomy,
     (λ s has. all_equal bounded roomy s has),
   )
@@ -137,11 +141,22 @@ module _ (size : ℕ) (signals : Signals) (first last after : World) (given : Wi
           + (after.sizes.private_inputs + after.sizes.others)))
       count = values_count size after.sizes tables
 
+      names : length (circuit_of size after).names ≡ after.sizes.outputs
+          + (after.sizes.public_inputs + (after.sizes.private_inputs + after.sizes.others))
+      names = sizes_counted after size rows top short
+
+      as_names : length values ≡ 1 + length (circuit_of size after).names
+      as_names = count ∙ ap (λ (n : ℕ). 1 + n) (sym names)
+
       all : (after.sizes.outputs < size) × (after.sizes.public_inputs < size)
           × (after.sizes.private_inputs < size) × (after.sizes.others < size)
       all =
           less_of size (length values) after.sizes.outputs after.sizes.public_inputs
-          after.sizes.private_inputs after.sizes.others count short
+          after.sizes.private_inputs after.sizes.others count
+          (within (length values) (length (circuit_of size after).names) as_names short)
+        where
+          within : (n k : ℕ) → n ≡ 1 + k → k < size → n ≤ size
+          within n k e h = omega arith
 
       roomy : Roomy size after.sizes
       roomy Outputs = all.0

@@ -1,5 +1,5 @@
 -- What is told of calls, at compile time and when a program runs.
-use Rattle.std.proofs.Common.{◌≡◌, ◌≢◌, ℕ, ◌+◌, ◌<◌, ◌≤◌, true, List, All, length, Some, is_some, Result, Ok, Err, subst, slice_get, arith}
+use Rattle.std.proofs.Common.{◌≡◌, ◌≢◌, ℕ, ◌+◌, ◌<◌, ◌≤◌, true, List, [], ◌∷◌, All, length, Some, is_some, Result, Ok, Err, subst, slice_get, arith}
 use Rattle.std.specs.Prelude.{◌^◌, ◌-◌}
 use Rattle.std.specs.List.{list_all, AllByRecursion}
 use Rattle.cir_lc.specs.Number.{Assignment}
@@ -23,6 +23,11 @@ use Rattle.cir_meaning.proofs.Starting.{Ends}
 use Rattle.cir_meaning.proofs.FineLaws.{all_of}
 use Rattle.cir_meaning.proofs.MainValues.{HasValues, Fitting}
 use Rattle.cir_meaning.proofs.MainRuns.{runs}
+use Rattle.std.proofs.ByRecursion.{all_from_every}
+use Rattle.gold_field.specs.declared.gold.TheConstants.{P}
+use Rattle.cir_meaning.proofs.SmallNumbers.{SmallAll, SmallAnswer, gives_is}
+use Rattle.cir_meaning.proofs.SmallSteps.{calls_small}
+use Rattle.cir_meaning.proofs.MainNames.{counted, few_inputs}
 use Rattle.cir_meaning.proofs.RunFree.{NoMiss, IsNumber', run_calls}
 
 pub call_known : (p : Program) (size room n : ℕ) (w : Where) (arguments : List Datum)
@@ -73,7 +78,8 @@ pub run_accepted : (p : Program) (c : Circuit) (fuel : ℕ) (inputs : List ℕ) 
     → length inputs < group_size → run_with group_size p fuel inputs ≢ Err (Rejected e)
 run_accepted p c fuel inputs e resolved made count few =
     not_rejected (Fitting group_size c) (run_with group_size p fuel inputs) e
-    (runs p resolved group_size fuel c inputs room_small made count few)
+    (runs p resolved group_size fuel c inputs room_small made count few
+    (counted p resolved group_size))
 
 pub run_never_misses : (p : Program) (c : Circuit) (fuel : ℕ) (inputs : List ℕ) (stop : ℕ)
     (w : Where) (log : List (List ℕ)) → IsResolved p → compiled p ≡ Ok c
@@ -81,7 +87,8 @@ pub run_never_misses : (p : Program) (c : Circuit) (fuel : ℕ) (inputs : List �
     → run_with group_size p fuel inputs ≡ Err (Stopped stop w log) → stop ≢ missing
 run_never_misses p c fuel inputs stop w log resolved made count few =
     not_missing (Fitting group_size c) (run_with group_size p fuel inputs) stop w log
-    (runs p resolved group_size fuel c inputs room_small made count few)
+    (runs p resolved group_size fuel c inputs room_small made count few
+    (counted p resolved group_size))
 
 -- what a run ends with
 ended : {A : Type 0} (Q : A → Type 0) (m : RunTried A) (a : A) → Ends Q m → m ≡ Ok a → Q a
@@ -94,32 +101,63 @@ room_top : group_size ≤ 1048576
 unfolding group_size
 room_top = omega arith
 
+few_of : (n k : ℕ) → n ≡ k → k < group_size → n < group_size
+few_of n k e h = omega arith
+
 pub run_fits : (p : Program) (c : Circuit) (fuel : ℕ) (inputs : List ℕ) (e : Ending)
-    → IsResolved p → compiled p ≡ Ok c → length inputs ≡ c.public_inputs + c.private_inputs
-    → length inputs < group_size → run_with group_size p fuel inputs ≡ Ok e
-    → length e.values ≤ group_size
-    → AllByRecursion (λ o. is_some o ≡ true) e.values
+    → IsResolved p → compiled p ≡ Ok c → length c.names < group_size
+    → length inputs ≡ c.public_inputs + c.private_inputs
+    → run_with group_size p fuel inputs ≡ Ok e
+    → (length e.values ≡ 1 + length c.names) × AllByRecursion (λ o. is_some o ≡ true) e.values
     × ((s : Assignment) → HasValues s e.values → AllByRecursion (IsEqualAt s) c.equations)
-run_fits p c fuel inputs e resolved made count few ends short =
+run_fits p c fuel inputs e resolved made few count ends =
     ended (Fitting group_size c) (run_with group_size p fuel inputs) e
-    (runs p resolved group_size fuel c inputs room_small made count few) ends room_top short
+    (runs p resolved group_size fuel c inputs room_small made count
+    (few_of (length inputs) (c.public_inputs + c.private_inputs) count
+    (few_inputs p resolved group_size c made room_top few)) (counted p resolved group_size)) ends
+    room_top few
+
+pub run_counts : (p : Program) (c : Circuit) (fuel : ℕ) (inputs : List ℕ) (e : Ending)
+    → IsResolved p → compiled p ≡ Ok c → length c.names < group_size
+    → length inputs ≡ c.public_inputs + c.private_inputs
+    → run_with group_size p fuel inputs ≡ Ok e → length e.values ≡ 1 + length c.names
+run_counts p c fuel inputs e resolved made few count ends =
+    (run_fits p c fuel inputs e resolved made few count ends).0
 
 pub run_has_values : (p : Program) (c : Circuit) (fuel : ℕ) (inputs : List ℕ) (e : Ending)
-    → IsResolved p → compiled p ≡ Ok c → length inputs ≡ c.public_inputs + c.private_inputs
-    → length inputs < group_size → run_with group_size p fuel inputs ≡ Ok e
-    → length e.values ≤ group_size → All (λ o. is_some o ≡ true) e.values
-run_has_values p c fuel inputs e resolved made count few ends short =
+    → IsResolved p → compiled p ≡ Ok c → length c.names < group_size
+    → length inputs ≡ c.public_inputs + c.private_inputs
+    → run_with group_size p fuel inputs ≡ Ok e → All (λ o. is_some o ≡ true) e.values
+run_has_values p c fuel inputs e resolved made few count ends =
     all_of (λ o. is_some o ≡ true) e.values
-    (run_fits p c fuel inputs e resolved made count few ends short).0
+    (run_fits p c fuel inputs e resolved made few count ends).1
 
 pub run_satisfies : (p : Program) (c : Circuit) (fuel : ℕ) (inputs : List ℕ) (e : Ending)
-    (s : Assignment) → IsResolved p → compiled p ≡ Ok c
-    → length inputs ≡ c.public_inputs + c.private_inputs → length inputs < group_size
-    → run_with group_size p fuel inputs ≡ Ok e → length e.values ≤ group_size
+    (s : Assignment) → IsResolved p → compiled p ≡ Ok c → length c.names < group_size
+    → length inputs ≡ c.public_inputs + c.private_inputs
+    → run_with group_size p fuel inputs ≡ Ok e
     → ((i x : ℕ) → slice_get e.values i ≡ Some (Some x) → s.at i ≡ x) → Satisfies p s
-run_satisfies p c fuel inputs e s resolved made count few ends short has = (
+run_satisfies p c fuel inputs e s resolved made few count ends has = (
   c,
   made,
   all_of (IsEqualAt s) c.equations
-      ((run_fits p c fuel inputs e resolved made count few ends short).1 s has),
+      ((run_fits p c fuel inputs e resolved made few count ends).2 s has),
 )
+
+-- numbers of the field
+from_all : {A : Type 0} (Q : A → Type 0) (xs : List A) → All Q xs → AllByRecursion Q xs
+from_all Q xs h = all_from_every Q xs (λ k d z l. h k d l)
+
+smalls : (ds : List Numbers) → AllByRecursion (λ (d : Numbers). All (λ n. n < P) d.items) ds
+    → SmallAll ds
+smalls [] h = tt
+smalls (d ∷ ds) h = (from_all (λ n. n < P) d.items h.0, smalls ds h.1)
+
+pub give_numbers : (p : Program) (room f units left : ℕ) (arguments : List Numbers) (d : Numbers)
+    → All (λ (a : Numbers). All (λ n. n < P) a.items) arguments
+    → run_call p room f arguments units ≡ Ok (d, left) → All (λ n. n < P) d.items
+give_numbers p room f units left arguments d small e =
+    all_of (λ n. n < P) d.items
+    (gives_is SmallAnswer (run_call p room f arguments units) (d, left)
+    (calls_small p room f arguments units
+    (smalls arguments (from_all (λ (a : Numbers). All (λ n. n < P) a.items) arguments small))) e)

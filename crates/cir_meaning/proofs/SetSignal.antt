@@ -30,7 +30,8 @@ use Rattle.cir_meaning.proofs.Standing.{PartStands, Stands, Start}
 use Rattle.cir_meaning.proofs.VariableRuns.{Soundly, fits, After}
 use Rattle.cir_meaning.proofs.StepRuns.{stands_like, pair_then}
 use Rattle.cir_meaning.proofs.Starting.{BodiesRun}
-use Rattle.cir_meaning.proofs.SignalRuns.{SignalLike, assignment_target, Written, Condition, written_good, own_goes, part_goes}
+use Rattle.cir_meaning.proofs.SignalTargets.{SignalLike, assignment_target, Written, Condition, written_good}
+use Rattle.cir_meaning.proofs.SignalRuns.{own_goes, part_goes}
 
 no_entry : (n : ℕ) (e : SignalEntry) → entry_at [] n ≡ Some e → ⊥
 no_entry n e h = cc

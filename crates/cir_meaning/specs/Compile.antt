@@ -203,12 +203,12 @@ refusal_of p r = record {
       };
 }
 
+abbrev pub shown : Program → Tried Circuit → Result Circuit Refusal
+shown p (Ok c) = Ok c
+shown p (Err r) = Err (refusal_of p r)
+
 abbrev pub meaning : Program → Result Circuit Refusal
-meaning p = shown (compiled p)
-  where
-    shown : Tried Circuit → Result Circuit Refusal
-    shown (Ok c) = Ok c
-    shown (Err r) = Err (refusal_of p r)
+meaning p = shown p (compiled p)
 
 -- an assignment satisfies a program that compiles where the two sides of each equation are equal
 abbrev pub Satisfies : Program → Assignment → Type 0

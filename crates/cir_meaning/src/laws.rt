@@ -1,11 +1,12 @@
 //! Laws over the values of expressions and the constraints of a source, each the contract of a
 //! function that does nothing.
 
-ghost use Rattle.std.specs.Prelude.{◌≡◌, ◌≢◌, ◌↔◌, ◌+◌, ◌<◌, ◌≤◌, ℕ, true, Option, Some, is_some, Ok, Err, List, All, length, slice_get, sum_by};
+ghost use Rattle.std.specs.Prelude.{◌≡◌, ◌≢◌, ◌↔◌, ◌+◌, ◌<◌, ℕ, true, Option, Some, is_some, Ok, Err, List, All, length, slice_get, sum_by};
 ghost use Rattle.std.specs.List.{list_all};
 ghost use Rattle.gold_field.specs.declared.form.Constraint.{Constraint};
 ghost use Rattle.gold_field.specs.declared.operators.Op1.{Op1};
 ghost use Rattle.gold_field.specs.declared.operators.Op2.{Op2};
+ghost use Rattle.gold_field.specs.declared.gold.TheConstants.{P};
 ghost use Rattle.gold_field.specs.Form.{Holds};
 ghost use Rattle.gold_field.specs.Operators.{binary_of, unary_of};
 ghost use Rattle.cir_lc.specs.Number.{Assignment};
@@ -153,6 +154,14 @@ pub fn functions_never_miss()
         run_call p room f arguments units ≡ Err stop → stop ≢ missing }
 {}
 
+/// A function that is called on numbers of the field when the program runs gives a number of the
+/// field.
+pub fn functions_give_numbers()
+    ensures { (p : Program) (room f units left : ℕ) (arguments : List Numbers) (d : Numbers)
+        → All (λ a. All (λ n. n < P) a.items) arguments
+        → run_call p room f arguments units ≡ Ok (d, left) → All (λ n. n < P) d.items }
+{}
+
 /// A program that compiles, on as many inputs as its main component has, runs to its end or stops
 /// as a program may: the run refuses nothing, and asks for no value that isn't there.
 pub fn runs_never_miss()
@@ -166,19 +175,22 @@ pub fn runs_never_miss()
         → run_with group_size p fuel inputs ≡ Err (Stopped stop w log) → stop ≢ missing }
 {}
 
-/// Where a run of a program that compiles ends, with no more than 2^20 values in all, it has a value
-/// for signal 0 and each signal, by their numbers, and the assignments with these values satisfy
-/// the program: the two sides of each equation are equal at them.
+/// Where a program compiles with fewer than 2^20 signals, and runs to its end on as many inputs as
+/// its main component has, there is a value for signal 0 and for each signal, by their numbers, and
+/// the assignments with these values satisfy the program: the two sides of each equation are equal.
 pub fn runs_satisfy()
+    ensures counted { (p : Program) (c : Circuit) (fuel : ℕ) (inputs : List ℕ) (e : Ending)
+        → IsResolved p → compiled p ≡ Ok c → length c.names < group_size
+        → length inputs ≡ c.public_inputs + c.private_inputs
+        → run_with group_size p fuel inputs ≡ Ok e → length e.values ≡ 1 + length c.names }
     ensures values { (p : Program) (c : Circuit) (fuel : ℕ) (inputs : List ℕ) (e : Ending)
-        → IsResolved p → compiled p ≡ Ok c
-        → length inputs ≡ c.public_inputs + c.private_inputs → length inputs < group_size
-        → run_with group_size p fuel inputs ≡ Ok e → length e.values ≤ group_size
-        → All (λ o. is_some o ≡ true) e.values }
+        → IsResolved p → compiled p ≡ Ok c → length c.names < group_size
+        → length inputs ≡ c.public_inputs + c.private_inputs
+        → run_with group_size p fuel inputs ≡ Ok e → All (λ o. is_some o ≡ true) e.values }
     ensures satisfied { (p : Program) (c : Circuit) (fuel : ℕ) (inputs : List ℕ) (e : Ending)
-        (s : Assignment) → IsResolved p → compiled p ≡ Ok c
-        → length inputs ≡ c.public_inputs + c.private_inputs → length inputs < group_size
-        → run_with group_size p fuel inputs ≡ Ok e → length e.values ≤ group_size
+        (s : Assignment) → IsResolved p → compiled p ≡ Ok c → length c.names < group_size
+        → length inputs ≡ c.public_inputs + c.private_inputs
+        → run_with group_size p fuel inputs ≡ Ok e
         → ((i x : ℕ) → slice_get e.values i ≡ Some (Some x) → s.at i ≡ x) → Satisfies p s }
 {}
 
