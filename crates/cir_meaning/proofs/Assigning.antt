@@ -1,5 +1,7 @@
 -- An assignment to a variable that is a step gives it the numbers of its new value.
-use Rattle.std.proofs.Common.{◌≡◌, ℕ, zero, suc, Bool, true, false, List, [], ◌∷◌, ◌++◌, map, length, Option, Some, is_some, slice_get, slice_set, Ok, refl, sym, ap, subst, ◌∙◌}
+use Rattle.std.proofs.Common.{◌≡◌, ℕ, zero, suc, Bool, true, false, List, [], ◌∷◌, ◌++◌, map}
+use Rattle.std.proofs.Common.{length, Option, Some, is_some, slice_get, slice_set, Ok, refl, sym}
+use Rattle.std.proofs.Common.{ap, subst, ◌∙◌}
 use Rattle.std.specs.Prelude.{unwrap_or}
 use Rattle.cir_ast.specs.declared.program.Meant.{Meant}
 use Rattle.cir_ast.specs.declared.program.Meant.TheVariants as meant
@@ -14,7 +16,8 @@ use Rattle.cir_meaning.specs.Frame.{State, Context, variable_at}
 use Rattle.cir_meaning.specs.Scoped.{Scope, AreIndicesMeant, IsSetMeant}
 use Rattle.cir_meaning.specs.Evaluate.{value_in, indices_in}
 use Rattle.cir_meaning.specs.Writing.{VariableAssignment, variable_assignment, written_datum}
-use Rattle.cir_meaning.specs.RunValues.{Numbers, Ran, Environment, Store, stored, number_in, index_numbers, bounded, gives}
+use Rattle.cir_meaning.specs.RunValues.{Numbers, Ran, Environment, Store, stored, number_in}
+use Rattle.cir_meaning.specs.RunValues.{index_numbers, bounded, gives}
 use Rattle.cir_meaning.specs.RunStatements.{step_set}
 use Rattle.cir_meaning.proofs.FineValues.{FineContext, FineAnswer, value_fine}
 use Rattle.cir_meaning.proofs.Likes.{Like}

@@ -1,12 +1,18 @@
 -- The run of the statements of a body, where their names are in scope.
-use Rattle.std.proofs.Common.{◌≡◌, inl, inr, ℕ, ◌≤◌, List, [], ◌∷◌, length, Option, None, Ok, refl, sym, ap, subst, ◌∙◌, arith}
+use Rattle.std.proofs.Common.{◌≡◌, inl, inr, ℕ, ◌≤◌, List, [], ◌∷◌, length, Option, None, Ok, refl}
+use Rattle.std.proofs.Common.{sym, ap, subst, ◌∙◌, arith}
 use Rattle.std.specs.Prelude.{⊤}
 use Rattle.std.specs.List.{AllByRecursion}
 use Rattle.cir_ast.specs.declared.operators.Direction.{Direction}
 use Rattle.cir_ast.specs.declared.program.Spot.{Spot}
 use Rattle.cir_ast.specs.declared.program.Meant.{Meant}
-use Rattle.cir_ast.specs.Tree.{Signal, Simple, Vars, Signals, Declared, Created, Assigned, Constrain, Right, TargetLeft, TargetRight, Alone, Statement, Block, If, IfElse, While, For, Return, Assert, Log, Ended, Statements, empty, then_more}
-use Rattle.cir_meaning.specs.Scoped.{Scope, with_signal, AreSignalsScoped, IsSimpleScoped, IsSignalValueMeant, closed, behind, behind_all, IsScoped, AreScoped}
+use Rattle.cir_ast.specs.Tree.{Signal, Simple, Vars, Signals, Declared, Created, Assigned}
+use Rattle.cir_ast.specs.Tree.{Constrain, Right, TargetLeft, TargetRight, Alone, Statement, Block}
+use Rattle.cir_ast.specs.Tree.{If, IfElse, While, For, Return, Assert, Log, Ended, Statements}
+use Rattle.cir_ast.specs.Tree.{empty, then_more}
+use Rattle.cir_meaning.specs.Scoped.{Scope, with_signal, AreSignalsScoped, IsSimpleScoped}
+use Rattle.cir_meaning.specs.Scoped.{IsSignalValueMeant, closed, behind, behind_all, IsScoped}
+use Rattle.cir_meaning.specs.Scoped.{AreScoped}
 use Rattle.cir_meaning.specs.Tried.{Tried, next}
 use Rattle.cir_meaning.specs.Frame.{State, at, entry_at, counted}
 use Rattle.cir_meaning.specs.Unknown.{Fault, first_of, fault_of}
@@ -15,7 +21,8 @@ use Rattle.cir_meaning.specs.Anonymous.{lift_simple}
 use Rattle.cir_meaning.specs.Simple as simple
 use Rattle.cir_meaning.specs.Statement.{Flow, Going, Returned, going, goes, exec, exec_all}
 use Rattle.cir_meaning.specs.Run.{Wires, Run, RunTried}
-use Rattle.cir_meaning.specs.RunSimple.{Running, run_signal, run_each, run_counted, run_execute_counted, run_simple}
+use Rattle.cir_meaning.specs.RunSimple.{Running, run_signal, run_each, run_counted}
+use Rattle.cir_meaning.specs.RunSimple.{run_execute_counted, run_simple}
 use Rattle.cir_meaning.specs.RunBodies.{run_undecided, run, run_all}
 use Rattle.cir_meaning.proofs.Good.{good_is}
 use Rattle.cir_meaning.proofs.Likes.{Like, like_itself}
@@ -30,12 +37,15 @@ use Rattle.cir_meaning.proofs.BranchRuns.{AfterFlow, goes_flow}
 use Rattle.cir_meaning.proofs.QuietRuns.{IsQuietSimple, one_goes, undecided_flow, exec_flow}
 use Rattle.cir_meaning.proofs.Entries.{Entry, entry_closed}
 use Rattle.cir_meaning.proofs.KeepingStatements.{FlowKept, each_kept, exec_kept, exec_all_kept}
-use Rattle.cir_meaning.proofs.SignalDeclarations.{Stays, stays_marked, IsNone, none_marked, goes_if_ok}
+use Rattle.cir_meaning.proofs.SignalDeclarations.{Stays, stays_marked, IsNone, none_marked}
+use Rattle.cir_meaning.proofs.SignalDeclarations.{goes_if_ok}
 use Rattle.cir_meaning.proofs.ScopeLaws.{grows, IsSound, sound_closed, sound}
 use Rattle.cir_meaning.proofs.LiftedStatements.{IsLifted, SameMeants, LiftedAs, simple_lifted}
-use Rattle.cir_meaning.proofs.ScopedQuiet.{everything, NoneDeclared, simple_wide, lifted_quiet, simple_quiet, real, statement_quiet}
+use Rattle.cir_meaning.proofs.ScopedQuiet.{everything, NoneDeclared, simple_wide, lifted_quiet}
+use Rattle.cir_meaning.proofs.ScopedQuiet.{simple_quiet, real, statement_quiet}
 use Rattle.cir_meaning.proofs.Undeclared.{lifted_not, not_declared, none_declared}
-use Rattle.cir_meaning.proofs.SignalFlows.{goes_as, Fresh, Shapes, Through, shapes_before, InTurn, signals_goes, Flows, counted_flow, condition_flow}
+use Rattle.cir_meaning.proofs.SignalFlows.{goes_as, Fresh, Shapes, Through, shapes_before, InTurn}
+use Rattle.cir_meaning.proofs.SignalFlows.{signals_goes, Flows, counted_flow, condition_flow}
 
 module _ (given : Wires) (start : Start) (functions : ℕ) (q : Running)
     (sounds : Soundly (everything functions) q)

@@ -1,5 +1,6 @@
 -- Conditions, branches and loops in a run.
-use Rattle.std.proofs.Common.{◌≡◌, ℕ, zero, suc, Bool, true, false, cond, Option, None, Ok, Err, refl, subst}
+use Rattle.std.proofs.Common.{◌≡◌, ℕ, zero, suc, Bool, true, false, cond, Option, None, Ok, Err}
+use Rattle.std.proofs.Common.{refl, subst}
 use Rattle.std.specs.Prelude.{◌==◌}
 use Rattle.cir_ast.specs.declared.program.Spot.{Spot}
 use Rattle.cir_ast.specs.declared.program.Meant.{Meant}
@@ -10,7 +11,8 @@ use Rattle.cir_meaning.specs.Arrays.{Scalar, the_item}
 use Rattle.cir_meaning.specs.Values.{Value, Known, Linear, Quadratic, Opaque}
 use Rattle.cir_meaning.specs.Frame.{State, Maker, at, settle, counted}
 use Rattle.cir_meaning.specs.Evaluate.{value_in}
-use Rattle.cir_meaning.specs.Statement.{Flow, Going, Returned, going, goes, decided, condition, branch, turns}
+use Rattle.cir_meaning.specs.Statement.{Flow, Going, Returned, going, goes, decided, condition}
+use Rattle.cir_meaning.specs.Statement.{branch, turns}
 use Rattle.cir_meaning.specs.Run.{Rejected, Stopped, Wires, Run, RunTried, refusing}
 use Rattle.cir_meaning.specs.RunSimple.{Running, with_known, run_counted}
 use Rattle.cir_meaning.specs.RunBodies.{run_branch, run_turns}

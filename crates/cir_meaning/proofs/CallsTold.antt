@@ -1,5 +1,6 @@
 -- In a run's environment a call that is known has its numbers already, and another one is opaque.
-use Rattle.std.proofs.Common.{◌≡◌, ◌⊎◌, inl, inr, ℕ, Bool, true, false, cond, List, [], ◌∷◌, Option, Some, None, Ok, Err, refl, ap, subst, ◌∙◌}
+use Rattle.std.proofs.Common.{◌≡◌, ◌⊎◌, inl, inr, ℕ, Bool, true, false, cond, List, [], ◌∷◌, Option}
+use Rattle.std.proofs.Common.{Some, None, Ok, Err, refl, ap, subst, ◌∙◌}
 use Rattle.std.specs.List.{list_all}
 use Rattle.cir_ast.specs.declared.program.Meant.{Meant}
 use Rattle.cir_ast.specs.declared.program.Meant.TheVariants as meant
@@ -9,13 +10,15 @@ use Rattle.cir_ast.specs.Tree.{Call, Exprs}
 use Rattle.cir_lc.specs.Number.{Assignment}
 use Rattle.cir_meaning.specs.Tried.{Where, Tried, refused}
 use Rattle.cir_meaning.specs.Limits.{nothing}
-use Rattle.cir_meaning.specs.Arrays.{Datum, Want, Scalar, Whole, fits, single, is_known, is_all_known}
+use Rattle.cir_meaning.specs.Arrays.{Datum, Want, Scalar, Whole, fits, single, is_known}
+use Rattle.cir_meaning.specs.Arrays.{is_all_known}
 use Rattle.cir_meaning.specs.Values.{Value, Known, Linear, Quadratic, Opaque}
 use Rattle.cir_meaning.specs.Frame.{Signals, Part, ComponentEntry, World, State, Context, uncounted}
 use Rattle.cir_meaning.specs.Evaluate.{answered, has_literal, call_known, called, value_in, all_in}
 use Rattle.cir_meaning.specs.RunValues.{Numbers}
 use Rattle.cir_meaning.specs.Run.{settled_items, known_numbers, known_value}
-use Rattle.cir_meaning.proofs.Good.{OnGood, good_ok, good_bad, good_next, good_on, good_needed, good_weaker}
+use Rattle.cir_meaning.proofs.Good.{OnGood, good_ok, good_bad, good_next, good_on, good_needed}
+use Rattle.cir_meaning.proofs.Good.{good_weaker}
 use Rattle.cir_meaning.proofs.Pairs.{good_both}
 use Rattle.cir_meaning.proofs.Same.{Rows, Same}
 use Rattle.cir_meaning.proofs.Likes.{Like}

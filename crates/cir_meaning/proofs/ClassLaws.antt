@@ -1,13 +1,19 @@
 -- The classes of results are the table's.
-use Rattle.std.proofs.Common.{◌≡◌, ℕ, ◌/◌, ◌%◌, Bool, true, false, cond, Some, None, refl, sym, ap, ◌∙◌}
+use Rattle.std.proofs.Common.{◌≡◌, ℕ, ◌/◌, ◌%◌, Bool, true, false, cond, Some, None, refl, sym, ap}
+use Rattle.std.proofs.Common.{◌∙◌}
 use Rattle.std.specs.Prelude.{◌==◌}
 use Rattle.gold_field.specs.declared.operators.Op2.{Op2}
-use Rattle.gold_field.specs.declared.operators.Op2.TheVariants.{Add, Sub, Mul, Div, Quot, Rem, Pow, Shl, Shr, And, Xor, Or, Lt, Le, Gt, Ge, Eq, Ne}
+use Rattle.gold_field.specs.declared.operators.Op2.TheVariants.{Add, Sub, Mul, Div, Quot, Rem, Pow}
+use Rattle.gold_field.specs.declared.operators.Op2.TheVariants.{Shl, Shr, And, Xor, Or, Lt, Le, Gt}
+use Rattle.gold_field.specs.declared.operators.Op2.TheVariants.{Ge, Eq, Ne}
 use Rattle.gold_field.specs.Operators.{binary_of}
 use Rattle.cir_meaning.specs.declared.class.Class.{Class}
 use Rattle.cir_meaning.specs.declared.class.Class.TheVariants as Class'
-use Rattle.cir_meaning.specs.Classes.{sum_class, product_class, quotient_class, known_class, power_class, power_class_by, class_by}
-use Rattle.cir_meaning.specs.Values.{Value, Known, Linear, Quadratic, Opaque, class_of, sum_of, negative_of, product_of, quotient_of, known_of, known_or_opaque, power_of, divided, known_number, result_of}
+use Rattle.cir_meaning.specs.Classes.{sum_class, product_class, quotient_class, known_class}
+use Rattle.cir_meaning.specs.Classes.{power_class, power_class_by, class_by}
+use Rattle.cir_meaning.specs.Values.{Value, Known, Linear, Quadratic, Opaque, class_of, sum_of}
+use Rattle.cir_meaning.specs.Values.{negative_of, product_of, quotient_of, known_of}
+use Rattle.cir_meaning.specs.Values.{known_or_opaque, power_of, divided, known_number, result_of}
 use Rattle.cir_meaning.specs.Values as V
 
 sum_classes : (x y : Value) → class_of (sum_of x y) ≡ sum_class (class_of x) (class_of y)

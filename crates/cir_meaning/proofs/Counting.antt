@@ -1,34 +1,46 @@
 -- What is counted is at least what is there: of signals, of constraints and of their terms.
-use Rattle.std.specs.Prelude.{min, nat_le, ◌^◌, ◌-◌}
-use Rattle.std.proofs.Common.{◌≡◌, ℕ, zero, suc, ◌+◌, ◌≤◌, Bool, false, not, is_none, List, [], ◌∷◌, ◌++◌, Option, Some, None, Ok, refl, sym, ap, subst, ◌∙◌, slice_get, arith}
+use Rattle.std.specs.Prelude.{nat_le, ◌^◌, ◌-◌}
+use Rattle.std.proofs.Common.{◌≡◌, ℕ, ◌+◌, ◌≤◌, Bool, false, not, List, [], ◌∷◌, ◌++◌, Option, Some}
+use Rattle.std.proofs.Common.{None, refl, sym, ap, subst, ◌∙◌, slice_get, arith}
 use Rattle.cir_ast.specs.declared.program.Spot.{Spot}
 use Rattle.cir_ast.specs.declared.program.Meant.{Meant}
 use Rattle.cir_ast.specs.declared.operators.Arrow.{Arrow}
-use Rattle.cir_ast.specs.declared.operators.Arrow.TheVariants.{Assign as AssignArrow, Constrain as ConstrainArrow}
+use Rattle.cir_ast.specs.declared.operators.Arrow.TheVariants.{Assign as AssignArrow}
+use Rattle.cir_ast.specs.declared.operators.Arrow.TheVariants.{Constrain as ConstrainArrow}
 use Rattle.cir_ast.specs.declared.operators.Direction.{Direction}
 use Rattle.cir_ast.specs.declared.refusal.Kind.{Kind}
 use Rattle.cir_ast.specs.declared.refusal.Kind.TheVariants.{ReadBeforeWrite, SecondWrite}
 use Rattle.cir_ast.specs.Tree.{Expr, Accessors, Assign, Statements}
 use Rattle.cir_lc.specs.Number.{signal}
-use Rattle.cir_meaning.specs.Tried.{Where, Tried, next, found}
-use Rattle.cir_meaning.specs.Limits.{Counts, nothing, Limited, limits, standing, tested, plus, with_array, count_sum}
+use Rattle.cir_meaning.specs.Tried.{Where, Tried, found}
+use Rattle.cir_meaning.specs.Limits.{Counts, nothing, Limited, limits, standing, tested, plus}
+use Rattle.cir_meaning.specs.Limits.{with_array, count_sum}
 use Rattle.cir_meaning.specs.Places.{elements}
 use Rattle.cir_meaning.specs.Arrays.{Datum, Want, Scalar, Whole, the_item}
 use Rattle.cir_meaning.specs.Values.{Value, Linear, Parts, difference_of, parts_of, number_of}
 use Rattle.cir_meaning.specs.Source.{Equation, terms_of}
-use Rattle.cir_meaning.specs.Frame.{Signals, Part, Frame, World, State, Context, Caller, Maker, all_numbers, is_written, entry_at, adding, settle, counted, one_statement}
+use Rattle.cir_meaning.specs.Frame.{Signals, Part, Frame, World, State, Context, Caller, Maker}
+use Rattle.cir_meaning.specs.Frame.{all_numbers, is_written, entry_at, adding, settle, counted}
+use Rattle.cir_meaning.specs.Frame.{one_statement}
 use Rattle.cir_meaning.specs.Evaluate.{scalar, value_in}
-use Rattle.cir_meaning.specs.Writing.{variable_assignment, is_unknown, write_variable, Target, signals_of, with_part_signals, with_signals, write_element, appended, constrained, constrained_by, write_elements, signal_assignment, write_signal}
-use Rattle.cir_meaning.specs.Declaring.{with_row, Creation, creation, create_at, create_each, create}
+use Rattle.cir_meaning.specs.Writing.{variable_assignment, is_unknown, write_variable, Target}
+use Rattle.cir_meaning.specs.Writing.{signals_of, with_part_signals, with_signals, write_element}
+use Rattle.cir_meaning.specs.Writing.{appended, constrained, constrained_by, write_elements}
+use Rattle.cir_meaning.specs.Writing.{signal_assignment, write_signal}
+use Rattle.cir_meaning.specs.Declaring.{with_row, Creation, creation, create_at, create_each}
+use Rattle.cir_meaning.specs.Declaring.{create}
 use Rattle.cir_meaning.specs.Costs.{Cost}
 use Rattle.cir_meaning.specs.Functions.{function_fault, function_elements}
-use Rattle.cir_meaning.specs.Steps.{unless_faulty, with_step, stepped, variable_cost, signal_cost, equal_cost, new_cells}
+use Rattle.cir_meaning.specs.Steps.{unless_faulty, with_step, stepped, variable_cost, signal_cost}
+use Rattle.cir_meaning.specs.Steps.{equal_cost, new_cells}
 use Rattle.cir_meaning.specs.Simple as simple
-use Rattle.cir_meaning.specs.Statement.{Flow, Returned, exec_all}
-use Rattle.cir_meaning.proofs.Good.{OnGood, good_ok, good_bad, good_next, good_on, good_needed, good_is, good_weaker, either, OnSome'}
+use Rattle.cir_meaning.specs.Statement.{exec_all}
+use Rattle.cir_meaning.proofs.Good.{OnGood, good_ok, good_bad, good_next, good_on, good_needed}
+use Rattle.cir_meaning.proofs.Good.{good_is, good_weaker, either, OnSome'}
 use Rattle.cir_meaning.proofs.Pairs.{good_both}
 use Rattle.cir_meaning.proofs.Likes.{CallKeeps}
-use Rattle.cir_meaning.proofs.ValueKeepings.{value_keeps, assignment_keeps, signal_assignment_keeps, creation_keeps}
+use Rattle.cir_meaning.proofs.ValueKeepings.{value_keeps, assignment_keeps, signal_assignment_keeps}
+use Rattle.cir_meaning.proofs.ValueKeepings.{creation_keeps}
 use Rattle.cir_meaning.proofs.Keepings.{FlowIs, Keeping, exec_all_keeps}
 use Rattle.cir_meaning.proofs.Creating.{Created, create_at_is}
 

@@ -1,6 +1,8 @@
 -- In a program that compiles there are no more signals, constraints and terms than the limits.
-use Rattle.std.specs.Prelude.{⊤, min, nat_le, sum_by, ◌^◌, ◌-◌}
-use Rattle.std.proofs.Common.{◌≡◌, ℕ, zero, suc, ◌+◌, ◌*◌, ◌≤◌, Bool, true, false, cond, List, [], ◌∷◌, ◌++◌, length, Option, Some, None, Ok, refl, sym, ap, subst, ◌∙◌, slice_get, codes, arith, length-append}
+use Rattle.std.specs.Prelude.{⊤, nat_le, sum_by, ◌^◌, ◌-◌}
+use Rattle.std.proofs.Common.{◌≡◌, ℕ, zero, suc, ◌+◌, ◌*◌, ◌≤◌, Bool, true, false, cond, List, []}
+use Rattle.std.proofs.Common.{◌∷◌, ◌++◌, length, Option, Ok, refl, sym, subst, ◌∙◌, slice_get}
+use Rattle.std.proofs.Common.{codes, arith, length-append}
 use Rattle.std.specs.List.{AllByRecursion}
 use Rattle.std.proofs.lemmas.Bool.{leb-true}
 use Rattle.std.proofs.lemmas.List.Sums.{sum_by-append}
@@ -8,26 +10,35 @@ use Rattle.cir_ast.specs.declared.program.Meant.{Meant}
 use Rattle.cir_ast.specs.declared.program.Meant.TheVariants as meant
 use Rattle.cir_ast.specs.declared.operators.Direction.{Direction}
 use Rattle.cir_ast.specs.declared.refusal.Kind.TheVariants.{WrongKind}
-use Rattle.cir_ast.specs.Program.{Program, Main, Template, Function}
-use Rattle.cir_meaning.specs.Tried.{Where, Tried, found}
-use Rattle.cir_meaning.specs.Limits.{Counts, nothing, Limited, limits, standing, tested, plus, with_array, is_too_large, count_sum}
+use Rattle.cir_ast.specs.Program.{Program, Main, Function}
+use Rattle.cir_meaning.specs.Tried.{Where, found}
+use Rattle.cir_meaning.specs.Limits.{Counts, nothing, Limited, limits, standing, tested, plus}
+use Rattle.cir_meaning.specs.Limits.{with_array, is_too_large, count_sum}
 use Rattle.cir_meaning.specs.Places.{elements}
 use Rattle.cir_meaning.specs.Arrays.{Datum}
 use Rattle.cir_meaning.specs.Source.{Equation, terms_of, all_terms}
 use Rattle.cir_meaning.specs.Dependence.{IsFew}
-use Rattle.cir_meaning.specs.Frame.{Signals, Group, Row, World, State, Caller, Maker, Context, at, begun, settle, all_numbers}
+use Rattle.cir_meaning.specs.Frame.{Signals, Group, Row, World, State, Caller, Maker, Context, at}
+use Rattle.cir_meaning.specs.Frame.{begun, settle}
 use Rattle.cir_meaning.specs.Evaluate.{arguments_in}
 use Rattle.cir_meaning.specs.Statement.{Flow, Going, Returned, exec_all}
-use Rattle.cir_meaning.specs.Bodies.{numbered_others, all_written, all_fed, ended, ended_flow, template_context, template_state, exec_template, answer_of, counted_in, emptied, function_context, exec_function, call_at, most_open, make_at}
+use Rattle.cir_meaning.specs.Bodies.{numbered_others, all_written, all_fed, ended, ended_flow}
+use Rattle.cir_meaning.specs.Bodies.{template_context, template_state, exec_template, answer_of}
+use Rattle.cir_meaning.specs.Bodies.{counted_in, emptied, function_context, exec_function, call_at}
+use Rattle.cir_meaning.specs.Bodies.{most_open, make_at}
 use Rattle.cir_meaning.specs.Declaring.{with_row}
 use Rattle.cir_meaning.proofs.Pairs.{good_both}
 use Rattle.cir_meaning.specs.Compile.{main_group, main_context, main_state, empty_world, exec_main}
-use Rattle.cir_meaning.proofs.Good.{OnGood, good_ok, good_bad, good_next, good_on, good_is, good_weaker, OnSome'}
+use Rattle.cir_meaning.proofs.Good.{OnGood, good_ok, good_bad, good_next, good_on, good_is}
+use Rattle.cir_meaning.proofs.Good.{good_weaker, OnSome'}
 use Rattle.cir_meaning.proofs.KnownCalls.{calls_keep}
 use Rattle.cir_meaning.proofs.ValueKeepings.{arguments_keeps}
 use Rattle.cir_meaning.proofs.Keepings.{FlowIs}
 use Rattle.cir_meaning.proofs.DependingValues.{either_as}
-use Rattle.cir_meaning.proofs.Counting.{Measure, signals_added, constraint_added, IsCounted, Kept, Done, Gone, Grows, CallsCount, MakeCounts, BodyCounts, exec_all_counts, array_counts, calls_count, settle_counts, gone, apart, together}
+use Rattle.cir_meaning.proofs.Counting.{Measure, signals_added, constraint_added, IsCounted, Kept}
+use Rattle.cir_meaning.proofs.Counting.{Done, Gone, Grows, CallsCount, MakeCounts, BodyCounts}
+use Rattle.cir_meaning.proofs.Counting.{exec_all_counts, array_counts, calls_count, settle_counts}
+use Rattle.cir_meaning.proofs.Counting.{gone, apart, together}
 
 module _ (numbers : ℕ) (m : Measure numbers) where
   -- an amount that stays

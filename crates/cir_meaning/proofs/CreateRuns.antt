@@ -1,5 +1,6 @@
 -- The run behind the creation of a component.
-use Rattle.std.proofs.Common.{◌≡◌, ◌⊎◌, inl, inr, ℕ, suc, false, List, [], ◌∷◌, ◌++◌, length, Option, Some, None, Ok, refl, sym, ap, subst, ◌∙◌, slice_get}
+use Rattle.std.proofs.Common.{◌≡◌, ◌⊎◌, inl, inr, ℕ, suc, false, List, [], ◌∷◌, ◌++◌, length}
+use Rattle.std.proofs.Common.{Option, Some, None, Ok, refl, sym, ap, subst, ◌∙◌, slice_get}
 use Rattle.cir_meaning.proofs.PartWeights.{last_numbered}
 use Rattle.cir_meaning.proofs.GroupSizes.{IsGrowing, Fits, Less}
 use Rattle.std.specs.List.{AllByRecursion}
@@ -10,10 +11,12 @@ use Rattle.cir_meaning.specs.Scoped.{Scope}
 use Rattle.cir_meaning.specs.Tried.{Where, next}
 use Rattle.cir_meaning.specs.Source.{IsEqualAt}
 use Rattle.cir_meaning.specs.Frame.{Part, World, State, Maker, variable_at, in_frame}
-use Rattle.cir_meaning.specs.Declaring.{opened, add_part, Creation, creation, create_at, create_each, create}
+use Rattle.cir_meaning.specs.Declaring.{opened, add_part, Creation, creation, create_at}
+use Rattle.cir_meaning.specs.Declaring.{create_each, create}
 use Rattle.cir_meaning.specs.RunValues.{stored}
 use Rattle.cir_meaning.specs.Run.{Wires, RunPart, Run, store_of}
-use Rattle.cir_meaning.specs.RunSimple.{Running, with_known, started, waiting, run_created, run_create}
+use Rattle.cir_meaning.specs.RunSimple.{Running, with_known, started, waiting, run_created}
+use Rattle.cir_meaning.specs.RunSimple.{run_create}
 use Rattle.cir_meaning.proofs.Good.{good_is, OnSome'}
 use Rattle.cir_meaning.proofs.Likes.{Like, like_itself}
 use Rattle.cir_meaning.proofs.FineValues.{Fine}
@@ -21,13 +24,16 @@ use Rattle.cir_meaning.proofs.FineWriting.{FineCreation, creation_fine, create_f
 use Rattle.cir_meaning.proofs.KnownValues.{KnownStore}
 use Rattle.cir_meaning.proofs.Holds.{Extends}
 use Rattle.cir_meaning.proofs.Goes.{Goes, goes_ok, goes_same, goes_refusing}
-use Rattle.cir_meaning.proofs.Standing.{PartStands, Stands, Adds, Debts, Pays, made_of, world_of, is_done, changed, Start, Numbered}
+use Rattle.cir_meaning.proofs.Standing.{PartStands, Stands, Adds, Debts, Pays, made_of, world_of}
+use Rattle.cir_meaning.proofs.Standing.{is_done, changed, Start, Numbered}
 use Rattle.cir_meaning.proofs.OwnWrites.{same_in}
 use Rattle.cir_meaning.proofs.PartWrites.{other_done, itself_late}
 use Rattle.cir_meaning.proofs.VariableRuns.{Soundly, like_changed, After}
 use Rattle.cir_meaning.proofs.StepRuns.{stands_like}
 use Rattle.cir_meaning.proofs.Starting.{BodiesRun, started_goes}
-use Rattle.cir_meaning.proofs.Creating.{get_more, get_last, get_either, get_below, one_longer, opened_shapes, opened_shapes_back, opened_marks, creation_like, creation_known, Created, create_at_is}
+use Rattle.cir_meaning.proofs.Creating.{get_more, get_last, get_either, get_below, one_longer}
+use Rattle.cir_meaning.proofs.Creating.{opened_shapes, opened_shapes_back, opened_marks}
+use Rattle.cir_meaning.proofs.Creating.{creation_like, creation_known, Created, create_at_is}
 
 module _ (given : Wires) (start : Start) (scope : Scope) (q : Running)
     (sound : Soundly scope q) (bodies : BodiesRun start.size q.context.make q.body) where

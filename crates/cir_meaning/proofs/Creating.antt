@@ -1,18 +1,25 @@
 -- The creation of a component in a run.
-use Rattle.std.proofs.Common.{◌≡◌, ◌≢◌, ◌⊎◌, inl, inr, ℕ, zero, suc, Bool, true, false, cond, List, [], ◌∷◌, ◌++◌, length, replicate, Option, Some, None, is_none, Ok, refl, sym, ap, subst, slice_get, arith}
+use Rattle.std.proofs.Common.{◌≡◌, ◌≢◌, ◌⊎◌, inl, inr, ℕ, zero, suc, Bool, true, false, cond, List}
+use Rattle.std.proofs.Common.{[], ◌∷◌, ◌++◌, length, replicate, Option, Some, None, is_none, Ok}
+use Rattle.std.proofs.Common.{refl, sym, ap, subst, slice_get, arith}
 use Rattle.cir_ast.specs.declared.program.Meant.{Meant}
 use Rattle.cir_ast.specs.declared.program.Meant.TheVariants as meant
 use Rattle.cir_ast.specs.declared.refusal.Form.TheVariants.{MixedComponents}
-use Rattle.cir_ast.specs.declared.refusal.Kind.TheVariants.{UnknownIndex, ReadBeforeWrite, SecondWrite, TooDeep, NotInProfile}
-use Rattle.cir_ast.specs.Tree.{Expr, Number, Place, Call, Anonymous, Parentheses, Array, Unary, Binary, Choice, Exprs, none, more, Accessors, done, index, member}
+use Rattle.cir_ast.specs.declared.refusal.Kind.TheVariants.{UnknownIndex, ReadBeforeWrite}
+use Rattle.cir_ast.specs.declared.refusal.Kind.TheVariants.{SecondWrite, TooDeep, NotInProfile}
+use Rattle.cir_ast.specs.Tree.{Expr, Number, Place, Call, Anonymous, Parentheses, Array, Unary}
+use Rattle.cir_ast.specs.Tree.{Binary, Choice, Exprs, none, more, Accessors, done, index, member}
 use Rattle.cir_meaning.specs.Tried.{Where, Tried, found}
 use Rattle.cir_meaning.specs.Places.{all_known}
 use Rattle.cir_meaning.specs.Arrays.{Datum, Scalar, Whole, reach, is_known, is_all_known, the_item}
-use Rattle.cir_meaning.specs.Frame.{SignalEntry, Signals, World, State, Context, Maker, entry_at, is_input, in_frame}
+use Rattle.cir_meaning.specs.Frame.{SignalEntry, Signals, World, State, Context, Maker, entry_at}
+use Rattle.cir_meaning.specs.Frame.{is_input, in_frame}
 use Rattle.cir_meaning.specs.Values.{known_number}
 use Rattle.cir_meaning.specs.Evaluate.{value_in, arguments_in, indices_in}
-use Rattle.cir_meaning.specs.Declaring.{template_of, may_be, opened, add_part, path_of, Creation, template_call, creation, create_at}
-use Rattle.cir_meaning.proofs.Good.{OnGood, good_ok, good_bad, good_next, good_on, good_as, good_needed, good_needed_as, good_found_as}
+use Rattle.cir_meaning.specs.Declaring.{template_of, may_be, opened, add_part, path_of, Creation}
+use Rattle.cir_meaning.specs.Declaring.{template_call, creation, create_at}
+use Rattle.cir_meaning.proofs.Good.{OnGood, good_ok, good_bad, good_next, good_on, good_as}
+use Rattle.cir_meaning.proofs.Good.{good_needed, good_needed_as, good_found_as}
 use Rattle.cir_meaning.proofs.Likes.{CallKeeps, Like, value_like}
 use Rattle.cir_meaning.proofs.FineWriting.{template_call_good}
 use Rattle.cir_meaning.proofs.KnownValues.{KnownDatum, KnownStore, all_pass}

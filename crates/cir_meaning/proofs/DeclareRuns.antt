@@ -1,5 +1,6 @@
 -- The declaration of a signal in a run.
-use Rattle.std.proofs.Common.{◌≡◌, ◌≢◌, ◌⊎◌, inl, inr, ℕ, Bool, List, Option, Some, None, is_some, refl, sym, ap, subst, ◌∙◌, slice_get}
+use Rattle.std.proofs.Common.{◌≡◌, ◌≢◌, ◌⊎◌, inl, inr, ℕ, Bool, List, Option, Some, None, is_some}
+use Rattle.std.proofs.Common.{refl, sym, ap, subst, ◌∙◌, slice_get}
 use Rattle.cir_meaning.proofs.NewSignals.{new_numbered}
 use Rattle.std.specs.List.{AllByRecursion}
 use Rattle.cir_meaning.specs.Source.{IsEqualAt}
@@ -7,7 +8,8 @@ use Rattle.cir_ast.specs.declared.program.Spot.{Spot}
 use Rattle.cir_ast.specs.declared.operators.Direction.{Direction}
 use Rattle.cir_lc.specs.Number.{Assignment}
 use Rattle.cir_meaning.specs.Limits.{Counts}
-use Rattle.cir_meaning.specs.Frame.{SignalEntry, Signals, State, Context, Maker, World, put_at, entry_at, variable_at}
+use Rattle.cir_meaning.specs.Frame.{SignalEntry, Signals, State, Context, Maker, World, put_at}
+use Rattle.cir_meaning.specs.Frame.{entry_at, variable_at}
 use Rattle.cir_meaning.specs.Declaring.{new_signal, with_row, declare_signal}
 use Rattle.cir_meaning.specs.RunValues.{stored}
 use Rattle.cir_meaning.specs.Run.{Wires, Run, store_of}

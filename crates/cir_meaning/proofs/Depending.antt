@@ -1,19 +1,23 @@
 -- The operators give values that depend on no other signals than their operands.
-use Rattle.std.proofs.Common.{◌≡◌, ℕ, ◌+◌, ◌-◌, ◌*◌, ◌%◌, Bool, true, false, cond, Option, Some, None, refl, subst}
+use Rattle.std.proofs.Common.{◌≡◌, ℕ, ◌+◌, ◌-◌, ◌*◌, ◌%◌, Bool, true, false, cond, Option, Some}
+use Rattle.std.proofs.Common.{None, refl, subst}
 use Rattle.std.specs.Prelude.{◌==◌, ⊤}
-use Rattle.gold_field.specs.declared.gold.TheConstants.{P}
 use Rattle.gold_field.specs.declared.operators.Op1.{Op1}
 use Rattle.gold_field.specs.declared.operators.Op1.TheVariants.{Neg, Not, Compl}
 use Rattle.gold_field.specs.declared.operators.Op2.{Op2}
-use Rattle.gold_field.specs.declared.operators.Op2.TheVariants.{Add, Sub, Mul, Div, Quot, Rem, Pow, Shl, Shr}
-use Rattle.gold_field.specs.declared.operators.Op2.TheVariants.{And, Xor, Or, Lt, Le, Gt, Ge, Eq, Ne}
+use Rattle.gold_field.specs.declared.operators.Op2.TheVariants.{Add, Sub, Mul, Div, Quot, Rem, Pow}
+use Rattle.gold_field.specs.declared.operators.Op2.TheVariants.{Shl, Shr, And, Xor, Or, Lt, Le, Gt}
+use Rattle.gold_field.specs.declared.operators.Op2.TheVariants.{Ge, Eq, Ne}
 use Rattle.gold_field.specs.Operators.{binary_of, inverse_of}
-use Rattle.cir_lc.specs.Number.{Number, constant, signal, added, scaled, multiplied, negated}
+use Rattle.cir_lc.specs.Number.{Number, constant, signal, added, scaled, negated}
 use Rattle.cir_meaning.specs.Dependence.{Depends, IsOver}
 use Rattle.cir_meaning.specs.Source.{Equation}
-use Rattle.cir_meaning.specs.Values.{Value, Known, Linear, Quadratic, Opaque, Parts, sum_of, negative_of, difference_of, parts_of, number_of}
-use Rattle.cir_meaning.specs.Values.{product_of, quotient_of, known_of, known_or_opaque, power_of, power_by, result_of}
-use Rattle.cir_meaning.specs.Values.{known_unary, unary_result, Decided, Right, truth_of, and_left, or_left, lazy_result, Side, First, Second, Both, chosen}
+use Rattle.cir_meaning.specs.Values.{Value, Known, Linear, Quadratic, Opaque, Parts, sum_of}
+use Rattle.cir_meaning.specs.Values.{negative_of, difference_of, parts_of, number_of, product_of}
+use Rattle.cir_meaning.specs.Values.{quotient_of, known_of, known_or_opaque, power_of, power_by}
+use Rattle.cir_meaning.specs.Values.{result_of, known_unary, unary_result, Decided, Right, truth_of}
+use Rattle.cir_meaning.specs.Values.{and_left, or_left, lazy_result, Side, First, Second, Both}
+use Rattle.cir_meaning.specs.Values.{chosen}
 use Rattle.cir_meaning.proofs.ClassLaws.{divided_is}
 
 some_is : (q r : Parts) → Some q ≡ Some r → q ≡ r

@@ -1,8 +1,8 @@
 -- The equations of a program depend on declared signals alone, and the sizes of the groups are
 -- those of the rows.
 use Rattle.std.specs.Prelude.{⊤}
-use Rattle.std.proofs.Common.{◌≡◌, ℕ, zero, suc, ◌-◌, List, [], ◌∷◌, ◌++◌, length, replicate, Option, Some, None, Ok, refl, slice_get, codes}
-use Rattle.std.specs.List.{AllByRecursion}
+use Rattle.std.proofs.Common.{◌≡◌, ℕ, zero, suc, ◌-◌, List, [], ◌∷◌, ◌++◌, length, replicate}
+use Rattle.std.proofs.Common.{Option, None, Ok, refl, slice_get, codes}
 use Rattle.cir_ast.specs.declared.program.Meant.{Meant}
 use Rattle.cir_ast.specs.declared.program.Meant.TheVariants as meant
 use Rattle.cir_ast.specs.declared.operators.Direction.{Direction}
@@ -11,13 +11,16 @@ use Rattle.cir_ast.specs.Program.{Program, Main, Template}
 use Rattle.cir_meaning.specs.Dependence.{IsAllDeclared}
 use Rattle.cir_meaning.specs.SignalFree.{AreFunctionsFree}
 use Rattle.cir_meaning.specs.Tried.{Where, found}
-use Rattle.cir_meaning.specs.Limits.{Counts, limits, tested, plus}
+use Rattle.cir_meaning.specs.Limits.{limits, tested, plus}
 use Rattle.cir_meaning.specs.Arrays.{Datum, single}
 use Rattle.cir_meaning.specs.Values.{Known}
-use Rattle.cir_meaning.specs.Frame.{Signals, Group, Outputs, PublicInputs, PrivateInputs, Others, World, State, Caller, Maker, Context, at, settle}
+use Rattle.cir_meaning.specs.Frame.{Signals, Group, Outputs, PublicInputs, PrivateInputs, Others}
+use Rattle.cir_meaning.specs.Frame.{World, State, Caller, Maker, Context, at, settle}
 use Rattle.cir_meaning.specs.Evaluate.{arguments_in}
 use Rattle.cir_meaning.specs.Statement.{Flow, Going, Returned, exec_all}
-use Rattle.cir_meaning.specs.Bodies.{numbered_others, all_written, all_fed, ended, ended_flow, template_context, template_state, exec_template, call_at, most_open, make_at}
+use Rattle.cir_meaning.specs.Bodies.{numbered_others, all_written, all_fed, ended, ended_flow}
+use Rattle.cir_meaning.specs.Bodies.{template_context, template_state, exec_template, call_at}
+use Rattle.cir_meaning.specs.Bodies.{most_open, make_at}
 use Rattle.cir_meaning.specs.Compile.{main_group, main_context, main_state, empty_world, exec_main}
 use Rattle.cir_meaning.proofs.Good.{OnGood, good_ok, good_bad, good_next, good_on, good_is, OnSome'}
 use Rattle.cir_meaning.proofs.Pairs.{good_both}
@@ -26,8 +29,10 @@ use Rattle.cir_meaning.proofs.Likes.{CallKeeps, Like, like_itself}
 use Rattle.cir_meaning.proofs.KnownValues.{KnownDatum, KnownStore, CallKnown}
 use Rattle.cir_meaning.proofs.KnownCalls.{both_known, calls_both, calls_keep}
 use Rattle.cir_meaning.proofs.Creating.{arguments_like}
-use Rattle.cir_meaning.proofs.DependingValues.{CallsOver, DatumOver, SignalsOver, FrameOver, known_over}
-use Rattle.cir_meaning.proofs.DependingWriting.{AtRows, SizesAre, WorldOver, StateOver, MadeOver, MakeOver, BodyOver, own_base, counts_over, like_over, arguments_known, all_more}
+use Rattle.cir_meaning.proofs.DependingValues.{DatumOver, known_over}
+use Rattle.cir_meaning.proofs.DependingWriting.{AtRows, SizesAre, WorldOver, StateOver, MadeOver}
+use Rattle.cir_meaning.proofs.DependingWriting.{MakeOver, own_base, counts_over, like_over}
+use Rattle.cir_meaning.proofs.DependingWriting.{arguments_known, all_more}
 use Rattle.cir_meaning.proofs.Keepings.{FlowIs}
 use Rattle.cir_meaning.proofs.DependingStatements.{exec_all_over}
 

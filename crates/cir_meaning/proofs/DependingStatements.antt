@@ -1,5 +1,5 @@
 -- Statements keep all values and equations over declared signals.
-use Rattle.std.proofs.Common.{◌≡◌, ℕ, Bool, false, List, [], ◌∷◌, Ok, refl, sym, subst}
+use Rattle.std.proofs.Common.{◌≡◌, ℕ, Bool, false, List, [], ◌∷◌, refl, sym, subst}
 use Rattle.cir_ast.specs.declared.program.Meant.{Meant}
 use Rattle.cir_ast.specs.declared.operators.Arrow.{Arrow}
 use Rattle.cir_ast.specs.Tree.{Expr, Accessors, Assign, Statements}
@@ -8,14 +8,15 @@ use Rattle.cir_meaning.specs.Tried.{Where, Tried, next}
 use Rattle.cir_meaning.specs.Limits.{with_array}
 use Rattle.cir_meaning.specs.Arrays.{Datum, Want, Scalar, Whole, filled, forgotten, the_item}
 use Rattle.cir_meaning.specs.Values.{Value, Known, Opaque}
-use Rattle.cir_meaning.specs.Frame.{Row, World, State, Context, variable_at, counted, one_statement}
+use Rattle.cir_meaning.specs.Frame.{Row, State, Context, variable_at, counted, one_statement}
 use Rattle.cir_meaning.specs.Evaluate.{scalar, value_in}
-use Rattle.cir_meaning.specs.Writing.{put_variable, variable_assignment, is_unknown, write_variable, signal_assignment, write_signal, constrained}
+use Rattle.cir_meaning.specs.Writing.{put_variable, variable_assignment, is_unknown, write_variable}
+use Rattle.cir_meaning.specs.Writing.{signal_assignment, write_signal, constrained}
 use Rattle.cir_meaning.specs.Declaring.{creation, create}
 use Rattle.cir_meaning.specs.Costs.{Cost}
-use Rattle.cir_meaning.specs.Steps.{stepped, variable_cost, signal_cost, equal_cost, new_cells}
+use Rattle.cir_meaning.specs.Steps.{variable_cost, signal_cost, equal_cost, new_cells}
 use Rattle.cir_meaning.specs.Simple as simple
-use Rattle.cir_meaning.specs.Statement.{Flow, Returned, exec_all}
+use Rattle.cir_meaning.specs.Statement.{Flow, exec_all}
 use Rattle.cir_meaning.proofs.Good.{OnGood, good_ok, good_next, good_weaker, either}
 use Rattle.cir_meaning.proofs.Pairs.{good_both}
 use Rattle.cir_meaning.proofs.Likes.{Like, like_itself, value_like}
@@ -23,7 +24,14 @@ use Rattle.cir_meaning.proofs.KnownValues.{KnownStore}
 use Rattle.cir_meaning.proofs.Keepings.{FlowIs, Keeping, exec_all_keeps}
 use Rattle.cir_meaning.proofs.Depending.{Over}
 use Rattle.cir_meaning.proofs.DependingValues.{DatumOver, the_over, value_over}
-use Rattle.cir_meaning.proofs.DependingWriting.{AtRows, WorldOver, StateOver, BodyOver, rows_like, like_over, datum_like, counted_as_over, settle_over, counted_over, stepped_over, set_over, forgotten_over, write_over, declare_variable_over, constrained_over, elements_over, declare_signal_over, create_over, declare_component_over, assignment_over, signal_assignment_over, creation_over}
+use Rattle.cir_meaning.proofs.DependingWriting.{AtRows, WorldOver, StateOver, BodyOver, rows_like}
+use Rattle.cir_meaning.proofs.DependingWriting.{like_over, datum_like, counted_as_over, settle_over}
+use Rattle.cir_meaning.proofs.DependingWriting.{counted_over, stepped_over, set_over}
+use Rattle.cir_meaning.proofs.DependingWriting.{forgotten_over, write_over, declare_variable_over}
+use Rattle.cir_meaning.proofs.DependingWriting.{constrained_over, elements_over}
+use Rattle.cir_meaning.proofs.DependingWriting.{declare_signal_over, create_over}
+use Rattle.cir_meaning.proofs.DependingWriting.{declare_component_over, assignment_over}
+use Rattle.cir_meaning.proofs.DependingWriting.{signal_assignment_over, creation_over}
 
 module _ (size : ℕ) (base : List Row) (k : Context) (body : BodyOver size k) where
   abbrev Kept : State → Type 0

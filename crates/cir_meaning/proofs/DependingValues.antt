@@ -1,25 +1,39 @@
 -- Values depend on those signals alone that the frame knows.
-use Rattle.std.specs.Prelude.{⊤, ◌&&◌, bytes_eq, not}
-use Rattle.std.proofs.Common.{◌≡◌, ℕ, zero, suc, ◌+◌, ◌%◌, Bool, true, false, cond, List, [], ◌∷◌, ◌++◌, map, flat_map, length, replicate, Option, Some, None, Ok, refl, sym, subst, is_some, slice_get, unwrap_or}
+use Rattle.std.specs.Prelude.{⊤, ◌&&◌, bytes_eq}
+use Rattle.std.proofs.Common.{◌≡◌, ℕ, zero, suc, ◌+◌, ◌%◌, Bool, true, false, cond, List, [], ◌∷◌}
+use Rattle.std.proofs.Common.{◌++◌, map, flat_map, length, replicate, Option, Some, None, Ok, refl}
+use Rattle.std.proofs.Common.{sym, subst, is_some, slice_get}
 use Rattle.std.specs.List.{AllByRecursion, list_all}
 use Rattle.gold_field.specs.declared.gold.TheConstants.{P}
 use Rattle.gold_field.specs.declared.operators.Op2.{Op2}
 use Rattle.cir_ast.specs.declared.program.Meant.{Meant}
 use Rattle.cir_ast.specs.declared.program.Meant.TheVariants as meant
 use Rattle.cir_ast.specs.declared.refusal.Kind.TheVariants.{ShapeDiffers, ReadBeforeWrite}
-use Rattle.cir_ast.specs.Tree.{Expr, Number, Place, Call, Anonymous, Parentheses, Array, Unary, Binary, Choice, Exprs, none, more, Accessors, done, index, member}
+use Rattle.cir_ast.specs.Tree.{Expr, Number, Place, Call, Anonymous, Parentheses, Array, Unary}
+use Rattle.cir_ast.specs.Tree.{Binary, Choice, Exprs, none, more, Accessors, done, index, member}
 use Rattle.cir_lc.specs.Number.{signal}
 use Rattle.cir_meaning.specs.Tried.{Where, Tried, found}
 use Rattle.cir_meaning.specs.Places.{elements}
 use Rattle.cir_meaning.specs.Limits.{is_too_large}
-use Rattle.cir_meaning.specs.Values.{Value, Known, Linear, Quadratic, Opaque, result_of, chosen, side_of, known_number, unary_result}
-use Rattle.cir_meaning.specs.Arrays.{Datum, Want, Scalar, Whole, fits, single, made, filled, item_at, the_item, is_known, is_all_known, same_dims, Reach, reach, read_part}
-use Rattle.cir_meaning.specs.Operators.{Operator, Strict, And, Or, operator_of, unary_of, left_tells, applied, divided_at, shading, first_shading, second_shading}
-use Rattle.cir_meaning.specs.Frame.{SignalEntry, Signals, Part, Frame, State, Context, signal_item, variable_at, entry_at}
-use Rattle.cir_meaning.specs.Reading.{Origin, Stored, Wired, Lost, Root, Named, Found, is_readable, read_origin, origin_of, inner_origin, part_at, part_origin, located, named_signal, find_signal, told_signal}
-use Rattle.cir_meaning.specs.Evaluate.{scalar, answered, looked_at, has_literal, gathered, call_known, called, value_in, all_in, read_in}
-use Rattle.cir_meaning.proofs.Depending.{Over, signal_over, result_over, unary_over, and_over, or_over, chosen_over}
-use Rattle.cir_meaning.proofs.Good.{OnGood, good_ok, good_bad, good_next, good_on, good_needed, good_needed_as, good_weaker, good_found, either, OnSome'}
+use Rattle.cir_meaning.specs.Values.{Value, Known, Linear, Quadratic, Opaque, result_of, chosen}
+use Rattle.cir_meaning.specs.Values.{side_of, known_number, unary_result}
+use Rattle.cir_meaning.specs.Arrays.{Datum, Want, Scalar, Whole, fits, single, made, filled}
+use Rattle.cir_meaning.specs.Arrays.{item_at, the_item, is_all_known, same_dims, Reach, reach}
+use Rattle.cir_meaning.specs.Arrays.{read_part}
+use Rattle.cir_meaning.specs.Operators.{Operator, Strict, And, Or, operator_of, unary_of}
+use Rattle.cir_meaning.specs.Operators.{left_tells, applied, divided_at, shading, first_shading}
+use Rattle.cir_meaning.specs.Operators.{second_shading}
+use Rattle.cir_meaning.specs.Frame.{SignalEntry, Signals, Part, Frame, State, Context, signal_item}
+use Rattle.cir_meaning.specs.Frame.{variable_at, entry_at}
+use Rattle.cir_meaning.specs.Reading.{Origin, Stored, Wired, Lost, Root, Named, Found, is_readable}
+use Rattle.cir_meaning.specs.Reading.{read_origin, origin_of, inner_origin, part_at, part_origin}
+use Rattle.cir_meaning.specs.Reading.{located, named_signal, find_signal, told_signal}
+use Rattle.cir_meaning.specs.Evaluate.{scalar, answered, looked_at, has_literal, gathered}
+use Rattle.cir_meaning.specs.Evaluate.{call_known, called, value_in, all_in, read_in}
+use Rattle.cir_meaning.proofs.Depending.{Over, signal_over, result_over, unary_over, and_over}
+use Rattle.cir_meaning.proofs.Depending.{or_over, chosen_over}
+use Rattle.cir_meaning.proofs.Good.{OnGood, good_ok, good_bad, good_next, good_on, good_needed}
+use Rattle.cir_meaning.proofs.Good.{good_found, either, OnSome'}
 use Rattle.cir_meaning.proofs.Rows.{at_or, all_replicate, all_map, all_joined}
 use Rattle.cir_meaning.proofs.Pairs.{good_both}
 use Rattle.cir_meaning.proofs.Likes.{CallKeeps, Like, value_like}

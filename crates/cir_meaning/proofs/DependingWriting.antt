@@ -1,39 +1,60 @@
 -- What writes, declarations and creations leave depends on declared signals alone.
-use Rattle.std.specs.Prelude.{⊤, sum_by, min, ◌^◌, ◌-◌}
+use Rattle.std.specs.Prelude.{⊤, sum_by, ◌^◌, ◌-◌}
 use Rattle.std.proofs.lemmas.List.Sums.{sum_by-append}
-use Rattle.std.proofs.Common.{◌≡◌, ◌⊎◌, inl, inr, ℕ, zero, suc, ◌+◌, ◌<◌, ◌≤◌, Bool, true, false, not, cond, List, [], ◌∷◌, ◌++◌, length, replicate, Option, Some, None, Ok, refl, sym, ap, subst, ◌∙◌, is_some, slice_get, slice_set, unwrap_or, arith}
-use Rattle.std.specs.List.{AllByRecursion, list_all}
+use Rattle.std.proofs.Common.{◌≡◌, ◌⊎◌, ℕ, zero, suc, ◌+◌, ◌<◌, ◌≤◌, Bool, true, false, not, cond}
+use Rattle.std.proofs.Common.{List, [], ◌∷◌, ◌++◌, length, replicate, Option, Some, None, refl, sym}
+use Rattle.std.proofs.Common.{ap, subst, ◌∙◌, is_some, slice_get, slice_set, unwrap_or, arith}
+use Rattle.std.specs.List.{AllByRecursion}
 use Rattle.cir_ast.specs.declared.program.Spot.{Spot}
 use Rattle.cir_ast.specs.declared.program.Meant.{Meant}
 use Rattle.cir_ast.specs.declared.program.Meant.TheVariants as meant
 use Rattle.cir_ast.specs.declared.operators.Arrow.{Arrow}
-use Rattle.cir_ast.specs.declared.operators.Arrow.TheVariants.{Assign as AssignArrow, Constrain as ConstrainArrow}
+use Rattle.cir_ast.specs.declared.operators.Arrow.TheVariants.{Assign as AssignArrow}
+use Rattle.cir_ast.specs.declared.operators.Arrow.TheVariants.{Constrain as ConstrainArrow}
 use Rattle.cir_ast.specs.declared.operators.Direction.{Direction}
 use Rattle.cir_ast.specs.declared.refusal.Kind.{Kind}
-use Rattle.cir_ast.specs.declared.refusal.Kind.TheVariants.{UnknownIndex, ReadBeforeWrite, SecondWrite, ShapeDiffers}
-use Rattle.cir_ast.specs.Tree.{Expr, Parentheses, Call, Exprs, none, more, Accessors, done, index, member}
+use Rattle.cir_ast.specs.declared.refusal.Kind.TheVariants.{UnknownIndex, ReadBeforeWrite}
+use Rattle.cir_ast.specs.declared.refusal.Kind.TheVariants.{SecondWrite, ShapeDiffers}
+use Rattle.cir_ast.specs.Tree.{Expr, Parentheses, Call, Exprs, none, more, Accessors, done, index}
+use Rattle.cir_ast.specs.Tree.{member}
 use Rattle.cir_lc.specs.Number.{signal}
-use Rattle.cir_meaning.specs.Dependence.{declared_in, IsOfGroup, IsDeclared, IsOver}
-use Rattle.cir_meaning.specs.Tried.{Where, Tried, next, found}
+use Rattle.cir_meaning.specs.Dependence.{declared_in, IsDeclared, IsOver}
+use Rattle.cir_meaning.specs.Tried.{Where, Tried, found}
 use Rattle.cir_meaning.specs.Places.{elements, all_known}
 use Rattle.cir_meaning.specs.Limits.{Counts, nothing, limits, standing, tested, plus, is_too_large}
-use Rattle.cir_meaning.specs.Arrays.{Datum, Scalar, Whole, Reach, reach, same_dims, put_items, forgotten, filled, is_known, is_all_known}
-use Rattle.cir_meaning.specs.Values.{Value, Known, Linear, Opaque, Parts, difference_of, parts_of}
-use Rattle.cir_meaning.specs.Frame.{SignalEntry, Signals, Part, Frame, Group, Outputs, PublicInputs, PrivateInputs, Others, Sizes, Row, World, State, Context, Maker, is_input, is_written, entry_at, put_at, variable_at, adding, settle, counted, one_statement, size_in, more_in, before_group, next_number}
+use Rattle.cir_meaning.specs.Arrays.{Datum, Scalar, Whole, Reach, reach, same_dims, put_items}
+use Rattle.cir_meaning.specs.Arrays.{forgotten, filled, is_known, is_all_known}
+use Rattle.cir_meaning.specs.Values.{Value, Linear, Opaque, Parts, difference_of, parts_of}
+use Rattle.cir_meaning.specs.Frame.{SignalEntry, Signals, Part, Frame, Group, Outputs, PublicInputs}
+use Rattle.cir_meaning.specs.Frame.{PrivateInputs, Others, Sizes, Row, World, State, Context, Maker}
+use Rattle.cir_meaning.specs.Frame.{is_input, is_written, entry_at, put_at, variable_at, adding}
+use Rattle.cir_meaning.specs.Frame.{settle, counted, one_statement, size_in, more_in, before_group}
+use Rattle.cir_meaning.specs.Frame.{next_number}
 use Rattle.cir_meaning.specs.Compile.{is_of, rows_of}
-use Rattle.cir_meaning.specs.Evaluate.{scalar, value_in, arguments_in, indices_in}
-use Rattle.cir_meaning.specs.Writing.{put_variable, written_datum, VariableAssignment, variable_assignment, write_variable, Target, part_signals, signals_of, with_part_signals, with_signals, marked, write_element, appended, constrained, constrained_by, write_elements, SignalAssignment, signal_assignment, target_in}
-use Rattle.cir_meaning.specs.Declaring.{declare_variable, new_signal, with_row, declare_signal, declare_component, opened, add_part, Creation, creation, created_at, template_call, create_at, create_each, create}
+use Rattle.cir_meaning.specs.Evaluate.{value_in, arguments_in, indices_in}
+use Rattle.cir_meaning.specs.Writing.{put_variable, written_datum, VariableAssignment}
+use Rattle.cir_meaning.specs.Writing.{variable_assignment, write_variable, Target, part_signals}
+use Rattle.cir_meaning.specs.Writing.{signals_of, with_part_signals, with_signals, marked}
+use Rattle.cir_meaning.specs.Writing.{write_element, appended, constrained, constrained_by}
+use Rattle.cir_meaning.specs.Writing.{write_elements, signal_assignment, target_in}
+use Rattle.cir_meaning.specs.Declaring.{new_signal, with_row, declare_signal, declare_component}
+use Rattle.cir_meaning.specs.Declaring.{opened, Creation, creation, template_call, create_at}
+use Rattle.cir_meaning.specs.Declaring.{create_each}
 use Rattle.cir_meaning.specs.Costs.{Cost}
 use Rattle.cir_meaning.specs.Functions.{function_fault, function_elements}
 use Rattle.cir_meaning.specs.Steps.{unless_faulty, with_step, stepped}
-use Rattle.cir_meaning.proofs.Depending.{Over, signal_over, difference_over, equation_over, over_more, is_over_more}
-use Rattle.cir_meaning.proofs.DependingValues.{CallsOver, DatumOver, EntryOver, SignalsOver, PartOver, FrameOver, known_over, filled_over, variable_over, entry_over, some_at, value_over}
-use Rattle.cir_meaning.proofs.Good.{OnGood, good_ok, good_bad, good_next, good_on, good_needed, good_needed_as, good_found_as, good_weaker, good_is, either, OnSome'}
+use Rattle.cir_meaning.proofs.Depending.{Over, signal_over, difference_over, equation_over}
+use Rattle.cir_meaning.proofs.Depending.{over_more, is_over_more}
+use Rattle.cir_meaning.proofs.DependingValues.{CallsOver, DatumOver, EntryOver, SignalsOver}
+use Rattle.cir_meaning.proofs.DependingValues.{PartOver, FrameOver, filled_over, variable_over}
+use Rattle.cir_meaning.proofs.DependingValues.{entry_over, some_at, value_over}
+use Rattle.cir_meaning.proofs.Good.{OnGood, good_ok, good_bad, good_next, good_on, good_needed}
+use Rattle.cir_meaning.proofs.Good.{good_needed_as, good_found_as, good_weaker, good_is, either}
+use Rattle.cir_meaning.proofs.Good.{OnSome'}
 use Rattle.cir_meaning.proofs.Pairs.{good_both}
-use Rattle.cir_meaning.proofs.Rows.{all_append, all_map, all_put, all_replicate, all_set}
-use Rattle.cir_meaning.proofs.Likes.{Like, like_itself, value_like}
-use Rattle.cir_meaning.proofs.KnownValues.{KnownDatum, KnownStore, all_pass}
+use Rattle.cir_meaning.proofs.Rows.{all_append, all_map, all_put, all_set}
+use Rattle.cir_meaning.proofs.Likes.{Like, like_itself}
+use Rattle.cir_meaning.proofs.KnownValues.{KnownStore, all_pass}
 use Rattle.cir_meaning.proofs.VariableRuns.{assignment_like}
 use Rattle.cir_meaning.proofs.SignalTargets.{assignment_target}
 use Rattle.cir_meaning.proofs.Creating.{Created, create_at_is, creation_like}

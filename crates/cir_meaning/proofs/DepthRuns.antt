@@ -1,12 +1,14 @@
 -- The bodies of components run, however deep they stand.
-use Rattle.std.proofs.Common.{◌≡◌, ℕ, ◌+◌, zero, suc, Bool, true, false, Option, Some, None, is_some, Ok, Err, refl, sym, ap, subst, ◌∙◌, slice_get}
+use Rattle.std.proofs.Common.{◌≡◌, ℕ, ◌+◌, zero, suc, Bool, true, false, Option, Some, None}
+use Rattle.std.proofs.Common.{is_some, Ok, Err, refl, sym, ap, subst, ◌∙◌, slice_get}
 use Rattle.cir_ast.specs.Program.{Program, Template}
 use Rattle.cir_meaning.specs.Scoped.{IsResolved}
 use Rattle.cir_ast.specs.declared.refusal.Kind.TheVariants.{WrongKind}
 use Rattle.cir_meaning.specs.Tried.{next, found}
 use Rattle.cir_meaning.specs.Statement.{exec_all}
 use Rattle.cir_meaning.specs.Frame.{SignalEntry, Part, Maker, entry_at, is_input, is_fed}
-use Rattle.cir_meaning.specs.Bodies.{template_context, template_state, ended_flow, call_at, make_at, most_open, numbered_others}
+use Rattle.cir_meaning.specs.Bodies.{template_context, template_state, ended_flow, call_at, make_at}
+use Rattle.cir_meaning.specs.Bodies.{most_open, numbered_others}
 use Rattle.cir_meaning.specs.Run.{RunPart, RunTried, Rejected, Stopped}
 use Rattle.cir_meaning.specs.RunSimple.{Outcome}
 use Rattle.cir_meaning.specs.RunBodies.{body_at}

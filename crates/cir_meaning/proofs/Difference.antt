@@ -4,7 +4,8 @@ use Rattle.std.proofs.Math.Nat.{mod-mod}
 use Rattle.gold_field.specs.declared.gold.TheConstants.{P}
 use Rattle.cir_lc.specs.Number.{Assignment, constant, added, multiplied}
 use Rattle.cir_meaning.specs.declared.class.Class.TheVariants as Class'
-use Rattle.cir_meaning.specs.Values.{Value, Known, Linear, Quadratic, Opaque, Parts, IsValue, class_of, difference_of, number_of, parts_of}
+use Rattle.cir_meaning.specs.Values.{Value, Known, Linear, Quadratic, Opaque, Parts, IsValue}
+use Rattle.cir_meaning.specs.Values.{class_of, difference_of, number_of, parts_of}
 use Rattle.cir_meaning.specs.Source.{IsDifference, number_of_parts}
 use Rattle.cir_meaning.proofs.NumberLaws.{below, difference_number}
 

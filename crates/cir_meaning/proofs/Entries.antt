@@ -1,7 +1,9 @@
 -- What holds of a signal's entry, whatever is written of it, is left by all that doesn't declare it
 -- again.
-use Rattle.std.proofs.Common.{◌≡◌, ◌≢◌, ◌⊎◌, inl, inr, ℕ, zero, suc, [], ◌∷◌, Option, Some, None, refl, sym, ap, subst, ◌∙◌, slice_get}
-use Rattle.cir_meaning.specs.Frame.{SignalEntry, Signals as SignalTable, Part, Frame, State, Context, put_at, entry_at}
+use Rattle.std.proofs.Common.{◌≡◌, ◌≢◌, ◌⊎◌, inl, inr, ℕ, zero, suc, [], ◌∷◌, Option, Some, None}
+use Rattle.std.proofs.Common.{refl, sym, ap, subst, ◌∙◌, slice_get}
+use Rattle.cir_meaning.specs.Frame.{SignalEntry, Signals as SignalTable, Part, Frame, State}
+use Rattle.cir_meaning.specs.Frame.{Context, put_at, entry_at}
 use Rattle.cir_meaning.specs.Writing.{signals_of, with_part_signals, with_signals, marked}
 use Rattle.cir_meaning.proofs.Good.{good_weaker}
 use Rattle.cir_meaning.proofs.Likes.{Like}

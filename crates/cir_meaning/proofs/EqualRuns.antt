@@ -1,5 +1,6 @@
 -- `log` and `===` in a run.
-use Rattle.std.proofs.Common.{◌≡◌, ◌≢◌, ℕ, Bool, true, false, cond, List, [], ◌∷◌, Option, Some, None, Ok, Err, refl, sym, ap, subst, ◌∙◌}
+use Rattle.std.proofs.Common.{◌≡◌, ◌≢◌, ℕ, Bool, true, false, cond, List, [], ◌∷◌, Option, Some}
+use Rattle.std.proofs.Common.{None, Ok, Err, refl, sym, ap, subst, ◌∙◌}
 use Rattle.std.specs.Prelude.{⊤, ◌==◌}
 use Rattle.std.specs.Fmt.{decimal}
 use Rattle.std.specs.List.{AllByRecursion}
@@ -12,7 +13,8 @@ use Rattle.cir_meaning.specs.Scoped.{Scope, AreCallsMeant, IsArgumentMeant}
 use Rattle.cir_meaning.specs.Tried.{Where, Tried, next}
 use Rattle.cir_meaning.specs.Arrays.{Scalar}
 use Rattle.cir_meaning.specs.Source.{Equation, IsEqualAt}
-use Rattle.cir_meaning.specs.Values.{Value, Known, Linear, Quadratic, Opaque, Parts, number_of, parts_of, difference_of, class_of}
+use Rattle.cir_meaning.specs.Values.{Value, Known, Linear, Quadratic, Opaque, Parts, number_of}
+use Rattle.cir_meaning.specs.Values.{parts_of, difference_of, class_of}
 use Rattle.cir_meaning.specs.Frame.{State, Context, Maker}
 use Rattle.cir_meaning.specs.Evaluate.{value_in}
 use Rattle.cir_meaning.specs.Writing.{appended, constrained}
@@ -23,7 +25,8 @@ use Rattle.cir_meaning.specs.RunValues.{Ran, number_in, gives, constraint_fails}
 use Rattle.cir_meaning.specs.Run.{Wires, Run, store_of, environment}
 use Rattle.cir_meaning.specs.RunSimple.{Running, with_known, sides, run_equal}
 use Rattle.cir_meaning.specs.RunBodies.{log_words, run_log}
-use Rattle.cir_meaning.proofs.Good.{OnGood, good_ok, good_bad, good_any, good_next, good_is, good_weaker}
+use Rattle.cir_meaning.proofs.Good.{OnGood, good_ok, good_bad, good_any, good_next, good_is}
+use Rattle.cir_meaning.proofs.Good.{good_weaker}
 use Rattle.cir_meaning.proofs.Pairs.{Pair, pair_stop, pair_right, pair_good}
 use Rattle.cir_meaning.proofs.Likes.{Like, like_itself, value_like}
 use Rattle.cir_meaning.proofs.FineValues.{Fine, FineAnswer, value_fine}
@@ -35,8 +38,10 @@ use Rattle.cir_meaning.proofs.RunFree.{Any}
 use Rattle.cir_meaning.proofs.Holds.{Extends, pair_assoc}
 use Rattle.cir_meaning.proofs.Goes.{Goes, goes_ok, goes_refusing, goes_step, pair_no}
 use Rattle.cir_meaning.proofs.Standing.{Stands, changed, stands_changed, Start}
-use Rattle.cir_meaning.proofs.VariableRuns.{Soundly, like_changed, fits, with_added, IsAdded, stepped_adds, After}
-use Rattle.cir_meaning.proofs.StepRuns.{stands_like, with_equations, stands_equations, pair_then, added_like}
+use Rattle.cir_meaning.proofs.VariableRuns.{Soundly, like_changed, fits, with_added, IsAdded}
+use Rattle.cir_meaning.proofs.VariableRuns.{stepped_adds, After}
+use Rattle.cir_meaning.proofs.StepRuns.{stands_like, with_equations, stands_equations, pair_then}
+use Rattle.cir_meaning.proofs.StepRuns.{added_like}
 
 pair_done : {A B : Type 0} (m : Tried A) (b : B) → Pair (λ x y. ⊤) m (Ok b)
 unfolding Pair

@@ -1,6 +1,8 @@
 -- A scan leaves each variable as it is, or opaque in all its elements, and changes nothing else but
 -- what is counted.
-use Rattle.std.proofs.Common.{◌≡◌, ◌⊎◌, inr, ℕ, zero, suc, true, List, [], ◌∷◌, ◌++◌, Bool, false, Option, Some, None, refl, sym, ap, subst, ◌∙◌, slice_get, slice_set, unwrap_or}
+use Rattle.std.proofs.Common.{◌≡◌, ◌⊎◌, inr, ℕ, zero, suc, true, List, [], ◌∷◌, ◌++◌, Bool, false}
+use Rattle.std.proofs.Common.{Option, Some, None, refl, sym, ap, subst, ◌∙◌, slice_get, slice_set}
+use Rattle.std.proofs.Common.{unwrap_or}
 use Rattle.std.specs.Prelude.{⊤, ◌==◌, ◌||◌}
 use Rattle.std.specs.List.{AllByRecursion, list_any}
 use Rattle.std.proofs.lemmas.Bool.{eq-eqb}
@@ -8,19 +10,29 @@ use Rattle.cir_ast.specs.declared.program.Spot.{Spot}
 use Rattle.cir_ast.specs.declared.program.Meant.{Meant}
 use Rattle.cir_ast.specs.declared.program.Meant.TheVariants as meant
 use Rattle.cir_ast.specs.declared.refusal.Kind.TheVariants.{ShapeDiffers, UnknownIndex}
-use Rattle.cir_ast.specs.Tree.{Expr, Exprs, none, more, Accessors, done, index, member, Variable, Assign, Set, Compound, Left, Increment, Decrement, First, FirstVars, FirstAssign, Simple, Vars, Signals, Declared, Created, Assigned, Constrain, Right, TargetLeft, TargetRight, Alone, Statement, Block, If, IfElse, While, For, Return, Assert, Log, Ended, Statements, empty, then_more}
+use Rattle.cir_ast.specs.Tree.{Expr, Exprs, none, more, Accessors, done, index, member, Variable}
+use Rattle.cir_ast.specs.Tree.{Assign, Set, Compound, Left, Increment, Decrement, First, FirstVars}
+use Rattle.cir_ast.specs.Tree.{FirstAssign, Simple, Vars, Signals, Declared, Created, Assigned}
+use Rattle.cir_ast.specs.Tree.{Constrain, Right, TargetLeft, TargetRight, Alone, Statement, Block}
+use Rattle.cir_ast.specs.Tree.{If, IfElse, While, For, Return, Assert, Log, Ended, Statements}
+use Rattle.cir_ast.specs.Tree.{empty, then_more}
 use Rattle.cir_meaning.specs.Tried.{Where, Tried, next, found}
 use Rattle.cir_meaning.specs.Limits.{is_too_large}
 use Rattle.cir_meaning.specs.Places.{elements}
-use Rattle.cir_meaning.specs.Arrays.{Datum, Want, Scalar, Whole, single, filled, reach, same_dims, the_item}
+use Rattle.cir_meaning.specs.Arrays.{Datum, Want, Scalar, Whole, single, filled, reach, same_dims}
+use Rattle.cir_meaning.specs.Arrays.{the_item}
 use Rattle.cir_meaning.specs.Values.{Known, Opaque, known_number}
 use Rattle.cir_meaning.specs.Frame.{World, State, Context, variable_at}
 use Rattle.cir_meaning.specs.Evaluate.{value_in, dims_in, indices_in}
 use Rattle.cir_meaning.specs.Writing.{plain}
 use Rattle.cir_meaning.specs.Simple as simple
-use Rattle.cir_meaning.specs.Unknown.{variable_of, vars_declare, first_declares, simple_declares, declares, all_declares}
-use Rattle.cir_meaning.specs.Scan.{scan_test, scan_set, scan_plain, scan_assign, scan_value, scan_declared, scan_meant, scan_variable, scan_first, scan_simple, scan, scan_all}
-use Rattle.cir_meaning.proofs.Good.{OnGood, good_ok, good_bad, good_next, good_on, good_needed, either}
+use Rattle.cir_meaning.specs.Unknown.{variable_of, vars_declare, first_declares, simple_declares}
+use Rattle.cir_meaning.specs.Unknown.{declares, all_declares}
+use Rattle.cir_meaning.specs.Scan.{scan_test, scan_set, scan_plain, scan_assign, scan_value}
+use Rattle.cir_meaning.specs.Scan.{scan_declared, scan_meant, scan_variable, scan_first}
+use Rattle.cir_meaning.specs.Scan.{scan_simple, scan, scan_all}
+use Rattle.cir_meaning.proofs.Good.{OnGood, good_ok, good_bad, good_next, good_on, good_needed}
+use Rattle.cir_meaning.proofs.Good.{either}
 use Rattle.cir_meaning.proofs.Likes.{CallKeeps, Like, value_like, like_itself}
 use Rattle.cir_meaning.proofs.Rows.{all_replicate}
 

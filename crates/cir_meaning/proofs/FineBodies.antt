@@ -1,5 +1,6 @@
 -- The equations of a program are of differences.
-use Rattle.std.proofs.Common.{ℕ, zero, suc, ◌-◌, List, [], ◌∷◌, map, length, replicate, Option, slice_get, codes}
+use Rattle.std.proofs.Common.{ℕ, zero, suc, ◌-◌, List, [], ◌∷◌, map, length, replicate, Option}
+use Rattle.std.proofs.Common.{slice_get, codes}
 use Rattle.std.specs.List.{AllByRecursion}
 use Rattle.cir_ast.specs.declared.program.Meant.{Meant}
 use Rattle.cir_ast.specs.declared.program.Meant.TheVariants as meant
@@ -11,14 +12,20 @@ use Rattle.cir_meaning.specs.Tried.{found}
 use Rattle.cir_meaning.specs.Source.{Equation, IsDifference}
 use Rattle.cir_meaning.specs.Arrays.{Datum, single}
 use Rattle.cir_meaning.specs.Values.{Known}
-use Rattle.cir_meaning.specs.Frame.{Signals, Group, Sizes, World, State, Caller, Maker, Context, at, begun, settle}
+use Rattle.cir_meaning.specs.Frame.{Signals, Group, Sizes, World, State, Caller, Maker, Context, at}
+use Rattle.cir_meaning.specs.Frame.{begun, settle}
 use Rattle.cir_meaning.specs.Evaluate.{arguments_in}
 use Rattle.cir_meaning.specs.Statement.{Flow, Going, Returned, exec_all}
-use Rattle.cir_meaning.specs.Bodies.{numbered_others, all_written, all_fed, ended, ended_flow, template_context, template_state, exec_template, answer_of, counted_in, emptied, function_context, exec_function, call_at, most_open, make_at}
-use Rattle.cir_meaning.specs.Compile.{main_group, main_context, main_state, exec_main, as_executed, renumbered_equation, circuit_of, the_main, compiled_with}
+use Rattle.cir_meaning.specs.Bodies.{numbered_others, all_written, all_fed, ended, ended_flow}
+use Rattle.cir_meaning.specs.Bodies.{template_context, template_state, exec_template, answer_of}
+use Rattle.cir_meaning.specs.Bodies.{counted_in, emptied, function_context, exec_function, call_at}
+use Rattle.cir_meaning.specs.Bodies.{most_open, make_at}
+use Rattle.cir_meaning.specs.Compile.{main_group, main_context, main_state, exec_main, as_executed}
+use Rattle.cir_meaning.specs.Compile.{renumbered_equation, circuit_of, the_main, compiled_with}
 use Rattle.cir_meaning.proofs.Good.{OnGood, good_ok, good_bad, good_next, good_on, OnSome'}
 use Rattle.cir_meaning.proofs.Rows.{all_append, all_replicate}
-use Rattle.cir_meaning.proofs.FineValues.{IsDatum, FineFrame, FineWorld, Fine, FineAnswers, FineCall, FineMake, zero_value, arguments_fine}
+use Rattle.cir_meaning.proofs.FineValues.{IsDatum, FineFrame, FineWorld, Fine, FineAnswers}
+use Rattle.cir_meaning.proofs.FineValues.{FineCall, FineMake, zero_value, arguments_fine}
 use Rattle.cir_meaning.proofs.FineWriting.{settle_fine}
 use Rattle.cir_meaning.proofs.FineStatements.{FineFlow, exec_all_fine}
 

@@ -7,24 +7,45 @@ use Rattle.cir_ast.specs.declared.program.Meant.TheVariants as meant
 use Rattle.cir_ast.specs.declared.operators.Arrow.{Arrow}
 use Rattle.cir_ast.specs.declared.operators.Direction.{Direction}
 use Rattle.cir_ast.specs.declared.refusal.Kind.TheVariants.{ShapeDiffers}
-use Rattle.cir_ast.specs.Tree.{Expr, Accessors, done, Variable, SignalValue, Nothing, Given, Signal, Component, Assign, Set, Compound, Left, Increment, Decrement, First, FirstVars, FirstAssign, LogArgument, Words, LogValue, Slot, SlotPlace, SlotDiscard, Target, Discard, Slots, Simple, Vars, Signals, Declared, Created, Assigned, Constrain, Right, TargetLeft, TargetRight, Alone, Statement, Block, If, IfElse, While, For, Return, Assert, Log, Ended, Statements, empty, then_more}
+use Rattle.cir_ast.specs.Tree.{Expr, Accessors, done, Variable, SignalValue, Nothing, Given, Signal}
+use Rattle.cir_ast.specs.Tree.{Component, Assign, Set, Compound, Left, Increment, Decrement, First}
+use Rattle.cir_ast.specs.Tree.{FirstVars, FirstAssign, LogArgument, Words, LogValue, Slot}
+use Rattle.cir_ast.specs.Tree.{SlotPlace, SlotDiscard, Target, Discard, Slots, Simple, Vars}
+use Rattle.cir_ast.specs.Tree.{Signals, Declared, Created, Assigned, Constrain, Right, TargetLeft}
+use Rattle.cir_ast.specs.Tree.{TargetRight, Alone, Statement, Block, If, IfElse, While, For, Return}
+use Rattle.cir_ast.specs.Tree.{Assert, Log, Ended, Statements, empty, then_more}
 use Rattle.cir_meaning.specs.Tried.{Where, Tried, next}
 use Rattle.cir_meaning.specs.Arrays.{Scalar, Whole, reach, filled, same_dims, forgotten}
 use Rattle.cir_meaning.specs.Values.{Value, Known, Linear, Quadratic, Opaque}
 use Rattle.cir_meaning.specs.Frame.{State, Context, at, variable_at, settle, counted}
 use Rattle.cir_meaning.specs.Evaluate.{value_in, dims_in}
 use Rattle.cir_meaning.specs.Anonymous.{Lifted, lift_simple}
-use Rattle.cir_meaning.specs.Writing.{plain, variable_assignment, is_unknown, write_variable, signal_assignment, write_signal, constrained}
-use Rattle.cir_meaning.specs.Declaring.{declare_variable, declare_signal, declare_component, creation, create}
+use Rattle.cir_meaning.specs.Writing.{plain, variable_assignment, is_unknown, write_variable}
+use Rattle.cir_meaning.specs.Writing.{signal_assignment, write_signal, constrained}
+use Rattle.cir_meaning.specs.Declaring.{declare_variable, declare_signal, declare_component}
+use Rattle.cir_meaning.specs.Declaring.{creation, create}
 use Rattle.cir_meaning.specs.Costs.{Cost}
-use Rattle.cir_meaning.specs.Steps.{stepped, variable_cost, signal_cost, equal_cost, new_cells, undecided_cost, undecided_cells, assert_cost, log_cost, logged_cells}
+use Rattle.cir_meaning.specs.Steps.{stepped, variable_cost, signal_cost, equal_cost, new_cells}
+use Rattle.cir_meaning.specs.Steps.{undecided_cost, undecided_cells, assert_cost, log_cost}
+use Rattle.cir_meaning.specs.Steps.{logged_cells}
 use Rattle.cir_meaning.specs.Unknown.{Fault, first_of, assign_fault, fault_of, outer_assigned}
 use Rattle.cir_meaning.specs.Simple as simple
-use Rattle.cir_meaning.specs.Scan.{forget_one, forget, scan_test, scan_set, scan_plain, scan_assign, scan_value, scan_declared, scan_meant, scan_variable, scan_first, scan_simple, scan, scan_all, allowed, undecided}
-use Rattle.cir_meaning.specs.Statement.{Flow, Going, Returned, going, goes, decided, condition, branch, most_turns, turns, loop_of, first_simple, assert_value, logged, log_values, exec, exec_all}
-use Rattle.cir_meaning.proofs.Good.{OnGood, good_ok, good_bad, good_next, good_on, good_needed, either}
-use Rattle.cir_meaning.proofs.FineValues.{IsDatum, FineWorld, Fine, FineAnswer, FineContext, zero_value, filled_datum, value_fine, dims_fine, indices_fine, scalar_fine}
-use Rattle.cir_meaning.proofs.FineWriting.{forgotten_fine, settle_fine, counted_fine, stepped_fine, set_fine, FineAssignment, FineSignal, FineCreation, write_fine, constrained_fine, write_signal_fine, assignment_fine, signal_assignment_fine, creation_fine, create_fine}
+use Rattle.cir_meaning.specs.Scan.{forget_one, forget, scan_test, scan_set, scan_plain, scan_assign}
+use Rattle.cir_meaning.specs.Scan.{scan_value, scan_declared, scan_meant, scan_variable, scan_first}
+use Rattle.cir_meaning.specs.Scan.{scan_simple, scan, scan_all, allowed, undecided}
+use Rattle.cir_meaning.specs.Statement.{Flow, Going, Returned, going, goes, decided, condition}
+use Rattle.cir_meaning.specs.Statement.{branch, most_turns, turns, loop_of, first_simple}
+use Rattle.cir_meaning.specs.Statement.{assert_value, logged, log_values, exec, exec_all}
+use Rattle.cir_meaning.proofs.Good.{OnGood, good_ok, good_bad, good_next, good_on, good_needed}
+use Rattle.cir_meaning.proofs.Good.{either}
+use Rattle.cir_meaning.proofs.FineValues.{IsDatum, FineWorld, Fine, FineAnswer, FineContext}
+use Rattle.cir_meaning.proofs.FineValues.{zero_value, filled_datum, value_fine, dims_fine}
+use Rattle.cir_meaning.proofs.FineValues.{indices_fine, scalar_fine}
+use Rattle.cir_meaning.proofs.FineWriting.{forgotten_fine, settle_fine, counted_fine, stepped_fine}
+use Rattle.cir_meaning.proofs.FineWriting.{set_fine, FineAssignment, FineSignal, FineCreation}
+use Rattle.cir_meaning.proofs.FineWriting.{write_fine, constrained_fine, write_signal_fine}
+use Rattle.cir_meaning.proofs.FineWriting.{assignment_fine, signal_assignment_fine, creation_fine}
+use Rattle.cir_meaning.proofs.FineWriting.{create_fine}
 
 -- steps from state to state
 abbrev pub Keeps : (State → Tried State) → Type 0

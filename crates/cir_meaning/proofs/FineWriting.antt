@@ -1,33 +1,49 @@
 -- What assignments, declarations and creations leave is fine too.
-use Rattle.std.proofs.Common.{◌≡◌, ℕ, ◌+◌, false, not, is_none, List, [], ◌∷◌, Option, Some, None, refl, slice_get}
+use Rattle.std.proofs.Common.{◌≡◌, ℕ, ◌+◌, false, not, is_none, List, [], ◌∷◌, Option, Some, None}
+use Rattle.std.proofs.Common.{refl, slice_get}
 use Rattle.std.specs.List.{AllByRecursion}
 use Rattle.cir_ast.specs.declared.program.Meant.{Meant}
 use Rattle.cir_ast.specs.declared.program.Meant.TheVariants as meant
 use Rattle.cir_ast.specs.declared.operators.Arrow.{Arrow}
-use Rattle.cir_ast.specs.declared.operators.Arrow.TheVariants.{Assign as AssignArrow, Constrain as ConstrainArrow}
+use Rattle.cir_ast.specs.declared.operators.Arrow.TheVariants.{Assign as AssignArrow}
+use Rattle.cir_ast.specs.declared.operators.Arrow.TheVariants.{Constrain as ConstrainArrow}
 use Rattle.cir_ast.specs.declared.refusal.Kind.{Kind}
 use Rattle.cir_ast.specs.declared.refusal.Form.TheVariants.{MixedComponents}
-use Rattle.cir_ast.specs.declared.refusal.Kind.TheVariants.{WrongKind, UnknownIndex, ReadBeforeWrite, SecondWrite, ShapeDiffers, TooDeep, NotInProfile}
+use Rattle.cir_ast.specs.declared.refusal.Kind.TheVariants.{WrongKind, UnknownIndex}
+use Rattle.cir_ast.specs.declared.refusal.Kind.TheVariants.{ReadBeforeWrite, SecondWrite}
+use Rattle.cir_ast.specs.declared.refusal.Kind.TheVariants.{ShapeDiffers, TooDeep, NotInProfile}
 use Rattle.cir_ast.specs.Tree.{Expr, Parentheses, Call, Exprs, Accessors, done, index, member}
 use Rattle.cir_lc.specs.Number.{signal}
 use Rattle.cir_meaning.specs.Tried.{Where, Tried, next, found}
 use Rattle.cir_meaning.specs.Limits.{limits, tested, plus}
 use Rattle.cir_meaning.specs.Places.{all_known}
-use Rattle.cir_meaning.specs.Arrays.{Datum, Scalar, Whole, Reach, reach, same_dims, put_items, forgotten}
+use Rattle.cir_meaning.specs.Arrays.{Datum, Scalar, Whole, Reach, reach, same_dims, put_items}
+use Rattle.cir_meaning.specs.Arrays.{forgotten}
 use Rattle.cir_meaning.specs.Values.{Value, Linear, Opaque, IsValue, Parts, difference_of, parts_of}
 use Rattle.cir_meaning.specs.Source.{IsDifference}
-use Rattle.cir_meaning.specs.Frame.{Signals, Part, Frame, State, Context, Maker, is_input, is_written, entry_at, variable_at, adding, settle, counted, one_statement}
+use Rattle.cir_meaning.specs.Frame.{Signals, Part, Frame, State, Context, Maker, is_input}
+use Rattle.cir_meaning.specs.Frame.{is_written, entry_at, variable_at, adding, settle, counted}
+use Rattle.cir_meaning.specs.Frame.{one_statement}
 use Rattle.cir_meaning.specs.Reading.{part_at, named_signal}
 use Rattle.cir_meaning.specs.Evaluate.{value_in, arguments_in}
-use Rattle.cir_meaning.specs.Writing.{put_variable, written_datum, VariableAssignment, variable_assignment, write_variable, Target, signals_of, with_part_signals, with_signals, targeted, target_at, target_in, write_element, appended, constrained, constrained_by, write_elements, SignalAssignment, signal_assignment, write_signal}
-use Rattle.cir_meaning.specs.Declaring.{Creation, creation, template_call, may_be, template_of, path_of, create_at, create_each, create}
+use Rattle.cir_meaning.specs.Writing.{put_variable, written_datum, VariableAssignment}
+use Rattle.cir_meaning.specs.Writing.{variable_assignment, write_variable, Target, signals_of}
+use Rattle.cir_meaning.specs.Writing.{with_part_signals, with_signals, targeted, target_at}
+use Rattle.cir_meaning.specs.Writing.{target_in, write_element, appended, constrained}
+use Rattle.cir_meaning.specs.Writing.{constrained_by, write_elements, SignalAssignment}
+use Rattle.cir_meaning.specs.Writing.{signal_assignment, write_signal}
+use Rattle.cir_meaning.specs.Declaring.{Creation, creation, template_call, may_be, template_of}
+use Rattle.cir_meaning.specs.Declaring.{path_of, create_at, create_each, create}
 use Rattle.cir_meaning.specs.Costs.{Cost}
 use Rattle.cir_meaning.specs.Functions.{function_fault, function_elements}
 use Rattle.cir_meaning.specs.Steps.{unless_faulty, with_step, stepped}
 use Rattle.cir_meaning.proofs.Difference.{difference_is}
-use Rattle.cir_meaning.proofs.Good.{OnGood, good_ok, good_bad, good_next, good_on, good_needed, either, OnSome'}
+use Rattle.cir_meaning.proofs.Good.{OnGood, good_ok, good_bad, good_next, good_on, good_needed}
+use Rattle.cir_meaning.proofs.Good.{either, OnSome'}
 use Rattle.cir_meaning.proofs.Rows.{all_map, all_set, all_append, all_put}
-use Rattle.cir_meaning.proofs.FineValues.{IsDatum, FineFrame, FineWorld, Fine, FineAnswer, FineAnswers, FineMake, FineContext, variable_datum, signal_value, value_fine, arguments_fine, indices_fine}
+use Rattle.cir_meaning.proofs.FineValues.{IsDatum, FineFrame, FineWorld, Fine, FineAnswer}
+use Rattle.cir_meaning.proofs.FineValues.{FineAnswers, FineMake, FineContext, variable_datum}
+use Rattle.cir_meaning.proofs.FineValues.{signal_value, value_fine, arguments_fine, indices_fine}
 
 -- counting changes nothing else
 pub settle_fine : (w : Where) (s : State) → Fine s → OnGood Fine (settle w s)

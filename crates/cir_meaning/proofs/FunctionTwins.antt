@@ -1,32 +1,49 @@
 -- The execution of a function with known arguments: what it answers is known, and the same whatever
 -- is counted.
-use Rattle.std.proofs.Common.{◌≡◌, ℕ, zero, suc, Bool, true, false, not, cond, List, [], ◌∷◌, ◌++◌, Option, Some, None, Ok, refl, sym, ap, subst, ◌∙◌}
+use Rattle.std.proofs.Common.{◌≡◌, ℕ, zero, suc, Bool, true, false, not, cond, List, [], ◌∷◌, ◌++◌}
+use Rattle.std.proofs.Common.{Option, Some, None, Ok, refl, sym, ap, subst, ◌∙◌}
 use Rattle.std.specs.Prelude.{◌==◌}
 use Rattle.std.specs.List.{AllByRecursion}
 use Rattle.cir_ast.specs.declared.program.Spot.{Spot}
 use Rattle.cir_ast.specs.declared.program.Meant.{Meant}
 use Rattle.cir_ast.specs.declared.program.Meant.TheVariants as meant
 use Rattle.cir_ast.specs.declared.refusal.Kind.TheVariants.{ShapeDiffers, AssertFalse}
-use Rattle.cir_ast.specs.Tree.{Expr, Exprs, none, more, Accessors, done, index, member, Variable, Assign, Set, Compound, Left, Increment, Decrement, First, FirstVars, FirstAssign, Simple, Vars, Signals, Declared, Created, Assigned, Constrain, Right, TargetLeft, TargetRight, Alone, Statement, Block, If, IfElse, While, For, Return, Assert, Log, Ended, Statements, empty, then_more}
-use Rattle.cir_meaning.specs.SignalFree.{IsVariable, IsFreeExpr, AreFree, AreFreeIndices, IsFreeAssign, IsFreeOption, IsFreeVariable, IsFreeFirst, IsFreeSimple, IsFree, AreFreeStatements}
+use Rattle.cir_ast.specs.Tree.{Expr, Exprs, none, more, Accessors, done, index, member, Variable}
+use Rattle.cir_ast.specs.Tree.{Assign, Set, Compound, Left, Increment, Decrement, First, FirstVars}
+use Rattle.cir_ast.specs.Tree.{FirstAssign, Simple, Vars, Signals, Declared, Created, Assigned}
+use Rattle.cir_ast.specs.Tree.{Constrain, Right, TargetLeft, TargetRight, Alone, Statement, Block}
+use Rattle.cir_ast.specs.Tree.{If, IfElse, While, For, Return, Assert, Log, Ended, Statements}
+use Rattle.cir_ast.specs.Tree.{empty, then_more}
+use Rattle.cir_meaning.specs.SignalFree.{IsVariable, IsFreeExpr, AreFree, AreFreeIndices}
+use Rattle.cir_meaning.specs.SignalFree.{IsFreeAssign, IsFreeOption, IsFreeVariable, IsFreeFirst}
+use Rattle.cir_meaning.specs.SignalFree.{IsFreeSimple, IsFree, AreFreeStatements}
 use Rattle.cir_meaning.specs.Tried.{Where, Tried, next, refused, needed}
 use Rattle.cir_meaning.specs.Places.{elements}
 use Rattle.cir_meaning.specs.Limits.{Counts, with_array}
-use Rattle.cir_meaning.specs.Arrays.{Datum, Scalar, Whole, Want, Reach, reach, filled, forgotten, the_item, is_known, is_all_known, same_dims, put_items}
+use Rattle.cir_meaning.specs.Arrays.{Datum, Scalar, Whole, Want, Reach, reach, filled, forgotten}
+use Rattle.cir_meaning.specs.Arrays.{the_item, is_known, is_all_known, same_dims, put_items}
 use Rattle.cir_meaning.specs.Values.{Value, Known, known_number}
 use Rattle.cir_meaning.specs.Frame.{State, Context, at, variable_at, settle, counted}
 use Rattle.cir_meaning.specs.Evaluate.{scalar, value_in, dims_in, indices_in, known_at}
-use Rattle.cir_meaning.specs.Writing.{put_variable, written_datum, VariableAssignment, variable_assignment, write_variable, is_unknown}
+use Rattle.cir_meaning.specs.Writing.{put_variable, written_datum, VariableAssignment}
+use Rattle.cir_meaning.specs.Writing.{variable_assignment, write_variable, is_unknown}
 use Rattle.cir_meaning.specs.Declaring.{declare_variable}
 use Rattle.cir_meaning.specs.Simple as simple
-use Rattle.cir_meaning.specs.Statement.{Flow, Going, Returned, going, goes, decided, condition, branch, turns, most_turns, loop_of, first_simple, assert_value, exec, exec_all}
+use Rattle.cir_meaning.specs.Statement.{Flow, Going, Returned, going, goes, decided, condition}
+use Rattle.cir_meaning.specs.Statement.{branch, turns, most_turns, loop_of, first_simple}
+use Rattle.cir_meaning.specs.Statement.{assert_value, exec, exec_all}
 use Rattle.cir_meaning.specs.Unknown.{first_of, assign_fault, fault_of}
 use Rattle.cir_meaning.specs.Scan.{undecided}
 use Rattle.cir_meaning.proofs.Good.{good_ok, good_on}
 use Rattle.cir_meaning.proofs.Rows.{all_set, all_put}
-use Rattle.cir_meaning.proofs.Twins.{Twin, twin_ok, twin_bad, twin_next, twin_itself, twin_needed, twin_good, twin_weaker, Below, below_with_array, counted_as, IsTwin, at_twin, twin_of, settle_twin, counted_twin}
+use Rattle.cir_meaning.proofs.Twins.{Twin, twin_ok, twin_bad, twin_next, twin_itself, twin_needed}
+use Rattle.cir_meaning.proofs.Twins.{twin_good, twin_weaker, Below, below_with_array, counted_as}
+use Rattle.cir_meaning.proofs.Twins.{IsTwin, at_twin, twin_of, settle_twin, counted_twin}
 use Rattle.cir_meaning.proofs.ValueTwins.{Wider, Answers, Equal, WorldTwin, CallTwin, value_twin}
-use Rattle.cir_meaning.proofs.KnownValues.{KnownValue, KnownDatum, KnownStore, KnownAnswer, CallKnown, AreSure, IsSure, sure_more, reach_sure, pass_all, the_known, known_item, known_variable, known_filled, known_value}
+use Rattle.cir_meaning.proofs.KnownValues.{KnownValue, KnownDatum, KnownStore, KnownAnswer}
+use Rattle.cir_meaning.proofs.KnownValues.{CallKnown, AreSure, IsSure, sure_more, reach_sure}
+use Rattle.cir_meaning.proofs.KnownValues.{pass_all, the_known, known_item, known_variable}
+use Rattle.cir_meaning.proofs.KnownValues.{known_filled, known_value}
 
 abbrev pub KnownTwin : State → State → Type 0
 KnownTwin s t = IsTwin s t × KnownStore s.frame.variables

@@ -1,5 +1,6 @@
 -- What holds of an answer, unless it is a refusal.
-use Rattle.std.proofs.Common.{◌≡◌, refl, subst, Bool, true, false, Option, Some, None, Result, Ok, Err, cond}
+use Rattle.std.proofs.Common.{◌≡◌, refl, subst, Bool, true, false, Option, Some, None, Result, Ok}
+use Rattle.std.proofs.Common.{Err, cond}
 use Rattle.std.specs.Prelude.{⊤}
 use Rattle.cir_ast.specs.declared.refusal.Kind.{Kind}
 use Rattle.cir_meaning.specs.Tried.{Where, Refused, Tried, next, needed, found}

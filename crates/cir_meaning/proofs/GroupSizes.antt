@@ -5,7 +5,8 @@ use Rattle.std.proofs.Math.Nat.{min-le_right, le-min}
 use Rattle.cir_meaning.specs.Tried.{Where}
 use Rattle.cir_meaning.specs.Limits.{count_sum}
 use Rattle.cir_meaning.specs.Arrays.{Datum}
-use Rattle.cir_meaning.specs.Frame.{Group, Outputs, PublicInputs, PrivateInputs, Others, Sizes, Signals, World, Maker, size_in, more_in}
+use Rattle.cir_meaning.specs.Frame.{Group, Outputs, PublicInputs, PrivateInputs, Others, Sizes}
+use Rattle.cir_meaning.specs.Frame.{Signals, World, Maker, size_in, more_in}
 
 -- group by group
 abbrev pub Less : Sizes → Sizes → Type 0

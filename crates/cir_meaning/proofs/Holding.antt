@@ -1,5 +1,6 @@
 -- Where the two sides of equations are equal, and where their source list holds.
-use Rattle.std.proofs.Common.{◌≡◌, ℕ, ◌+◌, ◌%◌, ◌<◌, ◌↔◌, List, [], ◌∷◌, All, ap, sym, ◌∙◌, arith, mod-lt, lit<}
+use Rattle.std.proofs.Common.{◌≡◌, ℕ, ◌+◌, ◌%◌, ◌<◌, ◌↔◌, List, [], ◌∷◌, All, ap, sym, ◌∙◌, arith}
+use Rattle.std.proofs.Common.{mod-lt, lit<}
 use Rattle.std.specs.List.{AllByRecursion}
 use Rattle.std.proofs.lemmas.List.Elements.{All-from_recursion, recursion_from_All}
 use Rattle.gold_field.specs.declared.form.Constraint.{Constraint}
@@ -9,7 +10,8 @@ use Rattle.cir_lc.specs.Number.{Assignment, added}
 use Rattle.cir_lc.specs.Normal.{value_of_quad}
 use Rattle.cir_lc.proofs.Normals.{normal_means}
 use Rattle.cir_meaning.specs.Values.{Parts}
-use Rattle.cir_meaning.specs.Source.{Equation, IsEqualAt, IsDifference, IsConstraintOf, IsSource, number_of_parts}
+use Rattle.cir_meaning.specs.Source.{Equation, IsEqualAt, IsDifference, IsConstraintOf, IsSource}
+use Rattle.cir_meaning.specs.Source.{number_of_parts}
 
 -- one equation, and its constraint
 balance : (v r l : ℕ) → v < P → r < P → (v + r) % P ≡ l → (v ≡ 0) ↔ (l ≡ r)

@@ -1,6 +1,9 @@
 -- What the run of a body has, beside what the compile meaning has there: numbers of its variables,
 -- signals and components.
-use Rattle.std.proofs.Common.{◌≡◌, ℕ, zero, suc, ◌+◌, ◌<◌, Bool, true, false, ◌&&◌, ◌||◌, not, cond, List, [], ◌∷◌, map, length, Option, Some, None, is_some, slice_get, slice_index, Result, Ok, Err, refl, sym, ap, subst, ◌∙◌, ◌⊎◌, inl, inr, arith}
+use Rattle.std.proofs.Common.{◌≡◌, ℕ, zero, suc, ◌+◌, ◌<◌, Bool, true, false, ◌&&◌, ◌||◌, not, cond}
+use Rattle.std.proofs.Common.{List, [], ◌∷◌, map, length, Option, Some, None, is_some, slice_get}
+use Rattle.std.proofs.Common.{slice_index, Result, Ok, Err, refl, sym, ap, subst, ◌∙◌, ◌⊎◌, inl}
+use Rattle.std.proofs.Common.{inr, arith}
 use Rattle.std.specs.Prelude.{⊤, unwrap_or, bytes_eq}
 use Rattle.std.specs.List.{AllByRecursion}
 use Rattle.cir_ast.specs.declared.program.Meant.TheVariants as meant
@@ -10,11 +13,14 @@ use Rattle.cir_meaning.specs.Tried.{Where, Tried, next, needed, found}
 use Rattle.cir_meaning.specs.Places.{elements, all_known, numbers_from, places_of}
 use Rattle.cir_meaning.specs.Arrays.{Shaped, Scalar, fits, reach}
 use Rattle.cir_meaning.specs.Values.{Known, Linear}
-use Rattle.cir_meaning.specs.Frame.{SignalEntry, Signals, Part, ComponentEntry, variable_at, entry_at, is_input, is_inner, is_fed}
+use Rattle.cir_meaning.specs.Frame.{SignalEntry, Signals, Part, ComponentEntry, variable_at}
+use Rattle.cir_meaning.specs.Frame.{entry_at, is_input, is_inner, is_fed}
 use Rattle.cir_meaning.specs.Reading as reading
-use Rattle.cir_meaning.specs.Reading.{Origin, Wired, Lost, find_signal, told_signal, named_signal, part_in, part_at, part_origin, located, inner_origin}
+use Rattle.cir_meaning.specs.Reading.{Wired, find_signal, told_signal, part_in, part_origin}
+use Rattle.cir_meaning.specs.Reading.{located, inner_origin}
 use Rattle.cir_meaning.specs.RunValues.{stored}
-use Rattle.cir_meaning.specs.Run.{Wires, Table, RunPart, Run, store_of, wires_of, entry_wires, own_signal, found_port, port_of, part_signal, component_signal}
+use Rattle.cir_meaning.specs.Run.{Wires, Table, RunPart, Run, store_of, wires_of, entry_wires}
+use Rattle.cir_meaning.specs.Run.{own_signal, found_port, port_of, part_signal, component_signal}
 use Rattle.cir_meaning.proofs.Meaning.{Means}
 use Rattle.cir_meaning.proofs.Pairs.{Pair, pair_ok, pair_bad}
 use Rattle.cir_meaning.proofs.Reaching.{IndicesSame, all_same, reached_count}

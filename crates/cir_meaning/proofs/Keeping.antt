@@ -10,19 +10,29 @@ use Rattle.cir_ast.specs.declared.operators.Arrow.TheVariants.{Constrain as Cons
 use Rattle.cir_meaning.specs.Costs.{Cost}
 use Rattle.cir_ast.specs.declared.operators.Direction.{Direction}
 use Rattle.cir_ast.specs.declared.refusal.Kind.TheVariants.{ReadBeforeWrite, SecondWrite}
-use Rattle.cir_ast.specs.Tree.{Expr, Accessors, done, Variable, SignalValue, Nothing, Given, Signal, Component, Assign, Set, Compound, Left, Increment, Decrement, Slot, SlotPlace, SlotDiscard, Target, Discard, Slots, Simple, Vars, Signals, Declared, Created, Assigned, Constrain, Right, TargetLeft, TargetRight, Alone}
+use Rattle.cir_ast.specs.Tree.{Expr, Accessors, done, Variable, SignalValue, Nothing, Given, Signal}
+use Rattle.cir_ast.specs.Tree.{Component, Assign, Set, Compound, Left, Increment, Decrement, Slot}
+use Rattle.cir_ast.specs.Tree.{SlotPlace, SlotDiscard, Target, Discard, Slots, Simple, Vars}
+use Rattle.cir_ast.specs.Tree.{Signals, Declared, Created, Assigned, Constrain, Right, TargetLeft}
+use Rattle.cir_ast.specs.Tree.{TargetRight, Alone}
 use Rattle.cir_lc.specs.Number.{signal}
 use Rattle.cir_meaning.specs.Tried.{Where, Tried, next}
 use Rattle.cir_meaning.specs.Limits.{with_array}
 use Rattle.cir_meaning.specs.Arrays.{Datum, Want, Scalar, Whole, the_item}
 use Rattle.cir_meaning.specs.Values.{Value, Linear}
-use Rattle.cir_meaning.specs.Frame.{SignalEntry, ComponentEntry, State, Context, at, is_written, put_at, entry_at, in_frame, adding}
+use Rattle.cir_meaning.specs.Frame.{SignalEntry, ComponentEntry, State, Context, at, is_written}
+use Rattle.cir_meaning.specs.Frame.{put_at, entry_at, in_frame, adding}
 use Rattle.cir_meaning.specs.Evaluate.{value_in, dims_in}
-use Rattle.cir_meaning.specs.Writing.{plain, variable_assignment, put_variable, write_variable, is_unknown, Target as WrittenTarget, signals_of, with_signals, marked, write_element, constrained, constrained_by, write_elements, signal_assignment, write_signal}
-use Rattle.cir_meaning.specs.Declaring.{declare_variable, declare_signal, declare_component, Creation, creation, create_at, create_each, create}
+use Rattle.cir_meaning.specs.Writing.{plain, variable_assignment, put_variable, write_variable}
+use Rattle.cir_meaning.specs.Writing.{is_unknown, Target as WrittenTarget, signals_of, with_signals}
+use Rattle.cir_meaning.specs.Writing.{marked, write_element, constrained, constrained_by}
+use Rattle.cir_meaning.specs.Writing.{write_elements, signal_assignment, write_signal}
+use Rattle.cir_meaning.specs.Declaring.{declare_variable, declare_signal, declare_component}
+use Rattle.cir_meaning.specs.Declaring.{Creation, creation, create_at, create_each, create}
 use Rattle.cir_meaning.specs.Steps.{variable_cost, signal_cost, equal_cost, new_cells}
 use Rattle.cir_meaning.specs.Simple as simple
-use Rattle.cir_meaning.proofs.Good.{OnGood, good_ok, good_bad, good_next, good_needed, good_found_as, good_weaker, either}
+use Rattle.cir_meaning.proofs.Good.{OnGood, good_ok, good_bad, good_next, good_needed}
+use Rattle.cir_meaning.proofs.Good.{good_found_as, good_weaker, either}
 use Rattle.cir_meaning.proofs.Likes.{CallKeeps, Like, like_itself, value_like}
 use Rattle.cir_meaning.proofs.VariableRuns.{IsAdded, stepped_adds, assignment_like}
 use Rattle.cir_meaning.proofs.EqualRuns.{each_stays}

@@ -4,18 +4,24 @@ use Rattle.std.specs.Prelude.{⊤, ◌==◌}
 use Rattle.std.specs.List.{AllByRecursion}
 use Rattle.cir_ast.specs.declared.program.Spot.{Spot}
 use Rattle.cir_ast.specs.declared.program.Meant.{Meant}
-use Rattle.cir_ast.specs.Tree.{Expr, LogArgument, Words, LogValue, Simple, Assigned, Statement, Block, If, IfElse, While, For, Return, Assert, Log, Ended, Statements, empty, then_more}
+use Rattle.cir_ast.specs.Tree.{Expr, LogArgument, Words, LogValue, Simple, Assigned, Statement}
+use Rattle.cir_ast.specs.Tree.{Block, If, IfElse, While, For, Return, Assert, Log, Ended}
+use Rattle.cir_ast.specs.Tree.{Statements, empty, then_more}
 use Rattle.cir_meaning.specs.Tried.{Where, Tried}
 use Rattle.cir_meaning.specs.Arrays.{Scalar, the_item}
 use Rattle.cir_meaning.specs.Values.{Value, Known, Linear, Quadratic, Opaque}
 use Rattle.cir_meaning.specs.Frame.{State, Context, at, settle, counted}
 use Rattle.cir_meaning.specs.Evaluate.{value_in}
 use Rattle.cir_meaning.specs.Anonymous.{lift_simple}
-use Rattle.cir_meaning.specs.Steps.{stepped, assert_cost, log_cost, logged_cells, undecided_cost, undecided_cells}
-use Rattle.cir_meaning.specs.Unknown.{Fault, first_of, assign_fault, fault_of, outer_assigned, declares}
+use Rattle.cir_meaning.specs.Steps.{stepped, assert_cost, log_cost, logged_cells, undecided_cost}
+use Rattle.cir_meaning.specs.Steps.{undecided_cells}
+use Rattle.cir_meaning.specs.Unknown.{Fault, first_of, assign_fault, fault_of, outer_assigned}
+use Rattle.cir_meaning.specs.Unknown.{declares}
 use Rattle.cir_meaning.specs.Scan.{forget, scan, undecided}
 use Rattle.cir_meaning.specs.Simple as simple
-use Rattle.cir_meaning.specs.Statement.{Flow, Going, Returned, going, goes, decided, condition, branch, turns, most_turns, loop_of, first_simple, assert_value, logged, log_values, exec, exec_all}
+use Rattle.cir_meaning.specs.Statement.{Flow, Going, Returned, going, goes, decided, condition}
+use Rattle.cir_meaning.specs.Statement.{branch, turns, most_turns, loop_of, first_simple}
+use Rattle.cir_meaning.specs.Statement.{assert_value, logged, log_values, exec, exec_all}
 use Rattle.cir_meaning.proofs.Good.{OnGood, good_ok, good_bad, good_next, good_weaker, either}
 use Rattle.cir_meaning.proofs.Likes.{CallKeeps, Like, like_itself, value_like}
 use Rattle.cir_meaning.proofs.Fading.{may_any, scan_keeps}

@@ -1,6 +1,7 @@
 -- What each single step of a body keeps, its whole execution keeps; and what holds where a
 -- statement is counted holds at the end.
-use Rattle.std.proofs.Common.{◌≡◌, ℕ, zero, suc, ◌+◌, Bool, true, false, List, [], ◌∷◌, ◌++◌, length, Option, Some, None, Ok, refl, sym, subst}
+use Rattle.std.proofs.Common.{◌≡◌, ℕ, zero, suc, ◌+◌, Bool, true, false, List, [], ◌∷◌, ◌++◌}
+use Rattle.std.proofs.Common.{length, Option, Some, None, Ok}
 use Rattle.std.specs.Prelude.{◌==◌}
 use Rattle.cir_ast.specs.declared.program.Spot.{Spot}
 use Rattle.cir_ast.specs.declared.program.Meant.{Meant}
@@ -8,23 +9,38 @@ use Rattle.cir_ast.specs.declared.program.Meant.TheVariants as meant
 use Rattle.cir_ast.specs.declared.operators.Arrow.{Arrow}
 use Rattle.cir_ast.specs.declared.operators.Direction.{Direction}
 use Rattle.cir_ast.specs.declared.refusal.Kind.TheVariants.{ShapeDiffers, UnknownIndex}
-use Rattle.cir_ast.specs.Tree.{Expr, Exprs, none, more, Accessors, done, index, member, Variable, SignalValue, Nothing, Given, Signal, Component, Assign, Set, Compound, Left, Increment, Decrement, First, FirstVars, FirstAssign, LogArgument, Words, LogValue, Slot, SlotPlace, SlotDiscard, Target, Discard, Slots, Simple, Vars, Signals, Declared, Created, Assigned, Constrain, Right, TargetLeft, TargetRight, Alone, Statement, Block, If, IfElse, While, For, Return, Assert, Log, Ended, Statements, empty, then_more}
+use Rattle.cir_ast.specs.Tree.{Expr, Exprs, none, more, Accessors, done, index, member, Variable}
+use Rattle.cir_ast.specs.Tree.{SignalValue, Nothing, Given, Signal, Component, Assign, Set}
+use Rattle.cir_ast.specs.Tree.{Compound, Left, Increment, Decrement, First, FirstVars, FirstAssign}
+use Rattle.cir_ast.specs.Tree.{LogArgument, Words, LogValue, Slot, SlotPlace, SlotDiscard, Target}
+use Rattle.cir_ast.specs.Tree.{Discard, Slots, Simple, Vars, Signals, Declared, Created, Assigned}
+use Rattle.cir_ast.specs.Tree.{Constrain, Right, TargetLeft, TargetRight, Alone, Statement, Block}
+use Rattle.cir_ast.specs.Tree.{If, IfElse, While, For, Return, Assert, Log, Ended, Statements}
+use Rattle.cir_ast.specs.Tree.{empty, then_more}
 use Rattle.cir_meaning.specs.Tried.{Where, Tried, next, found}
-use Rattle.cir_meaning.specs.Arrays.{Datum, Want, Scalar, Whole, reach, filled, same_dims, forgotten, the_item}
+use Rattle.cir_meaning.specs.Arrays.{Datum, Want, Scalar, Whole, reach, same_dims, forgotten}
+use Rattle.cir_meaning.specs.Arrays.{the_item}
 use Rattle.cir_meaning.specs.Values.{Value, Known, Linear, Quadratic, Opaque, known_number}
-use Rattle.cir_meaning.specs.Frame.{World, State, Context, at, variable_at, adding, settle, counted, one_statement}
-use Rattle.cir_meaning.specs.Limits.{with_array}
+use Rattle.cir_meaning.specs.Frame.{World, State, Context, at, variable_at, adding, settle, counted}
+use Rattle.cir_meaning.specs.Frame.{one_statement}
 use Rattle.cir_meaning.specs.Evaluate.{scalar, value_in, dims_in, indices_in}
 use Rattle.cir_meaning.specs.Anonymous.{Lifted, lift_simple}
-use Rattle.cir_meaning.specs.Writing.{plain, put_variable, variable_assignment, is_unknown, write_variable, signal_assignment, write_signal, constrained}
-use Rattle.cir_meaning.specs.Declaring.{declare_variable, declare_signal, declare_component, creation, create}
+use Rattle.cir_meaning.specs.Writing.{plain}
+use Rattle.cir_meaning.specs.Declaring.{declare_variable, declare_signal, declare_component}
+use Rattle.cir_meaning.specs.Declaring.{creation, create}
 use Rattle.cir_meaning.specs.Costs.{Cost}
-use Rattle.cir_meaning.specs.Steps.{stepped, variable_cost, signal_cost, equal_cost, new_cells, undecided_cost, undecided_cells, assert_cost, log_cost, logged_cells}
+use Rattle.cir_meaning.specs.Steps.{stepped, undecided_cost, undecided_cells, assert_cost, log_cost}
+use Rattle.cir_meaning.specs.Steps.{logged_cells}
 use Rattle.cir_meaning.specs.Unknown.{Fault, first_of, assign_fault, fault_of, outer_assigned}
 use Rattle.cir_meaning.specs.Simple as simple
-use Rattle.cir_meaning.specs.Scan.{forget_one, forget, scan_test, scan_set, scan_plain, scan_assign, scan_value, scan_declared, scan_meant, scan_variable, scan_first, scan_simple, scan, scan_all, allowed, undecided}
-use Rattle.cir_meaning.specs.Statement.{Flow, Going, Returned, going, goes, decided, condition, branch, most_turns, turns, loop_of, first_simple, assert_value, logged, log_values, exec, exec_all}
-use Rattle.cir_meaning.proofs.Good.{OnGood, good_ok, good_bad, good_next, good_on, good_needed, good_weaker, either}
+use Rattle.cir_meaning.specs.Scan.{forget_one, forget, scan_test, scan_set, scan_plain, scan_assign}
+use Rattle.cir_meaning.specs.Scan.{scan_value, scan_declared, scan_meant, scan_variable, scan_first}
+use Rattle.cir_meaning.specs.Scan.{scan_simple, scan, scan_all, allowed, undecided}
+use Rattle.cir_meaning.specs.Statement.{Flow, Going, Returned, going, goes, decided, condition}
+use Rattle.cir_meaning.specs.Statement.{branch, most_turns, turns, loop_of, first_simple}
+use Rattle.cir_meaning.specs.Statement.{assert_value, logged, log_values, exec, exec_all}
+use Rattle.cir_meaning.proofs.Good.{OnGood, good_ok, good_bad, good_next, good_on, good_needed}
+use Rattle.cir_meaning.proofs.Good.{good_weaker, either}
 
 -- of a flow: what holds at the end of a statement, and of what is returned
 abbrev pub FlowIs : (State → Type 0) → (Datum → World → Type 0) → Flow → Type 0

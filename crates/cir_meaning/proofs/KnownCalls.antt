@@ -1,6 +1,7 @@
 -- A call of a function whose arguments are known answers what is known, the same whatever is
 -- counted, and changes nothing but what is counted.
-use Rattle.std.proofs.Common.{◌≡◌, ℕ, zero, suc, ◌-◌, true, List, [], ◌∷◌, ◌++◌, length, replicate, Option, Some, None, Ok, refl, sym, subst, slice_get}
+use Rattle.std.proofs.Common.{◌≡◌, ℕ, zero, suc, ◌-◌, true, List, [], ◌∷◌, ◌++◌, length, replicate}
+use Rattle.std.proofs.Common.{Option, Some, None, Ok, refl, sym, subst, slice_get}
 use Rattle.std.specs.List.{list_all, AllByRecursion}
 use Rattle.cir_ast.specs.declared.refusal.Kind.TheVariants.{WrongKind}
 use Rattle.cir_ast.specs.Program.{Program, Function}
@@ -11,11 +12,13 @@ use Rattle.cir_meaning.specs.Arrays.{Datum, single, is_all_known}
 use Rattle.cir_meaning.specs.Values.{Known}
 use Rattle.cir_meaning.specs.Frame.{World, Caller, begun}
 use Rattle.cir_meaning.specs.Statement.{Flow, Going, Returned, exec_all}
-use Rattle.cir_meaning.specs.Bodies.{emptied, function_context, exec_function, call_at, answer_of, counted_in}
+use Rattle.cir_meaning.specs.Bodies.{emptied, function_context, exec_function, call_at, answer_of}
+use Rattle.cir_meaning.specs.Bodies.{counted_in}
 use Rattle.cir_meaning.proofs.Good.{good_ok, good_bad, good_on}
 use Rattle.cir_meaning.proofs.Likes.{CallKeeps}
 use Rattle.cir_meaning.proofs.Rows.{all_append, all_replicate}
-use Rattle.cir_meaning.proofs.Twins.{Twin, twin_ok, twin_bad, twin_next, twin_weaker, twin_left, Below, below_itself, nothing_below, at_twin}
+use Rattle.cir_meaning.proofs.Twins.{Twin, twin_ok, twin_bad, twin_next, twin_weaker, twin_left}
+use Rattle.cir_meaning.proofs.Twins.{Below, below_itself, nothing_below, at_twin}
 use Rattle.cir_meaning.proofs.ValueTwins.{WorldTwin, CallTwin}
 use Rattle.cir_meaning.proofs.KnownValues.{KnownDatum, KnownStore, CallKnown, all_known_data}
 use Rattle.cir_meaning.proofs.FunctionTwins.{FlowTwin, exec_all_both}

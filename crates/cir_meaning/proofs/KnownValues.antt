@@ -1,5 +1,7 @@
 -- In a body without signals, where each variable is known, each expression is.
-use Rattle.std.proofs.Common.{◌≡◌, ℕ, ◌%◌, Bool, true, false, ◌&&◌, ◌||◌, cond, List, [], ◌∷◌, ◌++◌, map, flat_map, length, replicate, Option, Some, None, refl, sym, subst, ◌∙◌}
+use Rattle.std.proofs.Common.{◌≡◌, ℕ, ◌%◌, Bool, true, false, ◌&&◌, ◌||◌, cond, List, [], ◌∷◌, ◌++◌}
+use Rattle.std.proofs.Common.{map, flat_map, length, replicate, Option, Some, None, refl, sym}
+use Rattle.std.proofs.Common.{subst, ◌∙◌}
 use Rattle.std.specs.Prelude.{⊤, is_some, ◌==◌}
 use Rattle.std.specs.List.{list_all, AllByRecursion}
 use Rattle.gold_field.specs.declared.gold.TheConstants.{P}
@@ -11,21 +13,31 @@ use Rattle.cir_ast.specs.declared.program.Meant.{Meant}
 use Rattle.cir_ast.specs.declared.program.Meant.TheVariants as meant
 use Rattle.cir_ast.specs.declared.refusal.Kind.TheVariants.{OutOfBounds, ShapeDiffers, NotInProfile}
 use Rattle.cir_ast.specs.declared.refusal.Form.TheVariants.{LiteralPlace}
-use Rattle.cir_ast.specs.Tree.{Expr, Number, Place, Call, Anonymous, Parentheses, Array, Unary, Binary, Choice, Exprs, none, more, Accessors, done, index, member}
+use Rattle.cir_ast.specs.Tree.{Expr, Number, Place, Call, Anonymous, Parentheses, Array, Unary}
+use Rattle.cir_ast.specs.Tree.{Binary, Choice, Exprs, none, more, Accessors, done, index, member}
 use Rattle.cir_meaning.specs.declared.class.Class.TheVariants as Class'
 use Rattle.cir_meaning.specs.Classes.{class_by, power_class_by}
 use Rattle.cir_meaning.specs.SignalFree.{IsFunction, IsFreeExpr, AreFree, AreFreeIndices}
 use Rattle.cir_meaning.specs.Tried.{Where, Tried, next, refused, found}
 use Rattle.cir_meaning.specs.Places.{elements, left_of, is_inside, followed, all_known, places_of}
 use Rattle.cir_meaning.specs.Limits.{is_too_large}
-use Rattle.cir_meaning.specs.Arrays.{Datum, Want, Scalar, Whole, Reach, fits, reach, single, made, filled, the_item, item_at, is_known, is_all_known, same_dims, read_part}
-use Rattle.cir_meaning.specs.Values.{Value, Known, Linear, Quadratic, Opaque, Decided, Right, Side, First, Second, Both, class_of, known_number, side_of, chosen, unary_result, result_of, lazy_result, and_left, or_left, truth_of}
-use Rattle.cir_meaning.specs.Operators.{Operator, Strict, And, Or, operator_of, unary_of, left_tells, applied, divided_at, shading, first_shading, second_shading}
+use Rattle.cir_meaning.specs.Arrays.{Datum, Want, Scalar, Whole, Reach, fits, reach, single, made}
+use Rattle.cir_meaning.specs.Arrays.{filled, the_item, item_at, is_known, is_all_known, same_dims}
+use Rattle.cir_meaning.specs.Arrays.{read_part}
+use Rattle.cir_meaning.specs.Values.{Value, Known, Linear, Quadratic, Opaque, Decided, Right, Side}
+use Rattle.cir_meaning.specs.Values.{First, Second, Both, class_of, known_number, side_of, chosen}
+use Rattle.cir_meaning.specs.Values.{unary_result, result_of, lazy_result, and_left, or_left}
+use Rattle.cir_meaning.specs.Values.{truth_of}
+use Rattle.cir_meaning.specs.Operators.{Operator, Strict, And, Or, operator_of, unary_of}
+use Rattle.cir_meaning.specs.Operators.{left_tells, applied, divided_at, shading, first_shading}
+use Rattle.cir_meaning.specs.Operators.{second_shading}
 use Rattle.cir_meaning.specs.Frame.{Frame, World, State, Context, Caller, variable_at}
 use Rattle.cir_meaning.specs.Reading.{Stored, Named, read_origin}
-use Rattle.cir_meaning.specs.Evaluate.{scalar, answered, looked_at, has_literal, gathered, call_known, called, value_in, all_in, read_in}
+use Rattle.cir_meaning.specs.Evaluate.{scalar, answered, looked_at, has_literal, gathered}
+use Rattle.cir_meaning.specs.Evaluate.{call_known, called, value_in, all_in, read_in}
 use Rattle.cir_meaning.proofs.ClassLaws.{classes}
-use Rattle.cir_meaning.proofs.Good.{OnGood, good_ok, good_bad, good_next, good_on, good_needed, good_needed_as, either}
+use Rattle.cir_meaning.proofs.Good.{OnGood, good_ok, good_bad, good_next, good_on, good_needed}
+use Rattle.cir_meaning.proofs.Good.{good_needed_as, either}
 use Rattle.cir_meaning.proofs.Pairs.{good_both}
 use Rattle.cir_meaning.proofs.Reaching.{and_true}
 use Rattle.cir_meaning.proofs.Rows.{at_or, all_map, all_replicate, all_joined}

@@ -5,9 +5,9 @@ use Rattle.std.proofs.lemmas.Bool.{ne_eqb}
 use Rattle.gold_field.specs.declared.gold.TheConstants.{P}
 use Rattle.cir_lc.specs.Number.{Assignment, constant}
 use Rattle.cir_meaning.specs.declared.class.Class.TheVariants as Class'
-use Rattle.cir_meaning.specs.Values.{Value, Known, Linear, Quadratic, Opaque, IsValue, class_of, number_of}
-use Rattle.cir_meaning.specs.Values.{Decided, Right, Shaded, and_left, or_left, truth_of, lazy_result}
-use Rattle.cir_meaning.specs.Values.{Side, First, Second, Both, side_of, chosen}
+use Rattle.cir_meaning.specs.Values.{Value, Known, Linear, Quadratic, Opaque, IsValue, class_of}
+use Rattle.cir_meaning.specs.Values.{number_of, Decided, Right, Shaded, and_left, or_left, truth_of}
+use Rattle.cir_meaning.specs.Values.{lazy_result, Side, First, Second, Both, side_of, chosen}
 use Rattle.cir_meaning.specs.Values.{truth_number, and_number, or_number, choice_number}
 
 truth_below : (b : Bool) → cond b 0 1 < P

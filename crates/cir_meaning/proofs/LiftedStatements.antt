@@ -6,9 +6,19 @@ use Rattle.cir_ast.specs.declared.operators.Arrow.TheVariants.{Constrain as Cons
 use Rattle.cir_ast.specs.declared.operators.Direction.TheVariants as direction
 use Rattle.cir_ast.specs.declared.program.Meant.{Meant}
 use Rattle.cir_ast.specs.Program.{Program}
-use Rattle.cir_ast.specs.Tree.{Expr, Number, Place, Call, Anonymous, Parentheses, Array, Unary, Binary, Choice, Exprs, none, more, done, Inputs, Listed, Named, NamedInputs, unnamed, named, SignalValue, Nothing, Given, Signal, Set, Compound, Left, Increment, Decrement, Target, Discard, Slots, Source, One, Values, Simple, Vars, Signals, Declared, Created, Assigned, Constrain, Right, TargetLeft, TargetRight, Alone}
-use Rattle.cir_meaning.specs.Scoped.{Scope, AreCallsMeant, AreAllMeant, AreInputsMeant, AreNamedMeant, IsSetMeant, IsAssignMeant, IsSignalValueMeant, IsSourceMeant}
-use Rattle.cir_meaning.specs.Anonymous.{Lifted, same, then_lift, names_of, signal_of, listed_writes, named_writes, input_writes, created, only, lift, lift_all, lift_inputs, lift_named, lift_values, lift_each, lift_source, lift_value, lift_simple}
+use Rattle.cir_ast.specs.Tree.{Expr, Number, Place, Call, Anonymous, Parentheses, Array, Unary}
+use Rattle.cir_ast.specs.Tree.{Binary, Choice, Exprs, none, more, done, Inputs, Listed, Named}
+use Rattle.cir_ast.specs.Tree.{NamedInputs, unnamed, named, SignalValue, Nothing, Given, Signal}
+use Rattle.cir_ast.specs.Tree.{Set, Compound, Left, Increment, Decrement, Target, Discard, Slots}
+use Rattle.cir_ast.specs.Tree.{Source, One, Values, Simple, Vars, Signals, Declared, Created}
+use Rattle.cir_ast.specs.Tree.{Assigned, Constrain, Right, TargetLeft, TargetRight, Alone}
+use Rattle.cir_meaning.specs.Scoped.{Scope, AreCallsMeant, AreAllMeant, AreInputsMeant}
+use Rattle.cir_meaning.specs.Scoped.{AreNamedMeant, IsSetMeant, IsAssignMeant, IsSignalValueMeant}
+use Rattle.cir_meaning.specs.Scoped.{IsSourceMeant}
+use Rattle.cir_meaning.specs.Anonymous.{Lifted, same, then_lift, names_of, signal_of, listed_writes}
+use Rattle.cir_meaning.specs.Anonymous.{named_writes, input_writes, created, only, lift, lift_all}
+use Rattle.cir_meaning.specs.Anonymous.{lift_inputs, lift_named, lift_values, lift_each}
+use Rattle.cir_meaning.specs.Anonymous.{lift_source, lift_value, lift_simple}
 use Rattle.cir_meaning.proofs.Rows.{all_append}
 
 -- statements that are lifted create components and write their inputs

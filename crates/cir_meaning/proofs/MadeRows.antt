@@ -1,5 +1,6 @@
 -- The table of all signals has the signals of each template that is made into a component.
-use Rattle.std.proofs.Common.{◌≡◌, ℕ, zero, suc, List, Option, Some, None, Ok, refl, sym, ap, subst, slice_get}
+use Rattle.std.proofs.Common.{◌≡◌, ℕ, zero, suc, List, Option, Some, None, Ok, refl, sym, ap, subst}
+use Rattle.std.proofs.Common.{slice_get}
 use Rattle.std.specs.Prelude.{◌^◌, ◌-◌, min}
 use Rattle.cir_ast.specs.declared.operators.Direction.{Direction}
 use Rattle.cir_ast.specs.declared.refusal.Kind.TheVariants.{WrongKind}
@@ -7,9 +8,11 @@ use Rattle.cir_ast.specs.Program.{Program, Template}
 use Rattle.cir_meaning.specs.Scoped.{IsResolved, behind_all}
 use Rattle.cir_meaning.specs.Tried.{Where, next, found}
 use Rattle.cir_meaning.specs.Arrays.{Datum}
-use Rattle.cir_meaning.specs.Frame.{Group, Row, Sizes, Signals, World, State, Context, Maker, size_in}
+use Rattle.cir_meaning.specs.Frame.{Group, Row, Sizes, Signals, World, State, Context, Maker}
+use Rattle.cir_meaning.specs.Frame.{size_in}
 use Rattle.cir_meaning.specs.Statement.{exec_all}
-use Rattle.cir_meaning.specs.Bodies.{template_context, template_state, ended_flow, exec_template, call_at, make_at, most_open, numbered_others}
+use Rattle.cir_meaning.specs.Bodies.{template_context, template_state, ended_flow, exec_template}
+use Rattle.cir_meaning.specs.Bodies.{call_at, make_at, most_open, numbered_others}
 use Rattle.cir_meaning.specs.RunSimple.{Runner}
 use Rattle.cir_meaning.specs.RunBodies.{body_at}
 use Rattle.cir_meaning.specs.Declaring.{Creation}

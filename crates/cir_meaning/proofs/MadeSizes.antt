@@ -7,7 +7,8 @@ use Rattle.cir_meaning.specs.Scoped.{IsResolved, behind_all}
 use Rattle.cir_meaning.specs.Tried.{next, found}
 use Rattle.cir_meaning.specs.Frame.{Group, State, Maker}
 use Rattle.cir_meaning.specs.Statement.{exec_all}
-use Rattle.cir_meaning.specs.Bodies.{template_context, template_state, ended_flow, exec_template, call_at, most_open}
+use Rattle.cir_meaning.specs.Bodies.{template_context, template_state, ended_flow, exec_template}
+use Rattle.cir_meaning.specs.Bodies.{call_at, most_open}
 use Rattle.cir_meaning.specs.RunSimple.{Runner}
 use Rattle.cir_meaning.proofs.Good.{OnSome'}
 use Rattle.cir_meaning.proofs.FineValues.{FineMake}

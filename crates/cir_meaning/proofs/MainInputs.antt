@@ -1,11 +1,14 @@
 -- Where the inputs of main are as many as its template has, each has its number.
-use Rattle.std.proofs.Common.{◌≡◌, ℕ, zero, suc, ◌+◌, ◌*◌, ◌-◌, ◌/◌, ◌%◌, ◌≤◌, ◌<◌, Bool, true, false, cond, List, [], ◌∷◌, length, Option, Some, None, is_some, refl, sym, ap, subst, ◌∙◌, slice_get, arith, mod-eq_of_lt}
+use Rattle.std.proofs.Common.{◌≡◌, ℕ, zero, suc, ◌+◌, ◌*◌, ◌-◌, ◌/◌, ◌%◌, ◌≤◌, ◌<◌, Bool, true}
+use Rattle.std.proofs.Common.{false, cond, List, [], ◌∷◌, length, Option, Some, None, is_some, refl}
+use Rattle.std.proofs.Common.{sym, ap, subst, ◌∙◌, slice_get, arith, mod-eq_of_lt}
 use Rattle.std.specs.Prelude.{◌^◌, bytes_eq}
 use Rattle.std.specs.List.{list_any}
 use native.Mathlib.Nat.{add-mul-div_left, add-mul-mod_self_left, div-eq_of_lt}
 use Rattle.cir_ast.specs.declared.operators.Direction.{Direction}
 use Rattle.cir_ast.specs.declared.operators.Direction.TheVariants.{Inner, Input, Output}
-use Rattle.cir_meaning.specs.Frame.{SignalEntry, Signals, PublicInputs, PrivateInputs, Sizes, Context, entry_at, is_input, before_group, size_in}
+use Rattle.cir_meaning.specs.Frame.{SignalEntry, Signals, PublicInputs, PrivateInputs, Sizes}
+use Rattle.cir_meaning.specs.Frame.{Context, entry_at, is_input, before_group, size_in}
 use Rattle.cir_meaning.specs.Compile.{main_group, before, final_number}
 use Rattle.cir_meaning.specs.RunBodies.{input_wires}
 use Rattle.cir_meaning.proofs.SignalDeclarations.{IsShape}

@@ -6,10 +6,12 @@ use Rattle.cir_ast.specs.declared.program.Meant.TheVariants as meant
 use Rattle.cir_ast.specs.Program.{Program, Main}
 use Rattle.cir_meaning.specs.Scoped.{IsResolved}
 use Rattle.cir_meaning.specs.Tried.{Tried, next}
-use Rattle.cir_meaning.specs.Frame.{Signals, Outputs, PublicInputs, PrivateInputs, Others, World, at}
+use Rattle.cir_meaning.specs.Frame.{Signals, Outputs, PublicInputs, PrivateInputs, Others, World}
+use Rattle.cir_meaning.specs.Frame.{at}
 use Rattle.cir_meaning.specs.Evaluate.{arguments_in}
 use Rattle.cir_meaning.specs.Bodies.{make_at, most_open}
-use Rattle.cir_meaning.specs.Compile.{main_group, main_context, main_state, exec_main, the_main, Circuit, circuit_of, compiled_with}
+use Rattle.cir_meaning.specs.Compile.{main_group, main_context, main_state, exec_main, the_main}
+use Rattle.cir_meaning.specs.Compile.{Circuit, circuit_of, compiled_with}
 use Rattle.cir_meaning.specs.RunBodies.{body_at}
 use Rattle.cir_meaning.proofs.Good.{good_is}
 use Rattle.cir_meaning.proofs.Likes.{Like, like_itself}

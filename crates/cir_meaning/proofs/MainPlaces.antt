@@ -1,12 +1,15 @@
 -- The signals of a body have the numbers of their groups.
-use Rattle.std.proofs.Common.{◌≡◌, ◌≢◌, ◌⊎◌, inl, inr, ℕ, zero, suc, ◌+◌, ◌≤◌, ◌<◌, Bool, true, false, cond, List, [], length, replicate, Option, Some, None, refl, sym, ap, subst, ◌∙◌, slice_get, arith}
+use Rattle.std.proofs.Common.{◌≡◌, ◌≢◌, ◌⊎◌, inl, inr, ℕ, zero, suc, ◌+◌, ◌≤◌, ◌<◌, Bool, true}
+use Rattle.std.proofs.Common.{false, cond, List, [], length, replicate, Option, Some, None, refl}
+use Rattle.std.proofs.Common.{sym, ap, subst, ◌∙◌, slice_get, arith}
 use Rattle.std.specs.Prelude.{◌^◌, ◌-◌}
 use Rattle.cir_ast.specs.declared.operators.Direction.{Direction}
 use Rattle.cir_ast.specs.declared.program.Spot.{Spot}
 use Rattle.cir_meaning.specs.Tried.{Where}
 use Rattle.cir_meaning.specs.Limits.{count_sum, is_too_large}
 use Rattle.cir_meaning.specs.Places.{elements}
-use Rattle.cir_meaning.specs.Frame.{SignalEntry, Signals, Sizes, World, State, Context, before_group, size_in, more_in, put_at, entry_at, is_input}
+use Rattle.cir_meaning.specs.Frame.{SignalEntry, Signals, Sizes, World, State, Context}
+use Rattle.cir_meaning.specs.Frame.{before_group, size_in, more_in, put_at, entry_at, is_input}
 use Rattle.cir_meaning.specs.Writing.{signals_of, with_signals, marked}
 use Rattle.cir_meaning.specs.Declaring.{new_signal, Creation}
 use Rattle.cir_meaning.proofs.Good.{OnSome'}
@@ -15,7 +18,8 @@ use Rattle.cir_meaning.proofs.PartWrites.{same_or_not, set_count}
 use Rattle.cir_meaning.proofs.Creating.{Created}
 use Rattle.cir_meaning.proofs.Keeping.{Closed}
 use Rattle.cir_meaning.proofs.Entries.{put_else, part_apart}
-use Rattle.cir_meaning.proofs.GroupSizes.{Less, Fits, less_itself, less_then, more_less, more_fits, more_here, IsGrowing}
+use Rattle.cir_meaning.proofs.GroupSizes.{Less, Fits, less_itself, less_then, more_less, more_fits}
+use Rattle.cir_meaning.proofs.GroupSizes.{more_here, IsGrowing}
 use Rattle.cir_meaning.proofs.GrowingSizes.{From, from_made, constrained_kept}
 
 -- in its group, unless the group has more than can be counted

@@ -1,5 +1,6 @@
 -- The run of a program that compiles: main's body runs on its inputs.
-use Rattle.std.proofs.Common.{◌≡◌, ℕ, ◌+◌, ◌<◌, ◌≤◌, List, [], ◌∷◌, length, Some, None, Ok, Err, refl, sym, ap, subst, ◌∙◌, slice_get, arith}
+use Rattle.std.proofs.Common.{◌≡◌, ℕ, ◌+◌, ◌<◌, ◌≤◌, List, [], ◌∷◌, length, Some, None, Ok, Err}
+use Rattle.std.proofs.Common.{refl, sym, ap, subst, ◌∙◌, slice_get, arith}
 use Rattle.std.specs.Prelude.{◌^◌, ◌-◌, codes}
 use Rattle.cir_ast.specs.declared.program.Meant.{Meant}
 use Rattle.cir_ast.specs.declared.program.Meant.TheVariants as meant
@@ -8,14 +9,18 @@ use Rattle.cir_ast.specs.Program.{Program, Main, Template}
 use Rattle.cir_meaning.specs.Scoped.{IsResolved, behind_all}
 use Rattle.cir_meaning.specs.Tried.{Where, Tried, next, found}
 use Rattle.cir_meaning.specs.Arrays.{Datum}
-use Rattle.cir_meaning.specs.Frame.{SignalEntry, Signals, Outputs, PublicInputs, PrivateInputs, Others, World, State, at, entry_at, settle}
+use Rattle.cir_meaning.specs.Frame.{SignalEntry, Signals, Outputs, PublicInputs, PrivateInputs}
+use Rattle.cir_meaning.specs.Frame.{Others, World, State, at, entry_at, settle}
 use Rattle.cir_meaning.specs.Evaluate.{arguments_in}
 use Rattle.cir_meaning.specs.Statement.{exec_all}
-use Rattle.cir_meaning.specs.Bodies.{template_context, template_state, ended_flow, exec_template, call_at, make_at, most_open}
-use Rattle.cir_meaning.specs.Compile.{main_group, main_context, main_state, exec_main, the_main, Circuit, circuit_of, compiled_with}
+use Rattle.cir_meaning.specs.Bodies.{template_context, template_state, ended_flow, exec_template}
+use Rattle.cir_meaning.specs.Bodies.{call_at, make_at, most_open}
+use Rattle.cir_meaning.specs.Compile.{main_group, main_context, main_state, exec_main, the_main}
+use Rattle.cir_meaning.specs.Compile.{Circuit, circuit_of, compiled_with}
 use Rattle.cir_meaning.specs.Run.{Wires, RunTried, Rejected, Stopped, refusing}
 use Rattle.cir_meaning.specs.RunSimple.{Outcome}
-use Rattle.cir_meaning.specs.RunBodies.{body_at, input_wires, run_program, all_wires, Ending, run_with}
+use Rattle.cir_meaning.specs.RunBodies.{body_at, input_wires, run_program, all_wires, Ending}
+use Rattle.cir_meaning.specs.RunBodies.{run_with}
 use Rattle.cir_meaning.proofs.Good.{good_is}
 use Rattle.cir_meaning.proofs.Likes.{Like, like_itself}
 use Rattle.cir_meaning.proofs.FineValues.{FineAnswers, arguments_fine}

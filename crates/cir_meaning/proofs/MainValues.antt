@@ -1,18 +1,23 @@
 -- Behind a run of a program that compiles each signal has a value, and the values satisfy it.
-use Rattle.std.proofs.Common.{◌≡◌, ◌⊎◌, inl, inr, ℕ, ◌+◌, ◌-◌, ◌≤◌, ◌<◌, true, List, [], ◌∷◌, length, Option, Some, is_some, refl, sym, ap, subst, ◌∙◌, slice_get, arith}
+use Rattle.std.proofs.Common.{◌≡◌, ◌⊎◌, inl, inr, ℕ, ◌+◌, ◌-◌, ◌≤◌, ◌<◌, true, List, [], ◌∷◌}
+use Rattle.std.proofs.Common.{length, Option, Some, is_some, refl, sym, ap, subst, ◌∙◌, slice_get}
+use Rattle.std.proofs.Common.{arith}
 use Rattle.std.specs.Prelude.{map}
 use Rattle.std.specs.List.{AllByRecursion}
 use Rattle.cir_lc.specs.Number.{Assignment}
 use Rattle.cir_meaning.specs.Source.{Equation, IsEqualAt}
-use Rattle.cir_meaning.specs.Frame.{Signals, Outputs, PublicInputs, PrivateInputs, Others, Sizes, World, before_group}
-use Rattle.cir_meaning.specs.Compile.{Circuit, circuit_of, as_executed, renumbered_equation, final_number, empty_world}
+use Rattle.cir_meaning.specs.Frame.{Signals, Outputs, PublicInputs, PrivateInputs, Others, Sizes}
+use Rattle.cir_meaning.specs.Frame.{World, before_group}
+use Rattle.cir_meaning.specs.Compile.{Circuit, circuit_of, as_executed, renumbered_equation}
+use Rattle.cir_meaning.specs.Compile.{final_number, empty_world}
 use Rattle.cir_meaning.specs.Run.{Wires, Table}
 use Rattle.cir_meaning.specs.RunSimple.{Outcome}
 use Rattle.cir_meaning.specs.RunBodies.{all_wires, table_wire, Ending}
 use Rattle.cir_meaning.proofs.Holds.{Agrees, Full}
 use Rattle.cir_meaning.proofs.Weights.{below, inside, cover_entries, cover_tables, under, Bounded}
 use Rattle.cir_meaning.proofs.TableWires.{tables_some, tables_agree}
-use Rattle.cir_meaning.proofs.NumberPlaces.{Roomy, group_once, InGroup, in_group, values_count, values_all, value_at}
+use Rattle.cir_meaning.proofs.NumberPlaces.{Roomy, group_once, InGroup, in_group, values_count}
+use Rattle.cir_meaning.proofs.NumberPlaces.{values_all, value_at}
 use Rattle.cir_meaning.proofs.RowCounts.{Counted, sizes_counted}
 use Rattle.cir_meaning.proofs.TemplateRuns.{Ran}
 

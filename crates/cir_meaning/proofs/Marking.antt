@@ -1,6 +1,8 @@
 -- What is written of signals has numbers: marks and numbers are put together, and no number that is
 -- there is lost.
-use Rattle.std.proofs.Common.{◌≡◌, ◌≢◌, ◌⊎◌, inl, inr, ℕ, zero, suc, Bool, true, false, ◌&&◌, cond, nat_eq, List, [], ◌∷◌, Some, None, is_some, slice_get, slice_set, refl, sym, ap, subst, ◌∙◌, arith}
+use Rattle.std.proofs.Common.{◌≡◌, ◌≢◌, ◌⊎◌, inl, inr, ℕ, zero, suc, Bool, true, false, ◌&&◌, cond}
+use Rattle.std.proofs.Common.{nat_eq, List, [], ◌∷◌, Some, None, is_some, slice_get, slice_set}
+use Rattle.std.proofs.Common.{refl, sym, ap, subst, ◌∙◌, arith}
 use Rattle.std.proofs.lemmas.Bool.{eq-eqb, ne_eqb, eqb-true}
 use Rattle.cir_ast.specs.declared.operators.Direction.{Direction}
 use Rattle.cir_meaning.specs.Frame.{SignalEntry, Signals, put_at, entry_at}

@@ -7,7 +7,8 @@ use Rattle.gold_field.specs.declared.operators.Op2.TheVariants as op2
 use Rattle.cir_lc.specs.Number.{Assignment, constant}
 use Rattle.cir_meaning.specs.declared.class.Class.{Class}
 use Rattle.cir_meaning.specs.declared.class.Class.TheVariants as Class'
-use Rattle.cir_meaning.specs.Classes.{sum_class, product_class, quotient_class, known_class, power_class, class_by}
+use Rattle.cir_meaning.specs.Classes.{sum_class, product_class, quotient_class, known_class}
+use Rattle.cir_meaning.specs.Classes.{power_class, class_by}
 use Rattle.cir_meaning.specs.Values.{Value, Known, Linear, Quadratic, Opaque, class_of, number_of}
 
 abbrev pub Means : (Assignment → Type 0) → Value → ℕ → Type 0

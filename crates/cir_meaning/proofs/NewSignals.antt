@@ -1,5 +1,7 @@
 -- The numbers of a signal that is declared are those that follow in its group.
-use Rattle.std.proofs.Common.{◌≡◌, ℕ, zero, suc, ◌+◌, ◌*◌, ◌≤◌, ◌<◌, Bool, true, false, cond, List, [], ◌∷◌, length, replicate, None, refl, sym, ap, subst, ◌∙◌, arith, Option}
+use Rattle.std.proofs.Common.{◌≡◌, ℕ, zero, suc, ◌+◌, ◌*◌, ◌≤◌, ◌<◌, Bool, true, false, cond, List}
+use Rattle.std.proofs.Common.{[], ◌∷◌, length, replicate, None, refl, sym, ap, subst, ◌∙◌, arith}
+use Rattle.std.proofs.Common.{Option}
 use Rattle.std.specs.Prelude.{max, fold}
 use Rattle.std.proofs.lemmas.Bool.{ltb-true}
 use Rattle.std.proofs.Math.Nat.{le-mul_of_pos_right, mul-zero}
@@ -7,11 +9,13 @@ use Rattle.cir_ast.specs.declared.program.Spot.{Spot}
 use Rattle.cir_ast.specs.declared.operators.Direction.{Direction}
 use Rattle.cir_meaning.specs.Limits.{count_sum, is_too_large, size_of}
 use Rattle.cir_meaning.specs.Places.{elements}
-use Rattle.cir_meaning.specs.Frame.{Signals, Sizes, World, Context, Maker, before_group, size_in, more_in, put_at, entry_at, is_input}
+use Rattle.cir_meaning.specs.Frame.{Signals, Sizes, World, Context, Maker, before_group, size_in}
+use Rattle.cir_meaning.specs.Frame.{more_in, put_at, entry_at, is_input}
 use Rattle.cir_meaning.specs.Declaring.{new_signal, with_row}
 use Rattle.cir_meaning.specs.Run.{RunPart}
 use Rattle.cir_meaning.proofs.GroupSizes.{Less, more_less, more_fits, more_here}
-use Rattle.cir_meaning.proofs.Weights.{inside, cover, cover_entries, cover_put, under, under_more, Bounded, bounded_before, sum_exact}
+use Rattle.cir_meaning.proofs.Weights.{inside, cover, cover_entries, cover_put, under, under_more}
+use Rattle.cir_meaning.proofs.Weights.{Bounded, bounded_before, sum_exact}
 use Rattle.cir_meaning.proofs.Standing.{Start, parts_weight, Numbered}
 use Rattle.cir_meaning.proofs.PartWeights.{more_earlier}
 

@@ -1,19 +1,26 @@
 -- The numbers of results are the operators' on the numbers of the operands.
-use Rattle.std.proofs.Common.{◌≡◌, ◌≢◌, ℕ, zero, suc, ◌+◌, ◌*◌, ◌-◌, ◌%◌, ◌^◌, ◌<◌, Bool, true, false, cond, Option, Some, None, refl, sym, ap, subst, ◌∙◌, arith}
+use Rattle.std.proofs.Common.{◌≡◌, ◌≢◌, ℕ, zero, suc, ◌+◌, ◌*◌, ◌-◌, ◌%◌, ◌^◌, ◌<◌, Bool, true}
+use Rattle.std.proofs.Common.{false, cond, Option, Some, None, refl, sym, ap, subst, ◌∙◌, arith}
 use Rattle.std.specs.Prelude.{◌==◌}
-use Rattle.std.proofs.Math.Nat.{pow-suc, pow-zero, mod-add-mod, add-mod-mod, mod-eq_of_lt, add-mul-mod_self_right}
+use Rattle.std.proofs.Math.Nat.{pow-suc, pow-zero, mod-add-mod, add-mod-mod, mod-eq_of_lt}
+use Rattle.std.proofs.Math.Nat.{add-mul-mod_self_right}
 use Rattle.std.proofs.lemmas.Nat.{mul-mod_first, mul-mod_second}
 use Rattle.std.proofs.lemmas.Bool.{eqb-true}
 use Rattle.gold_field.specs.declared.gold.TheConstants.{P}
 use Rattle.gold_field.specs.declared.operators.Op1.{Op1}
 use Rattle.gold_field.specs.declared.operators.Op1.TheVariants.{Neg, Not, Compl}
 use Rattle.gold_field.specs.declared.operators.Op2.{Op2}
-use Rattle.gold_field.specs.declared.operators.Op2.TheVariants.{Add, Sub, Mul, Div, Quot, Rem, Pow, Shl, Shr, And, Xor, Or, Lt, Le, Gt, Ge, Eq, Ne}
+use Rattle.gold_field.specs.declared.operators.Op2.TheVariants.{Add, Sub, Mul, Div, Quot, Rem, Pow}
+use Rattle.gold_field.specs.declared.operators.Op2.TheVariants.{Shl, Shr, And, Xor, Or, Lt, Le, Gt}
+use Rattle.gold_field.specs.declared.operators.Op2.TheVariants.{Ge, Eq, Ne}
 use Rattle.gold_field.specs.Operators.{binary_of, inverse_of, unary_of}
 use Rattle.cir_lc.specs.Number.{Assignment, constant, added, scaled, multiplied, negated}
 use Rattle.cir_meaning.specs.declared.class.Class.TheVariants as Class'
 use Rattle.cir_meaning.specs.Classes.{unary_class}
-use Rattle.cir_meaning.specs.Values.{Value, Known, Linear, Quadratic, Opaque, IsValue, class_of, sum_of, negative_of, difference_of, product_of, quotient_of, known_of, known_or_opaque, power_of, power_by, result_of, number_of, unary_result}
+use Rattle.cir_meaning.specs.Values.{Value, Known, Linear, Quadratic, Opaque, IsValue, class_of}
+use Rattle.cir_meaning.specs.Values.{sum_of, negative_of, difference_of, product_of, quotient_of}
+use Rattle.cir_meaning.specs.Values.{known_of, known_or_opaque, power_of, power_by, result_of}
+use Rattle.cir_meaning.specs.Values.{number_of, unary_result}
 use Rattle.cir_meaning.proofs.ClassLaws.{divided_is, negative_class}
 
 -- a term goes into the constant part of a sum

@@ -1,9 +1,12 @@
 -- The numbers of the groups, and the places of their values behind a run.
-use Rattle.std.proofs.Common.{◌≡◌, ◌⊎◌, inl, inr, ℕ, zero, suc, ◌+◌, ◌*◌, ◌-◌, ◌≤◌, ◌<◌, List, [], ◌∷◌, ◌++◌, length, Option, Some, refl, sym, ap, subst, ◌∙◌, slice_get, arith}
+use Rattle.std.proofs.Common.{◌≡◌, ◌⊎◌, inl, inr, ℕ, zero, suc, ◌+◌, ◌*◌, ◌-◌, ◌≤◌, ◌<◌, List, []}
+use Rattle.std.proofs.Common.{◌∷◌, ◌++◌, length, Option, Some, refl, sym, ap, subst, ◌∙◌, slice_get}
+use Rattle.std.proofs.Common.{arith}
 use Rattle.std.specs.Prelude.{map}
 use Rattle.std.specs.List.{AllByRecursion}
 use Rattle.cir_meaning.specs.Places.{numbers_from}
-use Rattle.cir_meaning.specs.Frame.{Group, Outputs, PublicInputs, PrivateInputs, Others, Sizes, before_group, size_in}
+use Rattle.cir_meaning.specs.Frame.{Group, Outputs, PublicInputs, PrivateInputs, Others, Sizes}
+use Rattle.cir_meaning.specs.Frame.{before_group, size_in}
 use Rattle.cir_meaning.specs.Compile.{final_number}
 use Rattle.cir_meaning.specs.Run.{Table}
 use Rattle.cir_meaning.specs.RunBodies.{table_wire, group_wires, all_wires}

@@ -1,11 +1,13 @@
 -- The number of an expression when it runs is what its value at compile time means, whatever is
 -- read.
-use Rattle.std.proofs.Common.{◌≡◌, ℕ, ◌%◌, Bool, true, List, [], ◌∷◌, ◌++◌, Option, Some, None, Ok, Result, Err, refl, sym, ap, subst, ◌∙◌, slice_get}
+use Rattle.std.proofs.Common.{◌≡◌, ℕ, ◌%◌, Bool, true, List, [], ◌∷◌, ◌++◌, Option, Some, None, Ok}
+use Rattle.std.proofs.Common.{Result, Err, refl, sym, ap, subst, ◌∙◌, slice_get}
 use Rattle.std.specs.Prelude.{unwrap_or}
 use Rattle.gold_field.specs.declared.gold.TheConstants.{P}
 use Rattle.cir_ast.specs.declared.program.Meant.{Meant}
 use Rattle.cir_ast.specs.declared.program.Meant.TheVariants as meant
-use Rattle.cir_ast.specs.Tree.{Expr, Number, Place, Call, Anonymous, Parentheses, Array, Unary, Binary, Choice, Exprs, none, more, Accessors, done, index, member}
+use Rattle.cir_ast.specs.Tree.{Expr, Number, Place, Call, Anonymous, Parentheses, Array, Unary}
+use Rattle.cir_ast.specs.Tree.{Binary, Choice, Exprs, none, more, Accessors, done, index, member}
 use Rattle.cir_lc.specs.Number.{Assignment}
 use Rattle.cir_ast.specs.declared.refusal.Kind.TheVariants.{ReadBeforeWrite}
 use Rattle.cir_meaning.specs.Tried.{Where, Tried, next, found}
@@ -15,21 +17,26 @@ use Rattle.cir_meaning.specs.SignalFree.{IsFunction}
 use Rattle.cir_meaning.specs.Scoped.{Scope, IsSeen, AreCallsMeant, AreAllMeant, AreIndicesMeant}
 use Rattle.cir_meaning.specs.Operators.{operator_of, unary_of}
 use Rattle.cir_meaning.specs.Frame.{SignalEntry, Frame, State, Context, variable_at, entry_at}
-use Rattle.cir_meaning.specs.Reading.{Origin, Stored, Wired, Lost, read_origin, origin_of, inner_origin}
+use Rattle.cir_meaning.specs.Reading.{Stored, Wired, Lost, read_origin, origin_of, inner_origin}
 use Rattle.cir_meaning.specs.Reading as reading
 use Rattle.cir_meaning.specs.Evaluate.{called, value_in, all_in, read_in}
 use Rattle.cir_meaning.specs.RunValues as run
-use Rattle.cir_meaning.specs.RunValues.{Numbers, Ran, Environment, Store, stored, number_in, numbers_in, place_in, read_root, inner_root, read_stored, read_wired}
+use Rattle.cir_meaning.specs.RunValues.{Numbers, Ran, Environment, Store, stored, number_in}
+use Rattle.cir_meaning.specs.RunValues.{numbers_in, place_in, read_root, inner_root, read_stored}
+use Rattle.cir_meaning.specs.RunValues.{read_wired}
 use Rattle.gold_field.specs.Operators.{unary_of as number_by}
 use Rattle.cir_meaning.proofs.Good.{OnGood}
 use Rattle.cir_meaning.proofs.Likes.{Like, value_like}
 use Rattle.cir_meaning.proofs.FineValues.{FineContext, FineAnswer, value_fine}
 use Rattle.cir_meaning.proofs.Strict.{unary_sound}
-use Rattle.cir_meaning.proofs.Pairs.{Pair, pair_ok, pair_bad, pair_next, pair_good, pair_weaker, pair_map, good_both, good_changed}
+use Rattle.cir_meaning.proofs.Pairs.{Pair, pair_ok, pair_bad, pair_next, pair_good, pair_weaker}
+use Rattle.cir_meaning.proofs.Pairs.{pair_map, good_both, good_changed}
 use Rattle.cir_meaning.proofs.RunFree.{NoMiss, IsNumber'}
 use Rattle.cir_meaning.proofs.Reaching.{IndicesSame, indices_more}
 use Rattle.cir_meaning.proofs.Same.{Same, Wire, index_same, stored_pair, wired_pair}
-use Rattle.cir_meaning.proofs.Sound.{Told, SourceSame, IsRootSeen, RootSame, Fitting, Answers, Ready, Whole', number_pair, single_pair, binary_pair, choice_pair, AllAnswers, gathered_pair}
+use Rattle.cir_meaning.proofs.Sound.{Told, SourceSame, IsRootSeen, RootSame, Fitting, Answers}
+use Rattle.cir_meaning.proofs.Sound.{Ready, Whole', number_pair, single_pair, binary_pair}
+use Rattle.cir_meaning.proofs.Sound.{choice_pair, AllAnswers, gathered_pair}
 
 -- a component's signals depend on components and parts alone
 inner_frame : (w : Where) (shaded : Bool) (n : ℕ) (os : List (Option ℕ)) (name : List ℕ)

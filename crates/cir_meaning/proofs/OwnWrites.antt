@@ -1,5 +1,6 @@
 -- A write of a body's own signals in a run.
-use Rattle.std.proofs.Common.{◌≡◌, ◌≢◌, ℕ, ◌+◌, List, [], ◌∷◌, Option, Some, None, refl, sym, ap, ◌∙◌, subst, length, ◌<◌}
+use Rattle.std.proofs.Common.{◌≡◌, ◌≢◌, ℕ, ◌+◌, List, [], ◌∷◌, Option, Some, None, refl, sym, ap}
+use Rattle.std.proofs.Common.{◌∙◌, subst, length, ◌<◌}
 use Rattle.cir_meaning.proofs.PartWeights.{same_cover}
 use Rattle.cir_meaning.proofs.Weights.{under}
 use Rattle.std.specs.List.{AllByRecursion}

@@ -1,5 +1,7 @@
 -- How often a number is a signal's of a body's components, while these change.
-use Rattle.std.proofs.Common.{◌≡◌, ℕ, zero, suc, ◌+◌, ◌-◌, List, [], ◌∷◌, ◌++◌, length, Option, Some, None, refl, sym, ap, subst, ◌∙◌, slice_get, slice_set, arith, ◌≤◌}
+use Rattle.std.proofs.Common.{◌≡◌, ℕ, zero, suc, ◌+◌, ◌-◌, List, [], ◌∷◌, ◌++◌, length, Option}
+use Rattle.std.proofs.Common.{Some, None, refl, sym, ap, subst, ◌∙◌, slice_get, slice_set, arith}
+use Rattle.std.proofs.Common.{◌≤◌}
 use Rattle.std.specs.List.{AllByRecursion}
 use Rattle.cir_meaning.specs.Frame.{SignalEntry, Signals, Part, Sizes, Maker, entry_at}
 use Rattle.cir_meaning.specs.Run.{Wires, Table, RunPart}
@@ -7,8 +9,11 @@ use Rattle.cir_meaning.specs.RunBodies.{port_tables}
 use Rattle.cir_meaning.proofs.Rows.{all_set, all_append}
 use Rattle.cir_meaning.proofs.KnownCalls.{all_get}
 use Rattle.cir_meaning.proofs.GroupSizes.{Less, less_then, Fits, less_itself}
-use Rattle.cir_meaning.proofs.Weights.{inside, cover, cover_entries, cover_tables, cover_join, cover_alike, weight_of, under, Bounded, bounded_before, under_less}
-use Rattle.cir_meaning.proofs.Standing.{Start, SameEntry, SameShapes, made_of, world_of, made_ports, part_weight, parts_weight, PartWeighs, Numbered}
+use Rattle.cir_meaning.proofs.Weights.{inside, cover, cover_entries, cover_tables, cover_join}
+use Rattle.cir_meaning.proofs.Weights.{cover_alike, weight_of, under, Bounded, bounded_before}
+use Rattle.cir_meaning.proofs.Weights.{under_less}
+use Rattle.cir_meaning.proofs.Standing.{Start, SameEntry, SameShapes, made_of, world_of, made_ports}
+use Rattle.cir_meaning.proofs.Standing.{part_weight, parts_weight, PartWeighs, Numbered}
 
 -- the same signals cover the same numbers
 pub same_cover : (m : ℕ) (old new : Signals) → SameShapes old new → SameShapes new old

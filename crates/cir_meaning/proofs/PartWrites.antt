@@ -1,12 +1,15 @@
 -- A write of a component's inputs in a run.
-use Rattle.std.proofs.Common.{◌≡◌, ◌≢◌, ◌⊎◌, inl, inr, ℕ, zero, suc, Bool, true, false, not, ◌&&◌, nat_eq, List, [], ◌∷◌, ◌++◌, length, Option, Some, None, is_some, refl, sym, ap, subst, ◌∙◌, slice_get, slice_set}
+use Rattle.std.proofs.Common.{◌≡◌, ◌≢◌, ◌⊎◌, inl, inr, ℕ, zero, suc, Bool, true, false, not, ◌&&◌}
+use Rattle.std.proofs.Common.{nat_eq, List, [], ◌∷◌, ◌++◌, length, Option, Some, None, is_some}
+use Rattle.std.proofs.Common.{refl, sym, ap, subst, ◌∙◌, slice_get, slice_set}
 use Rattle.cir_meaning.proofs.PartWeights.{put_numbered, ports_weigh, weigh_shapes}
 use Rattle.std.specs.List.{AllByRecursion}
 use Rattle.std.proofs.lemmas.Bool.{ne_eqb, eq-eqb, eqb-true}
 use Rattle.cir_lc.specs.Number.{Assignment}
 use Rattle.cir_meaning.specs.Limits.{Counts}
 use Rattle.cir_meaning.specs.Source.{Equation, IsEqualAt}
-use Rattle.cir_meaning.specs.Frame.{SignalEntry, Signals, Part, State, Maker, variable_at, entry_at, is_input, is_fed}
+use Rattle.cir_meaning.specs.Frame.{SignalEntry, Signals, Part, State, Maker, variable_at, entry_at}
+use Rattle.cir_meaning.specs.Frame.{is_input, is_fed}
 use Rattle.cir_meaning.specs.RunValues.{stored}
 use Rattle.cir_meaning.specs.Writing.{with_part_signals}
 use Rattle.cir_meaning.specs.Run.{Wires, RunPart, Run, store_of}
@@ -15,7 +18,8 @@ use Rattle.cir_meaning.proofs.FineValues.{Fine}
 use Rattle.cir_meaning.proofs.Marking.{MarksOf, KeepsWires, set_at}
 use Rattle.cir_meaning.proofs.Writing.{get_set}
 use Rattle.cir_meaning.proofs.Holds.{Agrees, PartAgrees, Extends}
-use Rattle.cir_meaning.proofs.Standing.{PartStands, Stands, SameEntry, SameShapes, Debts, Pays, made_ports, pays_ports, ports_pay, is_done, Start}
+use Rattle.cir_meaning.proofs.Standing.{PartStands, Stands, SameEntry, SameShapes, Debts, Pays}
+use Rattle.cir_meaning.proofs.Standing.{made_ports, pays_ports, ports_pay, is_done, Start}
 use Rattle.cir_meaning.proofs.SignalWrites.{wrote, shapes_then}
 use Rattle.cir_meaning.proofs.OwnWrites.{same_in, agrees_before}
 

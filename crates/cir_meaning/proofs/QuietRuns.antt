@@ -1,13 +1,18 @@
 -- The run of statements that declare no signal, where the steps of statements whose condition isn't
 -- known miss no value.
-use Rattle.std.proofs.Common.{◌≡◌, ℕ, false, List, [], ◌∷◌, length, Option, Some, None, Ok, Err, refl, sym, subst}
+use Rattle.std.proofs.Common.{◌≡◌, ℕ, false, List, [], ◌∷◌, length, Option, Some, None, Ok, Err}
+use Rattle.std.proofs.Common.{refl, sym, subst}
 use Rattle.std.specs.Prelude.{⊤}
 use Rattle.std.specs.List.{AllByRecursion}
 use Rattle.cir_ast.specs.declared.program.Spot.{Spot}
 use Rattle.cir_ast.specs.declared.program.Meant.{Meant}
 use Rattle.cir_ast.specs.declared.program.Meant.TheVariants as meant
-use Rattle.cir_ast.specs.Tree.{Expr, done, Variable, Component, Simple, Vars, Signals, Declared, Created, Assigned, Constrain, Right, TargetLeft, TargetRight, Alone, Statement, Block, If, IfElse, While, For, Return, Assert, Log, Ended, Statements, empty, then_more}
-use Rattle.cir_meaning.specs.Scoped.{Scope, AreCallsMeant, IsSetMeant, IsAssignMeant, IsArgumentMeant}
+use Rattle.cir_ast.specs.Tree.{Expr, done, Variable, Component, Simple, Vars, Signals, Declared}
+use Rattle.cir_ast.specs.Tree.{Created, Assigned, Constrain, Right, TargetLeft, TargetRight, Alone}
+use Rattle.cir_ast.specs.Tree.{Statement, Block, If, IfElse, While, For, Return, Assert, Log, Ended}
+use Rattle.cir_ast.specs.Tree.{Statements, empty, then_more}
+use Rattle.cir_meaning.specs.Scoped.{Scope, AreCallsMeant, IsSetMeant, IsAssignMeant}
+use Rattle.cir_meaning.specs.Scoped.{IsArgumentMeant}
 use Rattle.cir_meaning.specs.Tried.{Where, Tried, next}
 use Rattle.cir_meaning.specs.Arrays.{Scalar, the_item}
 use Rattle.cir_meaning.specs.Frame.{State, at, counted}
@@ -17,10 +22,13 @@ use Rattle.cir_meaning.specs.Declaring.{declare_component}
 use Rattle.cir_meaning.specs.Unknown.{Fault, first_of, assign_fault, fault_of}
 use Rattle.cir_meaning.specs.Scan.{undecided}
 use Rattle.cir_meaning.specs.Simple as simple
-use Rattle.cir_meaning.specs.Statement.{Flow, Going, goes, most_turns, loop_of, first_simple, assert_value, exec, exec_all}
+use Rattle.cir_meaning.specs.Statement.{Flow, Going, goes, most_turns, loop_of, first_simple}
+use Rattle.cir_meaning.specs.Statement.{assert_value, exec, exec_all}
 use Rattle.cir_meaning.specs.RunStatements.{step_statement}
 use Rattle.cir_meaning.specs.Run.{Wires, Run, RunTried, refusing, store_of, environment}
-use Rattle.cir_meaning.specs.RunSimple.{Running, with_known, run_known, run_each, run_variable, run_signal, run_execute, run_counted, run_execute_counted, run_simple}
+use Rattle.cir_meaning.specs.RunSimple.{Running, with_known, run_known, run_each, run_variable}
+use Rattle.cir_meaning.specs.RunSimple.{run_signal, run_execute, run_counted, run_execute_counted}
+use Rattle.cir_meaning.specs.RunSimple.{run_simple}
 use Rattle.cir_meaning.specs.RunBodies.{run_undecided, run_assert, run, run_all}
 use Rattle.cir_meaning.proofs.Good.{good_is}
 use Rattle.cir_meaning.proofs.Likes.{Like, like_itself}
@@ -33,9 +41,11 @@ use Rattle.cir_meaning.proofs.StepRuns.{counted_goes, assert_goes}
 use Rattle.cir_meaning.proofs.EqualRuns.{log_goes, equal_goes}
 use Rattle.cir_meaning.proofs.Starting.{BodiesRun}
 use Rattle.cir_meaning.proofs.CreateRuns.{create_goes}
-use Rattle.cir_meaning.proofs.SimpleRuns.{dims_like, goes_on, each_goes, assign_goes, variable_goes, number_goes, tuple_goes}
+use Rattle.cir_meaning.proofs.SimpleRuns.{dims_like, goes_on, each_goes, assign_goes, variable_goes}
+use Rattle.cir_meaning.proofs.SimpleRuns.{number_goes, tuple_goes}
 use Rattle.cir_meaning.proofs.UndecidedRuns.{undecided_goes}
-use Rattle.cir_meaning.proofs.BranchRuns.{AfterFlow, Flows, goes_flow, then_flow, going_flow, branch_flow, turns_flow}
+use Rattle.cir_meaning.proofs.BranchRuns.{AfterFlow, Flows, goes_flow, then_flow, going_flow}
+use Rattle.cir_meaning.proofs.BranchRuns.{branch_flow, turns_flow}
 
 abbrev pub IsInitialMeant : Scope → Variable Meant → Type 0
 IsInitialMeant scope v =

@@ -1,9 +1,13 @@
 -- What indices reach when a program runs is what they may mean at compile time.
-use Rattle.std.proofs.Common.{◌≡◌, ℕ, zero, suc, ◌+◌, ◌*◌, ◌<◌, ◌≤◌, Bool, true, false, ◌&&◌, nat_lt, List, [], ◌∷◌, ◌++◌, map, flat_map, length, Option, Some, None, is_some, refl, sym, ap, subst, inl, inr, ◌⊎◌, zero-le, eq-or-lt_of_le, ◌∙◌, arith}
+use Rattle.std.proofs.Common.{◌≡◌, ℕ, zero, suc, ◌+◌, ◌*◌, ◌<◌, ◌≤◌, Bool, true, false, ◌&&◌}
+use Rattle.std.proofs.Common.{nat_lt, List, [], ◌∷◌, ◌++◌, map, flat_map, length, Option, Some}
+use Rattle.std.proofs.Common.{None, is_some, refl, sym, ap, subst, inl, inr, ◌⊎◌, zero-le}
+use Rattle.std.proofs.Common.{eq-or-lt_of_le, ◌∙◌, arith}
 use Rattle.std.specs.Prelude.{⊤}
 use Rattle.std.specs.List.{list_all}
 use Rattle.std.proofs.lemmas.Bool.{ltb-true}
-use Rattle.cir_meaning.specs.Places.{elements, left_of, is_inside, followed, all_known, numbers_from, places_of}
+use Rattle.cir_meaning.specs.Places.{elements, left_of, is_inside, followed, all_known}
+use Rattle.cir_meaning.specs.Places.{numbers_from, places_of}
 
 -- a known index is the number
 abbrev pub IndexSame : Option ℕ → ℕ → Type 0

@@ -1,9 +1,11 @@
 -- The sizes of the groups are those of the rows in the table of all signals.
-use Rattle.std.proofs.Common.{◌≡◌, ℕ, zero, suc, ◌+◌, ◌≤◌, ◌<◌, Bool, true, false, cond, List, [], ◌∷◌, ◌++◌, length, refl, sym, ap, subst, ◌∙◌, arith}
+use Rattle.std.proofs.Common.{◌≡◌, ℕ, zero, suc, ◌+◌, ◌≤◌, ◌<◌, Bool, true, false, cond, List, []}
+use Rattle.std.proofs.Common.{◌∷◌, ◌++◌, length, refl, sym, ap, subst, ◌∙◌, arith}
 use Rattle.std.specs.Prelude.{◌^◌, ◌-◌, min, map, flat_map, filter}
 use Rattle.cir_meaning.specs.Limits.{count_sum}
 use Rattle.cir_meaning.specs.Places.{elements, numbers_from}
-use Rattle.cir_meaning.specs.Frame.{Group, Outputs, PublicInputs, PrivateInputs, Others, Sizes, Row, World, size_in, more_in}
+use Rattle.cir_meaning.specs.Frame.{Group, Outputs, PublicInputs, PrivateInputs, Others, Sizes, Row}
+use Rattle.cir_meaning.specs.Frame.{World, size_in, more_in}
 use Rattle.cir_meaning.specs.Compile.{SignalName, is_of, rows_of, in_order, names_of_row}
 
 -- the signals of a group's rows

@@ -1,5 +1,6 @@
 -- What holds of each item of a list.
-use Rattle.std.proofs.Common.{ℕ, zero, suc, List, [], ◌∷◌, ◌++◌, map, flat_map, replicate, slice_get, slice_set, unwrap_or}
+use Rattle.std.proofs.Common.{ℕ, zero, suc, List, [], ◌∷◌, ◌++◌, map, flat_map, replicate}
+use Rattle.std.proofs.Common.{slice_get, slice_set, unwrap_or}
 use Rattle.std.specs.List.{AllByRecursion}
 use Rattle.cir_meaning.specs.Arrays.{put_items}
 

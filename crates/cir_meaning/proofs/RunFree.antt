@@ -1,5 +1,7 @@
 -- A function that runs never misses a value: it ends, or stops as a program may.
-use Rattle.std.proofs.Common.{◌≡◌, ◌≢◌, ℕ, zero, suc, ◌-◌, ◌<◌, Bool, true, false, cond, List, [], ◌∷◌, ◌++◌, map, length, replicate, Option, Some, None, Result, Ok, Err, refl, sym, subst, slice_get, slice_set, slice_index, arith}
+use Rattle.std.proofs.Common.{◌≡◌, ◌≢◌, ℕ, zero, suc, ◌-◌, ◌<◌, Bool, true, false, cond, List, []}
+use Rattle.std.proofs.Common.{◌∷◌, ◌++◌, map, length, replicate, Option, Some, None, Result, Ok}
+use Rattle.std.proofs.Common.{Err, refl, sym, subst, slice_get, slice_set, slice_index, arith}
 use Rattle.std.specs.Prelude.{⊤, ◌==◌, unwrap_or}
 use Rattle.std.specs.List.{AllByRecursion}
 use Rattle.gold_field.specs.Operators.{unary_of as number_by, binary_of}
@@ -7,15 +9,33 @@ use Rattle.cir_ast.specs.declared.program.Spot.{Spot}
 use Rattle.cir_ast.specs.declared.program.Meant.{Meant}
 use Rattle.cir_ast.specs.declared.program.Meant.TheVariants as meant
 use Rattle.cir_ast.specs.Program.{Program, Function}
-use Rattle.cir_ast.specs.Tree.{Expr, Number, Place, Call, Anonymous, Parentheses, Array, Unary, Binary, Choice, Exprs, none, more, Accessors, done, index, member, Variable, Assign, Set, Compound, Left, Increment, Decrement, First, FirstVars, FirstAssign, Simple, Vars, Signals, Declared, Created, Assigned, Constrain, Right, TargetLeft, TargetRight, Alone, Statement, Block, If, IfElse, While, For, Return, Assert, Log, Ended, Statements, empty, then_more}
-use Rattle.cir_meaning.specs.SignalFree.{IsVariable, IsFunction, IsFreeExpr, AreFree, AreFreeIndices, IsFreeAssign, IsFreeOption, IsFreeVariable, IsFreeFirst, IsFreeSimple, IsFree, AreFreeStatements, AreFunctionsFree}
+use Rattle.cir_ast.specs.Tree.{Expr, Number, Place, Call, Anonymous, Parentheses, Array, Unary}
+use Rattle.cir_ast.specs.Tree.{Binary, Choice, Exprs, none, more, Accessors, done, index, member}
+use Rattle.cir_ast.specs.Tree.{Variable, Assign, Set, Compound, Left, Increment, Decrement, First}
+use Rattle.cir_ast.specs.Tree.{FirstVars, FirstAssign, Simple, Vars, Signals, Declared, Created}
+use Rattle.cir_ast.specs.Tree.{Assigned, Constrain, Right, TargetLeft, TargetRight, Alone}
+use Rattle.cir_ast.specs.Tree.{Statement, Block, If, IfElse, While, For, Return, Assert, Log, Ended}
+use Rattle.cir_ast.specs.Tree.{Statements, empty, then_more}
+use Rattle.cir_meaning.specs.SignalFree.{IsVariable, IsFunction, IsFreeExpr, AreFree}
+use Rattle.cir_meaning.specs.SignalFree.{AreFreeIndices, IsFreeAssign, IsFreeOption, IsFreeVariable}
+use Rattle.cir_meaning.specs.SignalFree.{IsFreeFirst, IsFreeSimple, IsFree, AreFreeStatements}
+use Rattle.cir_meaning.specs.SignalFree.{AreFunctionsFree}
 use Rattle.cir_meaning.specs.Tried.{next}
 use Rattle.cir_meaning.specs.Places.{is_inside, left_of, places_of}
 use Rattle.cir_meaning.specs.Arrays.{single, made, put_items}
 use Rattle.cir_meaning.specs.Values.{and_number, or_number}
 use Rattle.cir_meaning.specs.Operators.{Operator, Strict, And, Or, operator_of, unary_of}
-use Rattle.cir_meaning.specs.RunValues.{Ran, Numbers, Store, stored, gives, number, number_in, numbers_in, place_in, index_numbers, dims_numbers, bounded, the_number, RunNamed, call_function, needs_right, result_number, unless_zero_divisor, when, assert_fails, fuel_spent, too_deep, zero_divisor, index_out}
-use Rattle.cir_meaning.specs.RunStatements.{StepFlow, StepGoing, StepReturned, step_goes, step_going, spend, step_set, step_assign, step_value, declared, step_variable, step_variables, step_first, step_simple, step_turns, step_statement, step_statements, in_function, returned_number, run_function, run_call}
+use Rattle.cir_meaning.specs.RunValues.{Ran, Numbers, Store, stored, gives, number, number_in}
+use Rattle.cir_meaning.specs.RunValues.{numbers_in, place_in, index_numbers, dims_numbers, bounded}
+use Rattle.cir_meaning.specs.RunValues.{the_number, RunNamed, call_function, needs_right}
+use Rattle.cir_meaning.specs.RunValues.{result_number, unless_zero_divisor, when, assert_fails}
+use Rattle.cir_meaning.specs.RunValues.{fuel_spent, too_deep, zero_divisor, index_out}
+use Rattle.cir_meaning.specs.RunStatements.{StepFlow, StepGoing, StepReturned, step_goes}
+use Rattle.cir_meaning.specs.RunStatements.{step_going, spend, step_set, step_assign, step_value}
+use Rattle.cir_meaning.specs.RunStatements.{declared, step_variable, step_variables, step_first}
+use Rattle.cir_meaning.specs.RunStatements.{step_simple, step_turns, step_statement}
+use Rattle.cir_meaning.specs.RunStatements.{step_statements, in_function, returned_number}
+use Rattle.cir_meaning.specs.RunStatements.{run_function, run_call}
 use Rattle.cir_meaning.proofs.KnownCalls.{all_get}
 
 unfoldable pub NoMiss : {A : Type 0} → (A → Type 0) → Result A ℕ → Type 0

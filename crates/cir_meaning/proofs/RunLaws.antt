@@ -1,5 +1,6 @@
 -- What is told of calls, at compile time and when a program runs.
-use Rattle.std.proofs.Common.{◌≡◌, ◌≢◌, ℕ, ◌+◌, ◌<◌, ◌≤◌, true, List, [], ◌∷◌, All, length, Some, is_some, Result, Ok, Err, subst, slice_get, arith}
+use Rattle.std.proofs.Common.{◌≡◌, ◌≢◌, ℕ, ◌+◌, ◌<◌, ◌≤◌, true, List, [], ◌∷◌, All, length, Some}
+use Rattle.std.proofs.Common.{is_some, Result, Ok, Err, subst, slice_get, arith}
 use Rattle.std.specs.Prelude.{◌^◌, ◌-◌}
 use Rattle.std.specs.List.{list_all, AllByRecursion}
 use Rattle.cir_lc.specs.Number.{Assignment}

@@ -1,21 +1,27 @@
 -- Arrays of values, and the numbers that they have when a program runs.
-use Rattle.std.proofs.Common.{◌≡◌, ℕ, zero, suc, Bool, true, false, ◌&&◌, ◌||◌, not, cond, List, [], ◌∷◌, ◌++◌, map, length, replicate, Option, Some, None, is_some, slice_index, Result, Ok, Err, refl, sym, ap, subst, ◌∙◌}
+use Rattle.std.proofs.Common.{◌≡◌, ℕ, zero, suc, Bool, true, false, ◌&&◌, ◌||◌, not, cond, List, []}
+use Rattle.std.proofs.Common.{◌∷◌, ◌++◌, map, length, replicate, Option, Some, None, is_some}
+use Rattle.std.proofs.Common.{slice_index, Result, Ok, Err, refl, sym, ap, subst, ◌∙◌}
 use Rattle.std.specs.Prelude.{⊤, unwrap_or}
 use Rattle.std.specs.List.{list_all}
 use Rattle.cir_ast.specs.declared.refusal.Kind.{Kind}
 use Rattle.cir_lc.specs.Number.{Assignment}
 use Rattle.cir_meaning.specs.Tried.{Where, Tried, next, needed, found}
-use Rattle.cir_ast.specs.declared.refusal.Kind.TheVariants.{OutOfBounds, ShapeDiffers, ReadBeforeWrite}
+use Rattle.cir_ast.specs.declared.refusal.Kind.TheVariants.{OutOfBounds, ShapeDiffers}
+use Rattle.cir_ast.specs.declared.refusal.Kind.TheVariants.{ReadBeforeWrite}
 use Rattle.cir_meaning.specs.Places.{elements, left_of, is_inside, all_known, places_of}
 use Rattle.cir_meaning.specs.Limits.{is_too_large}
-use Rattle.cir_meaning.specs.Arrays.{Shaped, Datum, Want, fits, made, filled, item_at, Reach, reach, read_part}
+use Rattle.cir_meaning.specs.Arrays.{Shaped, Datum, Want, fits, made, filled, item_at, Reach, reach}
+use Rattle.cir_meaning.specs.Arrays.{read_part}
 use Rattle.cir_meaning.specs.Values.{Value, Known, Linear, Quadratic, Opaque, known_number}
 use Rattle.cir_meaning.specs.Frame.{SignalEntry, is_written, signal_item}
 use Rattle.cir_meaning.specs.Reading.{Stored, Wired, is_readable, read_origin}
-use Rattle.cir_meaning.specs.RunValues.{Numbers, index_out, bounded, all_there, option_at, read_stored, read_wired, gives}
+use Rattle.cir_meaning.specs.RunValues.{Numbers, index_out, bounded, all_there, option_at}
+use Rattle.cir_meaning.specs.RunValues.{read_stored, read_wired, gives}
 use Rattle.cir_meaning.proofs.Meaning.{Means}
 use Rattle.cir_meaning.proofs.Pairs.{Pair, pair_ok, pair_bad, pair_stop, pair_needed}
-use Rattle.cir_meaning.proofs.Reaching.{and_true, map_count, IndexSame, IndicesSame, left_same, inside_same, all_same, reached_pass, reached_count}
+use Rattle.cir_meaning.proofs.Reaching.{and_true, map_count, IndexSame, IndicesSame, left_same}
+use Rattle.cir_meaning.proofs.Reaching.{inside_same, all_same, reached_pass, reached_count}
 
 pub needed_next : {A B C : Type 0} (R : B → C → Type 0) (test : Bool) (w : Where) (kind : Kind)
     (m : Tried A) (go : A → Tried B)

@@ -1,6 +1,8 @@
 -- What a scan has evaluated, a step evaluates too: its expressions miss no value, and have the
 -- numbers of their values in the state behind the scan.
-use Rattle.std.proofs.Common.{◌≡◌, ◌≢◌, ◌⊎◌, inl, inr, ℕ, zero, suc, ◌<◌, Bool, true, false, List, [], ◌∷◌, ◌++◌, map, length, Option, Some, None, Result, Ok, Err, refl, sym, ap, subst, ◌∙◌, slice_get, slice_set}
+use Rattle.std.proofs.Common.{◌≡◌, ◌≢◌, ◌⊎◌, inl, inr, ℕ, zero, suc, ◌<◌, Bool, true, false, List}
+use Rattle.std.proofs.Common.{[], ◌∷◌, ◌++◌, map, length, Option, Some, None, Result, Ok, Err, refl}
+use Rattle.std.proofs.Common.{sym, ap, subst, ◌∙◌, slice_get, slice_set}
 use Rattle.std.specs.Prelude.{unwrap_or}
 use Rattle.std.specs.List.{AllByRecursion}
 use Rattle.cir_ast.specs.declared.program.Meant.{Meant}
@@ -13,12 +15,16 @@ use Rattle.cir_meaning.specs.Scoped.{Scope, AreCallsMeant, AreAllMeant, AreIndic
 use Rattle.cir_meaning.specs.Tried.{Where, Tried, next, needed, found}
 use Rattle.cir_meaning.specs.Limits.{nothing}
 use Rattle.cir_meaning.specs.Places.{is_inside, left_of, places_of}
-use Rattle.cir_meaning.specs.Arrays.{Datum, Want, Scalar, Whole, single, reach, same_dims, put_items, the_item}
+use Rattle.cir_meaning.specs.Arrays.{Datum, Want, Scalar, Whole, single, reach, same_dims}
+use Rattle.cir_meaning.specs.Arrays.{put_items, the_item}
 use Rattle.cir_meaning.specs.Values.{Value, Known, Linear, Quadratic, Opaque, known_number}
-use Rattle.cir_meaning.specs.Frame.{Signals, Part, ComponentEntry, World, State, Context, variable_at, uncounted}
+use Rattle.cir_meaning.specs.Frame.{Signals, Part, ComponentEntry, World, State, Context}
+use Rattle.cir_meaning.specs.Frame.{variable_at, uncounted}
 use Rattle.cir_meaning.specs.Evaluate.{value_in, dims_in, indices_in, known_at}
 use Rattle.cir_meaning.specs.Scan.{scan_set}
-use Rattle.cir_meaning.specs.RunValues.{Numbers, Ran, Environment, Store, stored, number_in, index_numbers, dims_numbers, bounded, gives, the_number, index_out}
+use Rattle.cir_meaning.specs.RunValues.{Numbers, Ran, Environment, Store, stored, number_in}
+use Rattle.cir_meaning.specs.RunValues.{index_numbers, dims_numbers, bounded, gives, the_number}
+use Rattle.cir_meaning.specs.RunValues.{index_out}
 use Rattle.cir_meaning.specs.RunStatements.{step_set}
 use Rattle.cir_meaning.proofs.Good.{good_is}
 use Rattle.cir_meaning.proofs.Goes.{pair_no}

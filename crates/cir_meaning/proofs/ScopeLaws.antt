@@ -1,14 +1,22 @@
 -- What is in scope stays so, and declarations have the numbers behind those before.
-use Rattle.std.proofs.Common.{◌≡◌, ℕ, ◌+◌, ◌≤◌, ◌<◌, Bool, true, false, List, [], ◌∷◌, ◌++◌, refl, sym, subst, ◌∙◌, arith}
+use Rattle.std.proofs.Common.{◌≡◌, ℕ, ◌+◌, ◌≤◌, ◌<◌, Bool, true, false, List, [], ◌∷◌, ◌++◌, refl}
+use Rattle.std.proofs.Common.{sym, subst, ◌∙◌, arith}
 use Rattle.std.specs.Prelude.{◌==◌, ◌||◌}
 use Rattle.std.specs.List.{list_any}
 use Rattle.std.proofs.lemmas.Bool.{eqb-true}
 use Rattle.cir_ast.specs.declared.program.Spot.{Spot}
 use Rattle.cir_ast.specs.declared.program.Meant.{Meant}
 use Rattle.cir_ast.specs.declared.program.Meant.TheVariants as meant
-use Rattle.cir_ast.specs.Tree.{Expr, Accessors, Variable, Signal, First, FirstVars, FirstAssign, Simple, Vars, Signals, Declared, Created, Assigned, Constrain, Right, TargetLeft, TargetRight, Alone, Statement, Block, If, IfElse, While, For, Return, Assert, Log, Ended, Statements, empty, then_more}
-use Rattle.cir_meaning.specs.Scoped.{Scope, IsSeen, AreCallsMeant, AreIndicesMeant, IsSetMeant, with_variable, AreVariablesScoped, with_variables, with_signal, with_signals, IsSimpleScoped, behind_simple, IsFirstScoped, behind_first, closed, behind, behind_all, IsScoped, AreScoped}
-use Rattle.cir_meaning.specs.Unknown.{variable_of, vars_declare, first_declares, simple_declares, declares, all_declares}
+use Rattle.cir_ast.specs.Tree.{Expr, Accessors, Variable, Signal, First, FirstVars, FirstAssign}
+use Rattle.cir_ast.specs.Tree.{Simple, Vars, Signals, Declared, Created, Assigned, Constrain, Right}
+use Rattle.cir_ast.specs.Tree.{TargetLeft, TargetRight, Alone, Statement, Block, If, IfElse, While}
+use Rattle.cir_ast.specs.Tree.{For, Return, Assert, Log, Ended, Statements, empty, then_more}
+use Rattle.cir_meaning.specs.Scoped.{Scope, IsSeen, AreCallsMeant, AreIndicesMeant, IsSetMeant}
+use Rattle.cir_meaning.specs.Scoped.{with_variable, AreVariablesScoped, with_variables, with_signal}
+use Rattle.cir_meaning.specs.Scoped.{with_signals, IsSimpleScoped, behind_simple, IsFirstScoped}
+use Rattle.cir_meaning.specs.Scoped.{behind_first, closed, behind, behind_all, IsScoped, AreScoped}
+use Rattle.cir_meaning.specs.Unknown.{variable_of, vars_declare, first_declares, simple_declares}
+use Rattle.cir_meaning.specs.Unknown.{declares, all_declares}
 use Rattle.cir_meaning.proofs.Fading.{AllMay}
 
 -- a scope that grows

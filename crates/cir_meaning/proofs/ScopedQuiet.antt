@@ -1,5 +1,6 @@
 -- Statements whose names are in scope, and that declare no signal, are quiet: their run goes on.
-use Rattle.std.proofs.Common.{◌≡◌, ℕ, ◌+◌, ◌≤◌, true, List, [], ◌∷◌, Option, Some, refl, sym, subst, arith}
+use Rattle.std.proofs.Common.{◌≡◌, ℕ, ◌+◌, ◌≤◌, true, List, [], ◌∷◌, Option, Some, refl, sym, subst}
+use Rattle.std.proofs.Common.{arith}
 use Rattle.cir_meaning.proofs.Standing.{Start}
 use Rattle.std.specs.Prelude.{⊤}
 use Rattle.std.specs.List.{AllByRecursion}
@@ -7,8 +8,16 @@ use Rattle.cir_ast.specs.declared.operators.Direction.{Direction}
 use Rattle.cir_ast.specs.declared.program.Spot.{Spot}
 use Rattle.cir_ast.specs.declared.program.Meant.{Meant}
 use Rattle.cir_ast.specs.declared.program.Meant.TheVariants as meant
-use Rattle.cir_ast.specs.Tree.{Expr, done, Variable, Signal, Set, Compound, Left, Increment, Decrement, First, FirstVars, FirstAssign, One, Values, Simple, Vars, Signals, Declared, Created, Assigned, Constrain, Right, TargetLeft, TargetRight, Alone, Statement, Block, If, IfElse, While, For, Return, Assert, Log, Ended, Statements, empty, then_more}
-use Rattle.cir_meaning.specs.Scoped.{Scope, IsSetMeant, with_variable, IsOptionMeant, AreVariablesScoped, with_variables, with_signal, AreSignalsScoped, with_signals, IsSimpleScoped, behind_simple, IsFirstScoped, behind_first, closed, behind, behind_all, IsScoped, AreScoped, IsSignalValueMeant}
+use Rattle.cir_ast.specs.Tree.{Expr, done, Variable, Signal, Set, Compound, Left, Increment}
+use Rattle.cir_ast.specs.Tree.{Decrement, First, FirstVars, FirstAssign, One, Values, Simple, Vars}
+use Rattle.cir_ast.specs.Tree.{Signals, Declared, Created, Assigned, Constrain, Right, TargetLeft}
+use Rattle.cir_ast.specs.Tree.{TargetRight, Alone, Statement, Block, If, IfElse, While, For, Return}
+use Rattle.cir_ast.specs.Tree.{Assert, Log, Ended, Statements, empty, then_more}
+use Rattle.cir_meaning.specs.Scoped.{Scope, IsSetMeant, with_variable, IsOptionMeant}
+use Rattle.cir_meaning.specs.Scoped.{AreVariablesScoped, with_variables, with_signal}
+use Rattle.cir_meaning.specs.Scoped.{AreSignalsScoped, with_signals, IsSimpleScoped, behind_simple}
+use Rattle.cir_meaning.specs.Scoped.{IsFirstScoped, behind_first, closed, behind, behind_all}
+use Rattle.cir_meaning.specs.Scoped.{IsScoped, AreScoped, IsSignalValueMeant}
 use Rattle.cir_meaning.specs.Unknown.{Fault, first_of, assign_fault, fault_of}
 use Rattle.cir_meaning.specs.Anonymous.{lift_simple}
 use Rattle.cir_meaning.specs.Statement.{loop_of, first_simple}
@@ -17,10 +26,13 @@ use Rattle.cir_meaning.specs.RunSimple.{Running}
 use Rattle.cir_meaning.proofs.VariableRuns.{Soundly}
 use Rattle.cir_meaning.proofs.Starting.{BodiesRun}
 use Rattle.cir_meaning.proofs.QuietRuns.{IsQuietSimple, IsQuietLifted, IsReal, IsQuiet, AreQuiet}
-use Rattle.cir_meaning.proofs.ScopeLaws.{grows_signals, grows, grows_all, IsSound, sound_variable, sound_first, sound_closed, sound}
+use Rattle.cir_meaning.proofs.ScopeLaws.{grows_signals, grows, grows_all, IsSound, sound_variable}
+use Rattle.cir_meaning.proofs.ScopeLaws.{sound_first, sound_closed, sound}
 use Rattle.cir_meaning.proofs.UndecidedReal.{undecided_real}
-use Rattle.cir_meaning.proofs.WiderScopes.{Wider, wide, wide_inputs, wide_assign, wide_value, wide_source, wide_arguments}
-use Rattle.cir_meaning.proofs.LiftedStatements.{IsLifted, IsWide, SameMeants, SameSignals, LiftedAs, simple_lifted}
+use Rattle.cir_meaning.proofs.WiderScopes.{Wider, wide, wide_inputs, wide_assign, wide_value}
+use Rattle.cir_meaning.proofs.WiderScopes.{wide_source, wide_arguments}
+use Rattle.cir_meaning.proofs.LiftedStatements.{IsLifted, IsWide, SameMeants, SameSignals, LiftedAs}
+use Rattle.cir_meaning.proofs.LiftedStatements.{simple_lifted}
 
 -- where all variables are in scope
 abbrev pub everything : ℕ → Scope

@@ -1,5 +1,6 @@
 -- An assignment to signals in a run, from its value on.
-use Rattle.std.proofs.Common.{◌≡◌, ℕ, true, false, List, [], ◌∷◌, Option, Some, None, Ok, refl, sym, ap, subst, ◌∙◌, slice_get}
+use Rattle.std.proofs.Common.{◌≡◌, ℕ, true, false, List, [], ◌∷◌, Option, Some, None, Ok, refl, sym}
+use Rattle.std.proofs.Common.{ap, subst, ◌∙◌, slice_get}
 use Rattle.cir_ast.specs.declared.program.Meant.{Meant}
 use Rattle.cir_ast.specs.declared.operators.Arrow.{Arrow}
 use Rattle.cir_ast.specs.declared.refusal.Kind.TheVariants.{ShapeDiffers}
@@ -9,12 +10,15 @@ use Rattle.cir_meaning.specs.Tried.{Where, Tried, next}
 use Rattle.cir_meaning.specs.Arrays.{Whole, same_dims}
 use Rattle.cir_meaning.specs.Frame.{SignalEntry, Part, State, Maker, entry_at, is_input, is_fed}
 use Rattle.cir_meaning.specs.Evaluate.{value_in}
-use Rattle.cir_meaning.specs.Writing.{signals_of, part_signals, target_in, write_elements, SignalAssignment, signal_assignment, write_signal}
+use Rattle.cir_meaning.specs.Writing.{signals_of, part_signals, target_in, write_elements}
+use Rattle.cir_meaning.specs.Writing.{SignalAssignment, signal_assignment, write_signal}
 use Rattle.cir_meaning.specs.Steps.{signal_cost}
 use Rattle.cir_meaning.specs.Simple as simple
 use Rattle.cir_meaning.specs.RunValues.{Ran, Numbers, number_in}
-use Rattle.cir_meaning.specs.Run.{Wires, RunPart, Run, refusing, store_of, environment, stepping, put_ports, write_wires}
-use Rattle.cir_meaning.specs.RunSimple.{Running, with_known, started, started_at, signal_step, run_set_signal}
+use Rattle.cir_meaning.specs.Run.{Wires, RunPart, Run, refusing, store_of, environment, stepping}
+use Rattle.cir_meaning.specs.Run.{put_ports, write_wires}
+use Rattle.cir_meaning.specs.RunSimple.{Running, with_known, started, started_at, signal_step}
+use Rattle.cir_meaning.specs.RunSimple.{run_set_signal}
 use Rattle.cir_meaning.proofs.Good.{good_ok, good_on, good_needed, good_is}
 use Rattle.cir_meaning.proofs.Pairs.{Pair}
 use Rattle.cir_meaning.proofs.Likes.{Like, like_itself}
@@ -30,7 +34,8 @@ use Rattle.cir_meaning.proofs.Standing.{PartStands, Stands, Start}
 use Rattle.cir_meaning.proofs.VariableRuns.{Soundly, fits, After}
 use Rattle.cir_meaning.proofs.StepRuns.{stands_like, pair_then}
 use Rattle.cir_meaning.proofs.Starting.{BodiesRun}
-use Rattle.cir_meaning.proofs.SignalTargets.{SignalLike, assignment_target, Written, Condition, written_good}
+use Rattle.cir_meaning.proofs.SignalTargets.{SignalLike, assignment_target, Written, Condition}
+use Rattle.cir_meaning.proofs.SignalTargets.{written_good}
 use Rattle.cir_meaning.proofs.SignalRuns.{own_goes, part_goes}
 
 no_entry : (n : ℕ) (e : SignalEntry) → entry_at [] n ≡ Some e → ⊥

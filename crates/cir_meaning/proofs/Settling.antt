@@ -1,5 +1,6 @@
 -- The numbers that the variables of a run have: known elements have their known numbers.
-use Rattle.std.proofs.Common.{◌≡◌, ℕ, zero, suc, List, [], ◌∷◌, Option, Some, None, slice_get, slice_set, refl, sym, subst}
+use Rattle.std.proofs.Common.{◌≡◌, ℕ, zero, suc, List, [], ◌∷◌, Option, Some, None, slice_get}
+use Rattle.std.proofs.Common.{slice_set, refl, sym, subst}
 use Rattle.std.specs.Prelude.{unwrap_or}
 use Rattle.std.specs.List.{AllByRecursion}
 use Rattle.cir_lc.specs.Number.{Assignment}

@@ -1,5 +1,7 @@
 -- The run of a declaration of signals, where what is given has their numbers in the end.
-use Rattle.std.proofs.Common.{◌≡◌, ℕ, zero, suc, Bool, true, false, cond, List, [], ◌∷◌, length, replicate, Option, Some, None, is_some, Ok, Err, refl, sym, ap, subst, ◌∙◌, slice_get, slice_set}
+use Rattle.std.proofs.Common.{◌≡◌, ℕ, zero, suc, Bool, true, false, cond, List, [], ◌∷◌, length}
+use Rattle.std.proofs.Common.{replicate, Option, Some, None, is_some, Ok, Err, refl, sym, ap, subst}
+use Rattle.std.proofs.Common.{◌∙◌, slice_get, slice_set}
 use Rattle.cir_ast.specs.declared.program.Spot.{Spot}
 use Rattle.cir_ast.specs.declared.program.Meant.{Meant}
 use Rattle.cir_ast.specs.declared.program.Meant.TheVariants as meant
@@ -16,7 +18,8 @@ use Rattle.cir_meaning.specs.Writing.{marked}
 use Rattle.cir_meaning.specs.Declaring.{new_signal, declare_signal}
 use Rattle.cir_meaning.specs.Simple as simple
 use Rattle.cir_meaning.specs.Run.{Wires, Run, RunTried, refusing}
-use Rattle.cir_meaning.specs.RunSimple.{Running, with_known, run_number, run_initial_signal, run_signal}
+use Rattle.cir_meaning.specs.RunSimple.{Running, with_known, run_number, run_initial_signal}
+use Rattle.cir_meaning.specs.RunSimple.{run_signal}
 use Rattle.cir_meaning.proofs.Good.{good_is}
 use Rattle.cir_meaning.proofs.Likes.{Like, like_itself}
 use Rattle.cir_meaning.proofs.FineValues.{Fine, dims_fine}

@@ -1,5 +1,7 @@
 -- The run of statements that declare signals, where what is given has the numbers of the inputs.
-use Rattle.std.proofs.Common.{◌≡◌, ◌⊎◌, inl, inr, ℕ, ◌+◌, ◌<◌, ◌≤◌, Bool, true, false, cond, List, [], ◌∷◌, Some, None, Ok, Err, refl, sym, ap, subst, ◌∙◌, slice_get, arith}
+use Rattle.std.proofs.Common.{◌≡◌, ◌⊎◌, inl, inr, ℕ, ◌+◌, ◌<◌, ◌≤◌, Bool, true, false, cond, List}
+use Rattle.std.proofs.Common.{[], ◌∷◌, Some, None, Ok, Err, refl, sym, ap, subst, ◌∙◌, slice_get}
+use Rattle.std.proofs.Common.{arith}
 use Rattle.std.specs.Prelude.{⊤, ◌==◌, nat_lt}
 use Rattle.std.specs.List.{AllByRecursion}
 use Rattle.std.proofs.lemmas.Bool.{ltb-true, ltb-false}
@@ -27,7 +29,8 @@ use Rattle.cir_meaning.proofs.Starting.{BodiesRun}
 use Rattle.cir_meaning.proofs.Goes.{Goes, goes_ok, goes_same}
 use Rattle.cir_meaning.proofs.Keeping.{NotNumber, signal_kept, each_signal_kept}
 use Rattle.cir_meaning.proofs.Entries.{Entry, entry_closed}
-use Rattle.cir_meaning.proofs.SignalDeclarations.{IsShape, Stays, stays_marked, IsNone, none_marked, same_place, goes_if_ok, declaration_goes}
+use Rattle.cir_meaning.proofs.SignalDeclarations.{IsShape, Stays, stays_marked, IsNone, none_marked}
+use Rattle.cir_meaning.proofs.SignalDeclarations.{same_place, goes_if_ok, declaration_goes}
 use Rattle.cir_meaning.proofs.BranchRuns.{AfterFlow, condition_like, condition_stands}
 use Rattle.cir_meaning.proofs.ScopedQuiet.{everything}
 

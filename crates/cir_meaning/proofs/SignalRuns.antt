@@ -1,5 +1,6 @@
 -- An assignment to signals in a run.
-use Rattle.std.proofs.Common.{◌≡◌, ◌≢◌, ◌⊎◌, inl, inr, ℕ, Bool, true, List, Option, Some, None, Ok, refl, sym, ap, subst, ◌∙◌, slice_get, slice_set}
+use Rattle.std.proofs.Common.{◌≡◌, ◌≢◌, ◌⊎◌, inl, inr, ℕ, Bool, true, List, Option, Some, None, Ok}
+use Rattle.std.proofs.Common.{refl, sym, ap, subst, ◌∙◌, slice_get, slice_set}
 use Rattle.cir_lc.specs.Number.{Assignment}
 use Rattle.cir_meaning.specs.Scoped.{Scope}
 use Rattle.cir_meaning.specs.Frame.{SignalEntry, Part, State, Maker, entry_at, is_input, is_fed}
@@ -14,7 +15,8 @@ use Rattle.cir_meaning.proofs.Standing.{PartStands, Stands, SameEntry, SameShape
 use Rattle.cir_meaning.proofs.VariableRuns.{Soundly, After}
 use Rattle.cir_meaning.proofs.SignalWrites.{wrote, AllAt}
 use Rattle.cir_meaning.proofs.OwnWrites.{wires_else, all_at, own_stands}
-use Rattle.cir_meaning.proofs.PartWrites.{part_stands, part_written, part_state, wrote_part, same_or_not}
+use Rattle.cir_meaning.proofs.PartWrites.{part_stands, part_written, part_state, wrote_part}
+use Rattle.cir_meaning.proofs.PartWrites.{same_or_not}
 use Rattle.cir_meaning.proofs.Starting.{BodiesRun, started_goes}
 use Rattle.cir_meaning.proofs.SignalTargets.{TargetIs, Written, Condition}
 

@@ -1,11 +1,14 @@
 -- The target of an assignment to signals in a run, and what is written there.
-use Rattle.std.proofs.Common.{◌≡◌, ℕ, zero, suc, ◌+◌, Bool, true, false, not, List, [], ◌∷◌, ◌++◌, Option, Some, None, is_some, refl, sym, ap, subst, ◌∙◌, slice_get, slice_set, arith, length}
+use Rattle.std.proofs.Common.{◌≡◌, ℕ, zero, suc, ◌+◌, Bool, true, false, not, List, [], ◌∷◌, ◌++◌}
+use Rattle.std.proofs.Common.{Option, Some, None, is_some, refl, sym, ap, subst, ◌∙◌, slice_get}
+use Rattle.std.proofs.Common.{slice_set, arith, length}
 use Rattle.std.proofs.lemmas.List.{append-nil}
 use Rattle.cir_ast.specs.declared.program.Meant.{Meant}
 use Rattle.cir_ast.specs.declared.program.Meant.TheVariants as meant
 use Rattle.cir_ast.specs.declared.operators.Arrow.{Arrow}
 use Rattle.cir_ast.specs.declared.operators.Direction.{Direction}
-use Rattle.cir_ast.specs.declared.refusal.Kind.TheVariants.{WrongKind, UnknownIndex, ReadBeforeWrite, ShapeDiffers}
+use Rattle.cir_ast.specs.declared.refusal.Kind.TheVariants.{WrongKind, UnknownIndex}
+use Rattle.cir_ast.specs.declared.refusal.Kind.TheVariants.{ReadBeforeWrite, ShapeDiffers}
 use Rattle.cir_ast.specs.Tree.{Expr, Accessors, done, index, member}
 use Rattle.cir_lc.specs.Number.{Assignment}
 use Rattle.cir_meaning.specs.Tried.{Where, next}
@@ -13,22 +16,28 @@ use Rattle.cir_meaning.specs.Places.{all_known}
 use Rattle.cir_meaning.specs.Limits.{Counts}
 use Rattle.cir_meaning.specs.Arrays.{Whole, reach, same_dims}
 use Rattle.cir_meaning.specs.Source.{Equation}
-use Rattle.cir_meaning.specs.Frame.{SignalEntry, Signals, Part, State, Context, entry_at, is_input, is_inner}
+use Rattle.cir_meaning.specs.Frame.{SignalEntry, Signals, Part, State, Context, entry_at, is_input}
+use Rattle.cir_meaning.specs.Frame.{is_inner}
 use Rattle.cir_meaning.specs.Reading.{find_signal, told_signal, named_signal, part_at}
 use Rattle.cir_meaning.specs.Evaluate.{value_in}
-use Rattle.cir_meaning.specs.Writing.{Target, signals_of, part_signals, with_part_signals, targeted, target_at, target_in, SignalAssignment, signal_assignment, write_signal}
+use Rattle.cir_meaning.specs.Writing.{Target, signals_of, part_signals, with_part_signals, targeted}
+use Rattle.cir_meaning.specs.Writing.{target_at, target_in, SignalAssignment, signal_assignment}
+use Rattle.cir_meaning.specs.Writing.{write_signal}
 use Rattle.cir_meaning.specs.Costs.{Cost}
 use Rattle.cir_meaning.specs.Simple as simple
 use Rattle.cir_meaning.specs.Run.{Wires, put_wires}
-use Rattle.cir_meaning.proofs.Good.{OnGood, good_ok, good_bad, good_next, good_on, good_needed, good_needed_as, good_found_as, good_weaker}
+use Rattle.cir_meaning.proofs.Good.{OnGood, good_ok, good_bad, good_next, good_on, good_needed}
+use Rattle.cir_meaning.proofs.Good.{good_needed_as, good_found_as, good_weaker}
 use Rattle.cir_meaning.proofs.Pairs.{good_both}
 use Rattle.cir_meaning.proofs.Likes.{CallKeeps, Like, value_like}
 use Rattle.cir_meaning.proofs.Same.{Rows, rows_count}
 use Rattle.cir_meaning.proofs.Marking.{MarksOf, KeepsWires}
-use Rattle.cir_meaning.proofs.Writing.{Marked, Placed, Tested, AllBelow, elements_marked, elements_placed, elements_below, signals_added}
+use Rattle.cir_meaning.proofs.Writing.{Marked, Placed, Tested, AllBelow, elements_marked}
+use Rattle.cir_meaning.proofs.Writing.{elements_placed, elements_below, signals_added}
 use Rattle.cir_meaning.proofs.Holds.{found_entry}
 use Rattle.cir_meaning.proofs.Standing.{changed}
-use Rattle.cir_meaning.proofs.VariableRuns.{like_changed, with_added, IsAdded, stepped_adds, indices_like}
+use Rattle.cir_meaning.proofs.VariableRuns.{like_changed, with_added, IsAdded, stepped_adds}
+use Rattle.cir_meaning.proofs.VariableRuns.{indices_like}
 use Rattle.cir_meaning.proofs.SignalWrites.{wrote, AllAt, Wrote, elements_wrote, shapes_itself}
 
 -- what is written: a signal that is there, and an input if it is a component's

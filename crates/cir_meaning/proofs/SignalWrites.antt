@@ -1,20 +1,26 @@
 -- The state behind a write of signals: other signals in one place, and more equations.
-use Rattle.std.proofs.Common.{◌≡◌, ◌≢◌, ◌⊎◌, inl, inr, ℕ, zero, suc, ◌+◌, Bool, true, false, not, ◌&&◌, cond, nat_eq, List, [], ◌∷◌, ◌++◌, length, Option, Some, None, refl, sym, ap, subst, ◌∙◌, slice_get, slice_set}
+use Rattle.std.proofs.Common.{◌≡◌, ◌≢◌, ◌⊎◌, inl, inr, ℕ, zero, suc, ◌+◌, Bool, true, false, not}
+use Rattle.std.proofs.Common.{◌&&◌, cond, nat_eq, List, [], ◌∷◌, ◌++◌, length, Option, Some, None}
+use Rattle.std.proofs.Common.{refl, sym, ap, subst, ◌∙◌, slice_get, slice_set}
 use Rattle.std.specs.Prelude.{⊤}
 use Rattle.std.specs.List.{AllByRecursion, list_all}
 use Rattle.std.proofs.lemmas.List.{append_assoc}
 use Rattle.std.proofs.lemmas.Bool.{eqb-true, eq-eqb}
 use Rattle.cir_ast.specs.declared.operators.Arrow.{Arrow}
-use Rattle.cir_ast.specs.declared.operators.Arrow.TheVariants.{Assign as AssignArrow, Constrain as ConstrainArrow}
+use Rattle.cir_ast.specs.declared.operators.Arrow.TheVariants.{Assign as AssignArrow}
+use Rattle.cir_ast.specs.declared.operators.Arrow.TheVariants.{Constrain as ConstrainArrow}
 use Rattle.cir_ast.specs.declared.refusal.Kind.TheVariants.{ReadBeforeWrite, SecondWrite}
 use Rattle.cir_lc.specs.Number.{Assignment, signal}
 use Rattle.cir_meaning.specs.Tried.{Where}
 use Rattle.cir_meaning.specs.Limits.{Counts}
 use Rattle.cir_meaning.specs.Source.{Equation, IsEqualAt}
 use Rattle.cir_meaning.specs.Values.{Value, Linear, number_of}
-use Rattle.cir_meaning.specs.Frame.{SignalEntry, Signals, Part, Frame, State, Context, is_input, is_written, is_all_written, is_fed, put_at, entry_at}
-use Rattle.cir_meaning.specs.Writing.{Target, signals_of, with_part_signals, with_signals, marked, write_element, constrained, constrained_by, write_elements}
-use Rattle.cir_meaning.proofs.Good.{OnGood, good_ok, good_next, good_needed_as, good_found_as, good_weaker}
+use Rattle.cir_meaning.specs.Frame.{SignalEntry, Signals, Part, Frame, State, Context, is_input}
+use Rattle.cir_meaning.specs.Frame.{is_written, is_all_written, is_fed, put_at, entry_at}
+use Rattle.cir_meaning.specs.Writing.{Target, signals_of, with_part_signals, with_signals, marked}
+use Rattle.cir_meaning.specs.Writing.{write_element, constrained, constrained_by, write_elements}
+use Rattle.cir_meaning.proofs.Good.{OnGood, good_ok, good_next, good_needed_as, good_found_as}
+use Rattle.cir_meaning.proofs.Good.{good_weaker}
 use Rattle.cir_meaning.proofs.Reaching.{and_true}
 use Rattle.cir_meaning.proofs.Rows.{all_append}
 use Rattle.cir_meaning.proofs.Meaning.{Means, means_in}

@@ -1,11 +1,14 @@
 -- Declarations of variables and assignments in a run.
-use Rattle.std.proofs.Common.{◌≡◌, ℕ, false, List, [], ◌∷◌, Option, Some, None, refl, sym, ap, subst, slice_get, slice_set}
+use Rattle.std.proofs.Common.{◌≡◌, ℕ, false, List, [], ◌∷◌, Option, Some, None, refl, sym, ap}
+use Rattle.std.proofs.Common.{subst, slice_get, slice_set}
 use Rattle.std.specs.List.{AllByRecursion}
 use Rattle.cir_ast.specs.declared.program.Meant.{Meant}
 use Rattle.cir_ast.specs.declared.program.Meant.TheVariants as meant
 use Rattle.cir_ast.specs.declared.operators.Arrow.{Arrow}
 use Rattle.cir_ast.specs.declared.refusal.Kind.TheVariants.{UnknownIndex}
-use Rattle.cir_ast.specs.Tree.{Expr, Exprs, none, more, Accessors, done, Variable, Assign, Set, Compound, Left, Increment, Decrement, Slot, SlotPlace, SlotDiscard, Target, Discard, Slots}
+use Rattle.cir_ast.specs.Tree.{Expr, Exprs, none, more, Accessors, done, Variable, Assign, Set}
+use Rattle.cir_ast.specs.Tree.{Compound, Left, Increment, Decrement, Slot, SlotPlace, SlotDiscard}
+use Rattle.cir_ast.specs.Tree.{Target, Discard, Slots}
 use Rattle.cir_meaning.specs.Scoped.{Scope, AreCallsMeant, IsSetMeant, IsAssignMeant}
 use Rattle.cir_meaning.specs.Tried.{Where, Tried, next, found}
 use Rattle.cir_meaning.specs.Limits.{with_array}
@@ -17,7 +20,9 @@ use Rattle.cir_meaning.specs.Writing.{plain}
 use Rattle.cir_meaning.specs.Declaring.{declare_variable}
 use Rattle.cir_meaning.specs.Simple as simple
 use Rattle.cir_meaning.specs.Run.{Wires, Run, RunTried}
-use Rattle.cir_meaning.specs.RunSimple.{Running, with_known, run_known, run_each, run_set_place, run_assigned, run_initial, run_number, run_variable, run_slots, run_tuple}
+use Rattle.cir_meaning.specs.RunSimple.{Running, with_known, run_known, run_each, run_set_place}
+use Rattle.cir_meaning.specs.RunSimple.{run_assigned, run_initial, run_number, run_variable}
+use Rattle.cir_meaning.specs.RunSimple.{run_slots, run_tuple}
 use Rattle.cir_meaning.proofs.Good.{OnGood, good_ok, good_next, good_on, good_is}
 use Rattle.cir_meaning.proofs.Likes.{CallKeeps, Like, like_itself, value_like}
 use Rattle.cir_meaning.proofs.FineValues.{Fine, filled_datum, zero_value, dims_fine}

@@ -1,5 +1,7 @@
 -- What is evaluated on numbers of the field when a program runs gives numbers of the field.
-use Rattle.std.proofs.Common.{◌≡◌, ℕ, zero, suc, ◌<◌, refl, subst, replicate, Bool, true, false, cond, List, [], ◌∷◌, ◌++◌, map, length, Option, Some, None, Result, Ok, Err, slice_index, arith}
+use Rattle.std.proofs.Common.{◌≡◌, ℕ, zero, suc, ◌<◌, refl, subst, replicate, Bool, true, false}
+use Rattle.std.proofs.Common.{cond, List, [], ◌∷◌, ◌++◌, map, length, Option, Some, None, Result}
+use Rattle.std.proofs.Common.{Ok, Err, slice_index, arith}
 use Rattle.std.specs.Prelude.{⊤, ◌==◌, unwrap_or}
 use Rattle.std.specs.List.{AllByRecursion}
 use Rattle.gold_field.specs.declared.gold.TheConstants.{P}
@@ -8,14 +10,21 @@ use Rattle.gold_field.specs.declared.operators.Op2.{Op2}
 use Rattle.gold_field.proofs.Answers.{unary_below, binary_below}
 use Rattle.cir_ast.specs.declared.program.Meant.{Meant}
 use Rattle.cir_ast.specs.declared.program.Meant.TheVariants as meant
-use Rattle.cir_ast.specs.Tree.{Expr, Number, Place, Call, Anonymous, Parentheses, Array, Unary, Binary, Choice, Exprs, none, more, Accessors, done, index, member}
+use Rattle.cir_ast.specs.Tree.{Expr, Number, Place, Call, Anonymous, Parentheses, Array, Unary}
+use Rattle.cir_ast.specs.Tree.{Binary, Choice, Exprs, none, more, Accessors, done, index, member}
 use Rattle.cir_meaning.specs.Tried.{next}
 use Rattle.cir_meaning.specs.Limits.{is_too_large}
 use Rattle.cir_meaning.specs.Places.{elements, is_inside, left_of, places_of}
 use Rattle.cir_meaning.specs.Arrays.{Shaped, single, made, filled}
 use Rattle.cir_meaning.specs.Values.{truth_number, and_number, or_number}
 use Rattle.cir_meaning.specs.Operators.{Operator, Strict, And, Or, operator_of, unary_of}
-use Rattle.cir_meaning.specs.RunValues.{Ran, Numbers, Environment, Store, stored, number, number_in, numbers_in, place_in, index_numbers, dims_numbers, bounded, the_number, RunRoot, RunNamed, RunFound, read_root, read_wired, read_stored, read_option, inner_root, all_there, option_at, gathered_numbers, call_function, unless_known, needs_right, result_number, unless_zero_divisor, when, index_out}
+use Rattle.cir_meaning.specs.RunValues.{Ran, Numbers, Environment, Store, stored, number, number_in}
+use Rattle.cir_meaning.specs.RunValues.{numbers_in, place_in, index_numbers, dims_numbers, bounded}
+use Rattle.cir_meaning.specs.RunValues.{the_number, RunRoot, RunNamed, RunFound, read_root}
+use Rattle.cir_meaning.specs.RunValues.{read_wired, read_stored, read_option, inner_root, all_there}
+use Rattle.cir_meaning.specs.RunValues.{option_at, gathered_numbers, call_function, unless_known}
+use Rattle.cir_meaning.specs.RunValues.{needs_right, result_number, unless_zero_divisor, when}
+use Rattle.cir_meaning.specs.RunValues.{index_out}
 use Rattle.cir_meaning.proofs.Rows.{all_replicate, all_map, all_joined}
 
 abbrev pub Small : Numbers → Type 0

@@ -1,18 +1,33 @@
 -- What steps and functions leave behind, on numbers of the field, are numbers of the field.
-use Rattle.std.proofs.Common.{ℕ, zero, suc, ◌-◌, ◌<◌, List, [], ◌∷◌, ◌++◌, length, replicate, Option, Some, None, Err, slice_get, slice_set}
+use Rattle.std.proofs.Common.{ℕ, zero, suc, ◌-◌, ◌<◌, List, [], ◌∷◌, ◌++◌, length, replicate}
+use Rattle.std.proofs.Common.{Option, Some, None, Err, slice_get, slice_set}
 use Rattle.std.specs.Prelude.{⊤, ◌==◌}
 use Rattle.gold_field.specs.declared.gold.TheConstants.{P}
 use Rattle.cir_ast.specs.declared.program.Spot.{Spot}
 use Rattle.cir_ast.specs.declared.program.Meant.{Meant}
 use Rattle.cir_ast.specs.declared.program.Meant.TheVariants as meant
 use Rattle.cir_ast.specs.Program.{Program, Function}
-use Rattle.cir_ast.specs.Tree.{Expr, Accessors, done, Variable, Assign, Set, Compound, Left, Increment, Decrement, First, FirstVars, FirstAssign, Simple, Vars, Signals, Declared, Created, Assigned, Constrain, Right, TargetLeft, TargetRight, Alone, Statement, Block, If, IfElse, While, For, Return, Assert, Log, Ended, Statements, empty, then_more}
+use Rattle.cir_ast.specs.Tree.{Expr, Accessors, done, Variable, Assign, Set, Compound, Left}
+use Rattle.cir_ast.specs.Tree.{Increment, Decrement, First, FirstVars, FirstAssign, Simple, Vars}
+use Rattle.cir_ast.specs.Tree.{Signals, Declared, Created, Assigned, Constrain, Right, TargetLeft}
+use Rattle.cir_ast.specs.Tree.{TargetRight, Alone, Statement, Block, If, IfElse, While, For, Return}
+use Rattle.cir_ast.specs.Tree.{Assert, Log, Ended, Statements, empty, then_more}
 use Rattle.cir_meaning.specs.Arrays.{single, put_items}
 use Rattle.cir_meaning.specs.Writing.{plain}
-use Rattle.cir_meaning.specs.RunValues.{Ran, Numbers, Environment, Store, stored, gives, number_in, dims_numbers, the_number}
-use Rattle.cir_meaning.specs.RunStatements.{StepFlow, StepGoing, StepReturned, step_goes, step_going, spend, step_set, step_plain, step_assign, step_value, declared, step_variable, step_variables, step_first, step_simple, step_turns, step_statement, step_statements, in_function, returned_number, run_function, run_call}
+use Rattle.cir_meaning.specs.RunValues.{Ran, Numbers, Environment, Store, stored, gives, number_in}
+use Rattle.cir_meaning.specs.RunValues.{dims_numbers, the_number}
+use Rattle.cir_meaning.specs.RunStatements.{StepFlow, StepGoing, StepReturned, step_goes}
+use Rattle.cir_meaning.specs.RunStatements.{step_going, spend, step_set, step_plain, step_assign}
+use Rattle.cir_meaning.specs.RunStatements.{step_value, declared, step_variable, step_variables}
+use Rattle.cir_meaning.specs.RunStatements.{step_first, step_simple, step_turns, step_statement}
+use Rattle.cir_meaning.specs.RunStatements.{step_statements, in_function, returned_number}
+use Rattle.cir_meaning.specs.RunStatements.{run_function, run_call}
 use Rattle.cir_meaning.proofs.Rows.{all_set, all_append, all_replicate, all_put}
-use Rattle.cir_meaning.proofs.SmallNumbers.{Small, SmallAll, Gives, gives_ok, gives_stop, gives_next, gives_if, SmallAnswer, zero_small, single_small, index_small, number_small, filled_small, bounded_gives, stored_small, SmallEnvironment, value_small, indices_gives, dims_give}
+use Rattle.cir_meaning.proofs.SmallNumbers.{Small, SmallAll, Gives, gives_ok, gives_stop}
+use Rattle.cir_meaning.proofs.SmallNumbers.{gives_next, gives_if, SmallAnswer, zero_small}
+use Rattle.cir_meaning.proofs.SmallNumbers.{single_small, index_small, number_small, filled_small}
+use Rattle.cir_meaning.proofs.SmallNumbers.{bounded_gives, stored_small, SmallEnvironment}
+use Rattle.cir_meaning.proofs.SmallNumbers.{value_small, indices_gives, dims_give}
 
 abbrev pub SmallStore : Store × ℕ → Type 0
 SmallStore x = SmallAll x.0

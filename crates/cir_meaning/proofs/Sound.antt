@@ -1,5 +1,6 @@
 -- The number of an expression when it runs is what its value at compile time means.
-use Rattle.std.proofs.Common.{◌≡◌, ℕ, suc, Bool, true, false, not, cond, List, [], ◌∷◌, flat_map, length, Option, Some, None, Ok, refl, sym, ap, subst, ◌∙◌}
+use Rattle.std.proofs.Common.{◌≡◌, ℕ, suc, Bool, true, false, not, cond, List, [], ◌∷◌, flat_map}
+use Rattle.std.proofs.Common.{length, Option, Some, None, Ok, refl, sym, ap, subst, ◌∙◌}
 use Rattle.std.specs.Prelude.{⊤, ◌==◌}
 use Rattle.std.specs.List.{list_all}
 use Rattle.gold_field.specs.declared.operators.Op2.{Op2}
@@ -12,22 +13,27 @@ use Rattle.cir_lc.specs.Number.{Assignment}
 use Rattle.cir_meaning.specs.Tried.{Where, Tried, next}
 use Rattle.cir_meaning.specs.Arrays.{Shaped, Datum, Want, single, made, the_item, same_dims}
 use Rattle.cir_meaning.specs.Limits.{with_array}
-use Rattle.cir_meaning.specs.Values.{Value, Known, Linear, Quadratic, Opaque, IsValue, result_of, lazy_result, side_of, chosen, truth_number, and_number, or_number, Decided, Second, truth_of, Right, First}
-use Rattle.cir_meaning.specs.Operators.{Operator, Strict, And, Or, left_tells, applied, divided_at, shading, first_shading, second_shading}
+use Rattle.cir_meaning.specs.Values.{Value, Known, Linear, Quadratic, Opaque, IsValue, result_of}
+use Rattle.cir_meaning.specs.Values.{lazy_result, side_of, chosen, truth_number, and_number}
+use Rattle.cir_meaning.specs.Values.{or_number, Decided, Second, truth_of, Right, First}
+use Rattle.cir_meaning.specs.Operators.{Operator, Strict, And, Or, left_tells, applied, divided_at}
+use Rattle.cir_meaning.specs.Operators.{shading, first_shading, second_shading}
 use Rattle.cir_meaning.specs.Frame.{SignalEntry, State, Context, variable_at, entry_at, adding}
-use Rattle.cir_meaning.specs.Reading.{Origin, Stored, Wired, Lost, read_origin, origin_of, inner_origin}
+use Rattle.cir_meaning.specs.Reading.{Origin, Stored, Wired, Lost, inner_origin}
 use Rattle.cir_meaning.specs.Reading as reading
 use Rattle.cir_meaning.specs.Evaluate.{scalar, answered, looked_at, gathered, value_in}
 use Rattle.cir_meaning.specs.RunValues as run
 use Rattle.cir_meaning.specs.Scoped.{Scope, IsSeen}
-use Rattle.cir_meaning.specs.RunValues.{Numbers, Ran, Environment, Store, stored, number_in, numbers_in, place_in, read_root, inner_root, needs_right, result_number, zero_divisor}
+use Rattle.cir_meaning.specs.RunValues.{Numbers, Ran, Environment, Store, stored, needs_right}
+use Rattle.cir_meaning.specs.RunValues.{result_number, zero_divisor}
 use Rattle.cir_meaning.proofs.Good.{OnGood}
 use Rattle.cir_meaning.proofs.Likes.{CallKeeps, Like}
 use Rattle.cir_meaning.proofs.RunFree.{Calls}
 use Rattle.cir_meaning.proofs.FineValues.{FineContext, Fine, FineAnswer, the_value}
 use Rattle.cir_meaning.proofs.Meaning.{Means}
 use Rattle.cir_meaning.proofs.Strict.{strict_sound}
-use Rattle.cir_meaning.proofs.Pairs.{Pair, pair_ok, pair_bad, pair_stop, pair_next, pair_left, pair_needed}
+use Rattle.cir_meaning.proofs.Pairs.{Pair, pair_ok, pair_bad, pair_stop, pair_next, pair_left}
+use Rattle.cir_meaning.proofs.Pairs.{pair_needed}
 use Rattle.cir_meaning.proofs.Reaching.{IndicesSame}
 use Rattle.cir_meaning.proofs.Same.{Rows, Same, Wire, rows_at, rows_join, rows_made}
 

@@ -1,6 +1,8 @@
 -- What holds of a run between its statements: its numbers, its components, and that each assignment
 -- with these numbers makes the equations equal.
-use Rattle.std.proofs.Common.{◌≡◌, ℕ, Bool, true, false, not, ◌&&◌, nat_eq, List, [], length, Option, Some, None, is_some, slice_get, Ok, Err, refl, sym, subst, ◌-◌, ◌∷◌, ◌+◌}
+use Rattle.std.proofs.Common.{◌≡◌, ℕ, Bool, true, false, not, ◌&&◌, nat_eq, List, [], length}
+use Rattle.std.proofs.Common.{Option, Some, None, is_some, slice_get, Ok, Err, refl, sym, subst}
+use Rattle.std.proofs.Common.{◌-◌, ◌∷◌, ◌+◌}
 use Rattle.std.specs.List.{AllByRecursion}
 use Rattle.cir_ast.specs.declared.refusal.Kind.TheVariants.{TooDeep}
 use Rattle.cir_lc.specs.Number.{Assignment}
@@ -8,7 +10,8 @@ use Rattle.cir_meaning.specs.Tried.{Tried, refused}
 use Rattle.cir_meaning.specs.Limits.{Counts}
 use Rattle.cir_meaning.specs.Arrays.{Datum}
 use Rattle.cir_meaning.specs.Source.{IsEqualAt}
-use Rattle.cir_meaning.specs.Frame.{SignalEntry, Signals, Part, World, State, Maker, variable_at, entry_at, is_input, is_fed, Sizes}
+use Rattle.cir_meaning.specs.Frame.{SignalEntry, Signals, Part, World, State, Maker, variable_at}
+use Rattle.cir_meaning.specs.Frame.{entry_at, is_input, is_fed, Sizes}
 use Rattle.cir_meaning.specs.RunValues.{Store, stored}
 use Rattle.cir_meaning.specs.Run.{Wires, Table, RunPart, Run, store_of}
 use Rattle.cir_meaning.proofs.FineValues.{IsDatum, FineWorld, Fine}

@@ -1,11 +1,14 @@
 -- A component's body runs once its inputs are there.
-use Rattle.std.proofs.Common.{◌≡◌, ◌≢◌, ◌⊎◌, inl, inr, ℕ, zero, suc, Bool, true, false, cond, List, [], ◌∷◌, Option, Some, None, is_some, Ok, Err, refl, sym, ap, subst, ◌∙◌, slice_get, slice_set}
+use Rattle.std.proofs.Common.{◌≡◌, ◌≢◌, ◌⊎◌, inl, inr, ℕ, zero, suc, Bool, true, false, cond, List}
+use Rattle.std.proofs.Common.{[], ◌∷◌, Option, Some, None, is_some, Ok, Err, refl, sym, ap, subst}
+use Rattle.std.proofs.Common.{◌∙◌, slice_get, slice_set}
 use Rattle.cir_meaning.proofs.PartWeights.{put_numbered, ports_weigh}
 use Rattle.std.specs.List.{AllByRecursion, list_all}
 use Rattle.cir_lc.specs.Number.{Assignment}
 use Rattle.cir_meaning.specs.Scoped.{Scope}
 use Rattle.cir_meaning.specs.Tried.{next}
-use Rattle.cir_meaning.specs.Frame.{SignalEntry, Signals, Part, State, Maker, variable_at, entry_at, is_input, is_all_written, is_fed}
+use Rattle.cir_meaning.specs.Frame.{SignalEntry, Signals, Part, State, Maker, variable_at, entry_at}
+use Rattle.cir_meaning.specs.Frame.{is_input, is_all_written, is_fed}
 use Rattle.cir_meaning.specs.RunValues.{stored}
 use Rattle.cir_meaning.specs.Run.{Rejected, Stopped, RunTried, Wires, RunPart, Run, store_of}
 use Rattle.cir_meaning.specs.RunSimple.{Outcome, Runner, Running, with_outcome, run_part, started}
@@ -14,10 +17,12 @@ use Rattle.cir_meaning.proofs.Marking.{KeepsWires}
 use Rattle.cir_meaning.proofs.Writing.{get_set}
 use Rattle.cir_meaning.proofs.Holds.{Agrees, PartAgrees, Full, Extends}
 use Rattle.cir_meaning.proofs.Goes.{Goes, goes_ok}
-use Rattle.cir_meaning.proofs.Standing.{PartStands, Stands, Debts, Pays, made_ports, pays_ports, is_done, PartWeighs, Start}
+use Rattle.cir_meaning.proofs.Standing.{PartStands, Stands, Debts, Pays, made_ports, pays_ports}
+use Rattle.cir_meaning.proofs.Standing.{is_done, PartWeighs, Start}
 use Rattle.cir_meaning.proofs.SignalWrites.{shapes_itself}
 use Rattle.cir_meaning.proofs.OwnWrites.{same_in, agrees_before}
-use Rattle.cir_meaning.proofs.PartWrites.{get_other, set_count, same_or_not, late_of, other_done, itself_late}
+use Rattle.cir_meaning.proofs.PartWrites.{get_other, set_count, same_or_not, late_of, other_done}
+use Rattle.cir_meaning.proofs.PartWrites.{itself_late}
 use Rattle.cir_meaning.proofs.VariableRuns.{Soundly, After}
 
 -- a body that runs ends with a number for each signal, and pays what it owes

@@ -1,22 +1,35 @@
 -- A step under an unknown condition misses no value, statement by statement.
-use Rattle.std.proofs.Common.{◌≡◌, ℕ, zero, suc, ◌≤◌, ◌<◌, Bool, true, false, List, [], ◌∷◌, Ok, refl, sym, subst, arith}
+use Rattle.std.proofs.Common.{◌≡◌, ℕ, zero, suc, ◌≤◌, ◌<◌, Bool, true, false, List, [], ◌∷◌, Ok}
+use Rattle.std.proofs.Common.{refl, sym, subst, arith}
 use Rattle.std.specs.Prelude.{⊤, ◌==◌, nat_lt}
 use Rattle.std.proofs.lemmas.Bool.{ltb-true, ltb-false}
 use Rattle.cir_ast.specs.declared.program.Spot.{Spot}
 use Rattle.cir_ast.specs.declared.program.Meant.{Meant}
 use Rattle.cir_ast.specs.declared.program.Meant.TheVariants as meant
-use Rattle.cir_ast.specs.Tree.{Expr, Variable, Assign, Set, Compound, Left, Increment, Decrement, First, FirstVars, FirstAssign, Simple, Vars, Signals, Declared, Created, Assigned, Constrain, Right, TargetLeft, TargetRight, Alone, Statement, Statements}
+use Rattle.cir_ast.specs.Tree.{Expr, Variable, Assign, Set, Compound, Left, Increment, Decrement}
+use Rattle.cir_ast.specs.Tree.{First, FirstVars, FirstAssign, Simple, Vars, Signals, Declared}
+use Rattle.cir_ast.specs.Tree.{Created, Assigned, Constrain, Right, TargetLeft, TargetRight, Alone}
+use Rattle.cir_ast.specs.Tree.{Statement, Statements}
 use Rattle.cir_lc.specs.Number.{Assignment}
-use Rattle.cir_meaning.specs.Scoped.{Scope, IsAssignMeant, with_variable, IsVariableScoped, AreVariablesScoped, with_variables, IsFirstScoped, behind_first, IsSimpleScoped, behind_simple, IsScoped, AreScoped}
+use Rattle.cir_meaning.specs.Scoped.{Scope, IsAssignMeant, with_variable, IsVariableScoped}
+use Rattle.cir_meaning.specs.Scoped.{AreVariablesScoped, with_variables, IsFirstScoped}
+use Rattle.cir_meaning.specs.Scoped.{behind_first, IsSimpleScoped, behind_simple, IsScoped}
+use Rattle.cir_meaning.specs.Scoped.{AreScoped}
 use Rattle.cir_meaning.specs.Tried.{Where, Tried, next}
 use Rattle.cir_meaning.specs.Frame.{State, Context, variable_at, uncounted}
 use Rattle.cir_meaning.specs.Evaluate.{dims_in}
 use Rattle.cir_meaning.specs.Writing.{plain}
 use Rattle.cir_meaning.specs.Simple as simple
-use Rattle.cir_meaning.specs.Unknown.{variable_of, assign_writes, first_writes, simple_writes, writes}
-use Rattle.cir_meaning.specs.Scan.{scan_test, scan_assign, scan_value, scan_declared, scan_meant, scan_variable, scan_first, scan_simple, scan, scan_all}
-use Rattle.cir_meaning.specs.RunValues.{Ran, Environment, Store, stored, number_in, dims_numbers, gives, the_number, fuel_spent}
-use Rattle.cir_meaning.specs.RunStatements.{StepFlow, StepGoing, StepReturned, step_goes, step_going, step_assign, step_value, declared, step_variable, step_variables, step_first, step_simple, step_turns}
+use Rattle.cir_meaning.specs.Unknown.{variable_of, assign_writes, first_writes, simple_writes}
+use Rattle.cir_meaning.specs.Unknown.{writes}
+use Rattle.cir_meaning.specs.Scan.{scan_test, scan_assign, scan_value, scan_declared, scan_meant}
+use Rattle.cir_meaning.specs.Scan.{scan_variable, scan_first, scan_simple, scan, scan_all}
+use Rattle.cir_meaning.specs.RunValues.{Ran, Environment, Store, stored, number_in, dims_numbers}
+use Rattle.cir_meaning.specs.RunValues.{gives, the_number, fuel_spent}
+use Rattle.cir_meaning.specs.RunStatements.{StepFlow, StepGoing, StepReturned, step_goes}
+use Rattle.cir_meaning.specs.RunStatements.{step_going, step_assign, step_value, declared}
+use Rattle.cir_meaning.specs.RunStatements.{step_variable, step_variables, step_first, step_simple}
+use Rattle.cir_meaning.specs.RunStatements.{step_turns}
 use Rattle.cir_meaning.proofs.Good.{OnGood}
 use Rattle.cir_meaning.proofs.Likes.{CallKeeps, Like}
 use Rattle.cir_meaning.proofs.FineValues.{FineContext, Fine}
@@ -24,10 +37,15 @@ use Rattle.cir_meaning.proofs.Same.{Same}
 use Rattle.cir_meaning.proofs.Sound.{Fitting}
 use Rattle.cir_meaning.proofs.KnownCalls.{CallBoth}
 use Rattle.cir_meaning.proofs.RunFree.{NoMiss, Any, no_ok, no_stop, no_next, no_if, no_weaker}
-use Rattle.cir_meaning.proofs.Fading.{may_one, test_faded, plain_faded, variable_faded, variables_faded, first_faded, scan_keeps, scan_all_keeps}
-use Rattle.cir_meaning.proofs.ScopeLaws.{Grows, grows_itself, grows_variable, grows_variables, IsSound, sound_variable, set_meant, later_one, later_variables, later_first, later, later_all}
-use Rattle.cir_meaning.proofs.ScanPoints.{next_to, Stay, Final, Point, Has, Dims, dims_real, Fades, set_real}
-use Rattle.cir_meaning.proofs.StepScans.{no_spend, Declares, Assigns, part_stays, part_final, Declared', new_declares, new_has, value_real}
+use Rattle.cir_meaning.proofs.Fading.{may_one, test_faded, plain_faded, variable_faded}
+use Rattle.cir_meaning.proofs.Fading.{variables_faded, first_faded, scan_keeps, scan_all_keeps}
+use Rattle.cir_meaning.proofs.ScopeLaws.{Grows, grows_itself, grows_variable, grows_variables}
+use Rattle.cir_meaning.proofs.ScopeLaws.{IsSound, sound_variable, set_meant, later_one}
+use Rattle.cir_meaning.proofs.ScopeLaws.{later_variables, later_first, later, later_all}
+use Rattle.cir_meaning.proofs.ScanPoints.{next_to, Stay, Final, Point, Has, Dims, dims_real, Fades}
+use Rattle.cir_meaning.proofs.ScanPoints.{set_real}
+use Rattle.cir_meaning.proofs.StepScans.{no_spend, Declares, Assigns, part_stays, part_final}
+use Rattle.cir_meaning.proofs.StepScans.{Declared', new_declares, new_has, value_real}
 
 module _ (E : Assignment → Type 0) (k : Context) (fine : FineContext k) (both : CallBoth k.call)
     (keeps : CallKeeps k.call) (w : Where) (functions : ℕ) (s : State) (finely : Fine s)

@@ -1,5 +1,6 @@
 -- Statements of a run that write no variable: what is dropped, `assert`, `log` and `===`.
-use Rattle.std.proofs.Common.{◌≡◌, ℕ, Bool, true, false, cond, List, ◌++◌, Option, None, Result, Ok, Err, refl, sym, ap, subst, slice_index}
+use Rattle.std.proofs.Common.{◌≡◌, ℕ, Bool, true, false, cond, List, ◌++◌, Option, None, Result, Ok}
+use Rattle.std.proofs.Common.{Err, refl, sym, ap, subst, slice_index}
 use Rattle.std.specs.Prelude.{◌==◌}
 use Rattle.std.specs.List.{AllByRecursion}
 use Rattle.cir_ast.specs.declared.refusal.Kind.TheVariants.{AssertFalse}
@@ -35,7 +36,8 @@ use Rattle.cir_meaning.proofs.RunFree.{NoMiss, Any, no_ok, no_stop, no_next, no_
 use Rattle.cir_meaning.proofs.Holds.{Extends}
 use Rattle.cir_meaning.proofs.Goes.{Goes, goes_ok, goes_same, goes_refusing, goes_step, pair_no}
 use Rattle.cir_meaning.proofs.Standing.{Stands, changed, stands_changed, Start}
-use Rattle.cir_meaning.proofs.VariableRuns.{Soundly, like_changed, fits, IsAdded, stepped_adds, After}
+use Rattle.cir_meaning.proofs.VariableRuns.{Soundly, like_changed, fits, IsAdded, stepped_adds}
+use Rattle.cir_meaning.proofs.VariableRuns.{After}
 
 -- where nothing is new but what is counted
 pub stands_like : (make : Option Maker) (given : Wires) (start : Start) (late : Option ℕ) (r : Run)

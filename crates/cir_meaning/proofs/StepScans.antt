@@ -1,5 +1,7 @@
 -- A step under an unknown condition misses no value: what it evaluates has been scanned.
-use Rattle.std.proofs.Common.{◌≡◌, ◌≢◌, inl, inr, ℕ, zero, suc, ◌≤◌, ◌<◌, Bool, true, false, cond, List, [], replicate, Option, Some, None, Ok, refl, sym, ap, subst, ◌∙◌, slice_get, slice_set, arith}
+use Rattle.std.proofs.Common.{◌≡◌, ◌≢◌, inl, inr, ℕ, zero, suc, ◌≤◌, ◌<◌, Bool, true, false, cond}
+use Rattle.std.proofs.Common.{List, [], replicate, Option, Some, None, Ok, refl, sym, ap, subst}
+use Rattle.std.proofs.Common.{◌∙◌, slice_get, slice_set, arith}
 use Rattle.std.specs.Prelude.{◌==◌, ◌||◌, unwrap_or}
 use Rattle.std.proofs.lemmas.Bool.{eqb-true, eq-eqb}
 use Rattle.cir_ast.specs.declared.program.Meant.{Meant}
@@ -28,7 +30,8 @@ use Rattle.cir_meaning.proofs.Fading.{IsOpaque, opaque_filled, AllMay, value_fad
 use Rattle.cir_meaning.proofs.PartWrites.{get_other, set_count}
 use Rattle.cir_meaning.proofs.Writing.{get_set}
 use Rattle.cir_meaning.proofs.ScopeLaws.{IsSound, sound_variable}
-use Rattle.cir_meaning.proofs.ScanPoints.{next_to, get_there, Stay, stay_like, Final, Point, Has, expr_real, evaluated, Dims, Fades, has_set, set_real}
+use Rattle.cir_meaning.proofs.ScanPoints.{next_to, get_there, Stay, stay_like, Final, Point, Has}
+use Rattle.cir_meaning.proofs.ScanPoints.{expr_real, evaluated, Dims, Fades, has_set, set_real}
 
 -- a variable that is set to a filled array
 set_there : {A : Type 0} (xs : List A) (n : ℕ) (old x d : A) → slice_get xs n ≡ Some old

@@ -3,15 +3,19 @@ use Rattle.std.proofs.Common.{◌≡◌, ℕ, suc, true, List, ◌++◌, Ok}
 use Rattle.std.specs.Prelude.{◌==◌}
 use Rattle.cir_ast.specs.declared.program.Spot.{Spot}
 use Rattle.cir_ast.specs.declared.program.Meant.{Meant}
-use Rattle.cir_ast.specs.Tree.{Expr, Statement, Block, If, IfElse, While, For, Return, Assert, Log, Ended, Statements, empty, then_more}
+use Rattle.cir_ast.specs.Tree.{Expr, Statement, Block, If, IfElse, While, For, Return, Assert, Log}
+use Rattle.cir_ast.specs.Tree.{Ended, Statements, empty, then_more}
 use Rattle.cir_lc.specs.Number.{Assignment}
-use Rattle.cir_meaning.specs.Scoped.{Scope, AreCallsMeant, behind_first, closed, behind, behind_all, IsScoped, AreScoped}
+use Rattle.cir_meaning.specs.Scoped.{Scope, AreCallsMeant, behind_first, closed, behind, behind_all}
+use Rattle.cir_meaning.specs.Scoped.{IsScoped, AreScoped}
 use Rattle.cir_meaning.specs.Tried.{Where, Tried, next}
 use Rattle.cir_meaning.specs.Frame.{State, Context, variable_at, uncounted}
 use Rattle.cir_meaning.specs.Unknown.{assign_writes, first_writes, writes, all_writes}
 use Rattle.cir_meaning.specs.Scan.{scan_test, scan_assign, scan_first, scan, scan_all}
-use Rattle.cir_meaning.specs.RunValues.{Ran, Environment, Store, stored, number_in, gives, the_number, assert_fails}
-use Rattle.cir_meaning.specs.RunStatements.{StepFlow, StepGoing, step_goes, step_going, step_assign, step_first, step_statement, step_statements}
+use Rattle.cir_meaning.specs.RunValues.{Ran, Environment, Store, stored, number_in, gives}
+use Rattle.cir_meaning.specs.RunValues.{the_number, assert_fails}
+use Rattle.cir_meaning.specs.RunStatements.{StepFlow, StepGoing, step_goes, step_going, step_assign}
+use Rattle.cir_meaning.specs.RunStatements.{step_first, step_statement, step_statements}
 use Rattle.cir_meaning.proofs.Likes.{CallKeeps}
 use Rattle.cir_meaning.proofs.FineValues.{FineContext, Fine}
 use Rattle.cir_meaning.proofs.Same.{Same}
@@ -19,10 +23,14 @@ use Rattle.cir_meaning.proofs.Sound.{Fitting}
 use Rattle.cir_meaning.proofs.KnownCalls.{CallBoth}
 use Rattle.cir_meaning.proofs.RunFree.{NoMiss, Any, no_ok, no_stop, no_next, no_if}
 use Rattle.cir_meaning.proofs.Fading.{may_left, may_right}
-use Rattle.cir_meaning.proofs.ScopeLaws.{Grows, grows_itself, grows_first, grows, grows_all, IsSound, sound_first, sound_closed, sound}
+use Rattle.cir_meaning.proofs.ScopeLaws.{Grows, grows_itself, grows_first, grows, grows_all}
+use Rattle.cir_meaning.proofs.ScopeLaws.{IsSound, sound_first, sound_closed, sound}
 use Rattle.cir_meaning.proofs.ScanPoints.{next_to, Stay, Final, Point, Has}
 use Rattle.cir_meaning.proofs.StepScans.{Declares, Assigns, test_real, Declared'}
-use Rattle.cir_meaning.proofs.StepReal.{Part, test_part, stays_behind, ends_before, assign_part, first_part, statement_part, statements_part, assign_real, first_real, flow_less, going_real, goes_real, turns_real, simple_real, Flows, Steps}
+use Rattle.cir_meaning.proofs.StepReal.{Part, test_part, stays_behind, ends_before, assign_part}
+use Rattle.cir_meaning.proofs.StepReal.{first_part, statement_part, statements_part, assign_real}
+use Rattle.cir_meaning.proofs.StepReal.{first_real, flow_less, going_real, goes_real, turns_real}
+use Rattle.cir_meaning.proofs.StepReal.{simple_real, Flows, Steps}
 
 module _ (E : Assignment → Type 0) (k : Context) (fine : FineContext k) (both : CallBoth k.call)
     (keeps : CallKeeps k.call) (w : Where) (functions : ℕ) (s : State) (finely : Fine s)

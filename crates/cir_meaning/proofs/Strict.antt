@@ -1,5 +1,6 @@
 -- The operators' numbers when a program runs are those of their values at compile time.
-use Rattle.std.proofs.Common.{◌≡◌, ◌≢◌, ℕ, ◌%◌, ◌^◌, Bool, true, false, cond, Some, refl, sym, ap, subst, ◌∙◌}
+use Rattle.std.proofs.Common.{◌≡◌, ◌≢◌, ℕ, ◌%◌, ◌^◌, Bool, true, false, cond, Some, refl, sym, ap}
+use Rattle.std.proofs.Common.{subst, ◌∙◌}
 use Rattle.std.specs.Prelude.{◌==◌}
 use Rattle.std.proofs.Math.Nat.{pow-zero}
 use Rattle.std.proofs.lemmas.Bool.{eqb-true}
@@ -13,10 +14,12 @@ use Rattle.cir_lc.specs.Number.{Assignment, constant}
 use Rattle.cir_lc.specs.Coefficient.{origin}
 use Rattle.cir_meaning.specs.declared.class.Class.TheVariants as Class'
 use Rattle.cir_meaning.specs.Classes.{class_by}
-use Rattle.cir_meaning.specs.Values.{Value, Known, Linear, Quadratic, Opaque, IsValue, class_of, product_of, result_of, unary_result, number_of, known_number}
+use Rattle.cir_meaning.specs.Values.{Value, Known, Linear, Quadratic, Opaque, IsValue, class_of}
+use Rattle.cir_meaning.specs.Values.{product_of, result_of, unary_result, number_of, known_number}
 use Rattle.cir_meaning.proofs.ClassLaws.{classes}
 use Rattle.cir_meaning.proofs.NumberLaws.{numbers, unary_numbers}
-use Rattle.cir_meaning.proofs.Meaning.{Means, number_at, means_of, Both, clear, sum_known, product_known, quotient_known, alone_known}
+use Rattle.cir_meaning.proofs.Meaning.{Means, number_at, means_of, Both, clear, sum_known}
+use Rattle.cir_meaning.proofs.Meaning.{product_known, quotient_known, alone_known}
 
 some_number : (a b : ℕ) → Some a ≡ Some b → a ≡ b
 some_number a b e = cc

@@ -1,5 +1,7 @@
 -- A number that is one signal's is found in the tables of a run.
-use Rattle.std.proofs.Common.{◌≡◌, ◌⊎◌, inl, inr, ℕ, zero, suc, ◌+◌, ◌-◌, ◌≤◌, ◌<◌, Bool, true, false, cond, ◌&&◌, List, [], ◌∷◌, length, Option, Some, None, is_some, refl, ap, ◌∙◌, slice_get, arith}
+use Rattle.std.proofs.Common.{◌≡◌, ◌⊎◌, inl, inr, ℕ, zero, suc, ◌+◌, ◌-◌, ◌≤◌, ◌<◌, Bool, true}
+use Rattle.std.proofs.Common.{false, cond, ◌&&◌, List, [], ◌∷◌, length, Option, Some, None, is_some}
+use Rattle.std.proofs.Common.{refl, ap, ◌∙◌, slice_get, arith}
 use Rattle.std.specs.Prelude.{nat_lt, nat_le}
 use Rattle.std.specs.List.{AllByRecursion}
 use Rattle.std.proofs.lemmas.Bool.{le-leb, leb-true, ltb-true, ltb-false, lt-ltb}
@@ -8,7 +10,8 @@ use Rattle.cir_meaning.specs.Frame.{SignalEntry, Signals, entry_at}
 use Rattle.cir_meaning.specs.Run.{Wires, Table}
 use Rattle.cir_meaning.specs.RunBodies.{or_else, signal_wire, table_wire}
 use Rattle.cir_meaning.proofs.Holds.{Agrees, Full}
-use Rattle.cir_meaning.proofs.Weights.{below, below_yes, below_not, inside, cover, cover_entries, cover_tables}
+use Rattle.cir_meaning.proofs.Weights.{below, below_yes, below_not, inside, cover, cover_entries}
+use Rattle.cir_meaning.proofs.Weights.{cover_tables}
 
 -- a number is one of so many from the first on, or isn't
 pub inside_yes : (m low count : ℕ) → low ≤ m → m < low + count → inside m low count ≡ 1

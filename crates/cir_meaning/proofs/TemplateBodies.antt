@@ -1,5 +1,6 @@
 -- The execution of a template's body, where its names are in template_scope.
-use Rattle.std.proofs.Common.{◌≡◌, inr, ℕ, List, length, Option, Some, None, Ok, refl, sym, ap, subst, ◌∙◌, slice_get, arith}
+use Rattle.std.proofs.Common.{◌≡◌, inr, ℕ, List, length, Option, Some, None, Ok, refl, sym, ap}
+use Rattle.std.proofs.Common.{subst, ◌∙◌, slice_get, arith}
 use Rattle.std.specs.Prelude.{nat_lt}
 use Rattle.std.proofs.lemmas.Bool.{ltb-true}
 use Rattle.cir_ast.specs.declared.operators.Direction.{Direction}
@@ -10,7 +11,8 @@ use Rattle.cir_meaning.specs.Tried.{Where, Tried, next, found}
 use Rattle.cir_meaning.specs.Arrays.{Datum}
 use Rattle.cir_meaning.specs.Frame.{Signals, Group, World, State, Context, Maker}
 use Rattle.cir_meaning.specs.Statement.{Flow, Going, exec_all}
-use Rattle.cir_meaning.specs.Bodies.{all_written, all_fed, ended, ended_flow, template_context, template_state, exec_template, call_at, most_open}
+use Rattle.cir_meaning.specs.Bodies.{all_written, all_fed, ended, ended_flow, template_context}
+use Rattle.cir_meaning.specs.Bodies.{template_state, exec_template, call_at, most_open}
 use Rattle.cir_meaning.specs.RunStatements.{run_call}
 use Rattle.cir_meaning.specs.RunSimple.{Runner, Running}
 use Rattle.cir_meaning.proofs.Good.{OnSome', good_is}

@@ -1,5 +1,7 @@
 -- A template's body runs to its end, with a number for each signal, or stops as a program may.
-use Rattle.std.proofs.Common.{◌≡◌, ℕ, ◌+◌, zero, suc, ◌-◌, Bool, true, false, ◌||◌, List, [], ◌∷◌, ◌++◌, length, replicate, Option, Some, None, is_some, Ok, Err, refl, sym, ap, subst, ◌∙◌, slice_get, arith}
+use Rattle.std.proofs.Common.{◌≡◌, ℕ, ◌+◌, zero, suc, ◌-◌, Bool, true, false, ◌||◌, List, [], ◌∷◌}
+use Rattle.std.proofs.Common.{◌++◌, length, replicate, Option, Some, None, is_some, Ok, Err, refl}
+use Rattle.std.proofs.Common.{sym, ap, subst, ◌∙◌, slice_get, arith}
 use Rattle.std.specs.List.{AllByRecursion}
 use Rattle.cir_ast.specs.declared.operators.Direction.{Direction}
 use Rattle.cir_ast.specs.declared.refusal.Kind.TheVariants.{WrongKind, NeverWritten, InputsMissing}
@@ -8,13 +10,16 @@ use Rattle.cir_lc.specs.Number.{Assignment}
 use Rattle.cir_meaning.specs.Scoped.{Scope, IsResolved}
 use Rattle.cir_meaning.specs.Tried.{Where, next, found}
 use Rattle.cir_meaning.specs.Arrays.{Datum}
-use Rattle.cir_meaning.specs.Frame.{SignalEntry, Signals, Part, Group, World, State, Context, Maker, at, entry_at, is_input, is_all_written, is_fed}
+use Rattle.cir_meaning.specs.Frame.{SignalEntry, Signals, Part, Group, World, State, Context, Maker}
+use Rattle.cir_meaning.specs.Frame.{at, entry_at, is_input, is_all_written, is_fed}
 use Rattle.cir_meaning.specs.Statement.{Flow, Going, exec_all}
-use Rattle.cir_meaning.specs.Bodies.{all_written, all_fed, ended, ended_flow, template_context, template_state, exec_template, call_at, most_open}
+use Rattle.cir_meaning.specs.Bodies.{all_written, all_fed, ended, ended_flow, template_context}
+use Rattle.cir_meaning.specs.Bodies.{template_state, exec_template, call_at, most_open}
 use Rattle.cir_meaning.specs.RunStatements.{run_call}
 use Rattle.cir_meaning.specs.Run.{Wires, RunPart, Run, RunTried, Rejected, Stopped, refusing}
 use Rattle.cir_meaning.specs.RunSimple.{Outcome, Runner, Running}
-use Rattle.cir_meaning.specs.RunBodies.{run_all, port_tables, run_begun, run_ended, run_template_body}
+use Rattle.cir_meaning.specs.RunBodies.{run_all, port_tables, run_begun, run_ended}
+use Rattle.cir_meaning.specs.RunBodies.{run_template_body}
 use Rattle.cir_meaning.proofs.Good.{OnSome'}
 use Rattle.cir_meaning.proofs.Rows.{all_append}
 use Rattle.cir_meaning.proofs.FineValues.{IsDatum, FineWorld, FineMake}
@@ -38,7 +43,9 @@ use Rattle.cir_meaning.proofs.ScanPoints.{needed_to}
 use Rattle.cir_meaning.proofs.ScopedQuiet.{everything}
 use Rattle.cir_meaning.proofs.SignalFlows.{Shapes}
 use Rattle.cir_meaning.proofs.BodyFlows.{statements_flow}
-use Rattle.cir_meaning.proofs.TemplateBodies.{template_sounds, template_scope, template_sound_scope, template_scoped, template_body_is, template_flow, template_last, template_ends}
+use Rattle.cir_meaning.proofs.TemplateBodies.{template_sounds, template_scope, template_sound_scope}
+use Rattle.cir_meaning.proofs.TemplateBodies.{template_scoped, template_body_is, template_flow}
+use Rattle.cir_meaning.proofs.TemplateBodies.{template_last, template_ends}
 
 -- what ends after a run that goes on
 ends_of : {A B C : Type 0} (P : A → B → Type 0) (Q : C → Type 0) (a : A) (m : RunTried B)

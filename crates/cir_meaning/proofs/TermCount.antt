@@ -1,5 +1,6 @@
 -- The terms that are told of equations are those of their source list.
-use Rattle.std.proofs.Common.{◌≡◌, ℕ, suc, ◌+◌, ◌-◌, ◌<◌, List, [], ◌∷◌, length, sum_by, Option, Some, None, refl, ap, sym, subst, ◌∙◌, arith}
+use Rattle.std.proofs.Common.{◌≡◌, ℕ, suc, ◌+◌, ◌-◌, ◌<◌, List, [], ◌∷◌, length, sum_by, Option}
+use Rattle.std.proofs.Common.{Some, None, refl, ap, sym, subst, ◌∙◌, arith}
 use Rattle.std.proofs.lemmas.List.Sums.{sum_by-cons}
 use Rattle.gold_field.specs.declared.form.Term.{Term}
 use Rattle.gold_field.specs.declared.form.Constraint.{Constraint}
@@ -8,7 +9,8 @@ use Rattle.cir_lc.specs.declared.quad.Quad.{Quad}
 use Rattle.cir_lc.specs.Number.{Number, value_of, added, scaled, negated}
 use Rattle.cir_lc.specs.Coefficient.{terms_below, constant_in}
 use Rattle.cir_lc.specs.Terms.{IsWithin}
-use Rattle.cir_lc.specs.Normal.{IsNormal, IsQuadWithin, IsConstraintWithin, constant_of, kept_of, rest_of}
+use Rattle.cir_lc.specs.Normal.{IsNormal, IsQuadWithin, IsConstraintWithin, constant_of, kept_of}
+use Rattle.cir_lc.specs.Normal.{rest_of}
 use Rattle.cir_lc.proofs.Known.{terms_are, constant_is}
 use Rattle.cir_meaning.specs.Values.{Parts}
 use Rattle.cir_meaning.specs.Source.{Equation, IsSource, parts_from, terms_by, terms_of, all_terms}

@@ -1,6 +1,7 @@
 -- Two executions that differ in what is counted: where the first one, which has counted more, isn't
 -- refused, the second isn't either, and a relation holds.
-use Rattle.std.proofs.Common.{◌≡◌, ℕ, ◌+◌, ◌≤◌, Bool, true, false, cond, List, [], ◌∷◌, Ok, Err, refl, sym, subst, zero-le, arith}
+use Rattle.std.proofs.Common.{◌≡◌, ℕ, ◌+◌, ◌≤◌, Bool, true, false, cond, List, [], ◌∷◌, Ok, Err}
+use Rattle.std.proofs.Common.{refl, sym, subst, zero-le, arith}
 use Rattle.std.specs.Prelude.{⊤, ◌==◌, nat_le, min, ◌^◌, ◌-◌}
 use Rattle.std.specs.List.{AllByRecursion}
 use Rattle.std.proofs.Math.Nat.{min-le_left, min-le_right, le-min}
@@ -8,7 +9,8 @@ use Rattle.std.proofs.lemmas.Bool.{leb-true, le-leb, eqb-true, eq-eqb}
 use Rattle.cir_ast.specs.declared.refusal.Kind.{Kind}
 use Rattle.cir_ast.specs.declared.refusal.Kind.TheVariants.{Limit}
 use Rattle.cir_meaning.specs.Tried.{Where, Refused, Tried, next, refused, needed}
-use Rattle.cir_meaning.specs.Limits.{Counts, nothing, Limited, limits, standing, count_sum, plus, tested, with_array, is_too_large, size_of}
+use Rattle.cir_meaning.specs.Limits.{Counts, nothing, Limited, limits, standing, count_sum, plus}
+use Rattle.cir_meaning.specs.Limits.{tested, with_array, is_too_large, size_of}
 use Rattle.cir_meaning.specs.Frame.{State, adding, settle, one_statement, counted}
 use Rattle.cir_meaning.proofs.Good.{OnGood}
 

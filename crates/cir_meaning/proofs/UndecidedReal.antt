@@ -1,5 +1,6 @@
 -- The step of a statement under an unknown condition misses no value.
-use Rattle.std.proofs.Common.{◌≡◌, ◌⊎◌, inl, inr, ℕ, ◌<◌, ◌≤◌, Bool, true, false, List, length, Option, Some, None, Ok, refl, sym, ap, subst, ◌∙◌, slice_get, arith}
+use Rattle.std.proofs.Common.{◌≡◌, ◌⊎◌, inl, inr, ℕ, ◌<◌, ◌≤◌, Bool, true, false, List, length}
+use Rattle.std.proofs.Common.{Option, Some, None, Ok, refl, sym, ap, subst, ◌∙◌, slice_get, arith}
 use Rattle.std.specs.Prelude.{⊤, ◌==◌, unwrap_or}
 use Rattle.std.specs.List.{list_any}
 use Rattle.cir_ast.specs.declared.program.Spot.{Spot}
@@ -10,7 +11,8 @@ use Rattle.cir_meaning.specs.Tried.{Where, next}
 use Rattle.cir_meaning.specs.Limits.{Counts}
 use Rattle.cir_meaning.specs.Arrays.{Datum, single, filled}
 use Rattle.cir_meaning.specs.Values.{Known, Opaque}
-use Rattle.cir_meaning.specs.Frame.{World, State, Context, Maker, at, settle, variable_at, uncounted}
+use Rattle.cir_meaning.specs.Frame.{World, State, Context, Maker, at, settle, variable_at}
+use Rattle.cir_meaning.specs.Frame.{uncounted}
 use Rattle.cir_meaning.specs.Unknown.{Fault, outer_assigned, writes, declares}
 use Rattle.cir_meaning.specs.Scan.{forget, scan, undecided}
 use Rattle.cir_meaning.specs.Steps.{stepped, undecided_cost, undecided_cells}
@@ -38,7 +40,8 @@ use Rattle.cir_meaning.proofs.ScopeLaws.{IsSound, grows, later}
 use Rattle.cir_meaning.proofs.ScanPoints.{next_to, get_there}
 use Rattle.cir_meaning.proofs.StepReal.{Flows, Steps, statement_part, ends_before}
 use Rattle.cir_meaning.proofs.StepStatements.{statement_real}
-use Rattle.cir_meaning.proofs.ScanStarts.{Contains, assigned_outside, forget_count, forget_opaque, forget_same, settled_count, rest_between}
+use Rattle.cir_meaning.proofs.ScanStarts.{Contains, assigned_outside, forget_count, forget_opaque}
+use Rattle.cir_meaning.proofs.ScanStarts.{forget_same, settled_count, rest_between}
 
 -- the states of a statement that is scanned
 pub record Scanned (k : Context) (w : Where) (a : Statement Spot Meant) (f s : State)

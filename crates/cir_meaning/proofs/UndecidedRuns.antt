@@ -1,6 +1,7 @@
 -- A statement whose condition isn't known, in a run: what holds behind it, where its step misses no
 -- value.
-use Rattle.std.proofs.Common.{◌≡◌, ◌⊎◌, inl, inr, ℕ, zero, suc, List, [], ◌∷◌, Option, Some, None, Ok, refl, sym, ap, subst, ◌∙◌, slice_get}
+use Rattle.std.proofs.Common.{◌≡◌, ◌⊎◌, inl, inr, ℕ, zero, suc, List, [], ◌∷◌, Option, Some, None}
+use Rattle.std.proofs.Common.{Ok, refl, sym, ap, subst, ◌∙◌, slice_get}
 use Rattle.std.specs.Prelude.{unwrap_or}
 use Rattle.cir_ast.specs.declared.program.Spot.{Spot}
 use Rattle.cir_ast.specs.declared.program.Meant.{Meant}
@@ -10,7 +11,8 @@ use Rattle.cir_meaning.specs.Scoped.{Scope}
 use Rattle.cir_meaning.specs.Tried.{Where}
 use Rattle.cir_meaning.specs.Arrays.{Datum, single, forgotten}
 use Rattle.cir_meaning.specs.Values.{Known, Opaque}
-use Rattle.cir_meaning.specs.Frame.{Signals, Part, ComponentEntry, World, State, Maker, at, settle, variable_at}
+use Rattle.cir_meaning.specs.Frame.{Signals, Part, ComponentEntry, World, State, Maker, at, settle}
+use Rattle.cir_meaning.specs.Frame.{variable_at}
 use Rattle.cir_meaning.specs.Unknown.{Fault, outer_assigned}
 use Rattle.cir_meaning.specs.Scan.{forget_one, forget, scan, undecided}
 use Rattle.cir_meaning.specs.Steps.{stepped, undecided_cost, undecided_cells}
@@ -28,7 +30,8 @@ use Rattle.cir_meaning.proofs.Same.{Same}
 use Rattle.cir_meaning.proofs.RunFree.{NoMiss, Any}
 use Rattle.cir_meaning.proofs.Fading.{IsOpaque, Faded, scan_faded, Rest, scan_rest}
 use Rattle.cir_meaning.proofs.Holds.{Extends}
-use Rattle.cir_meaning.proofs.Settling.{settle_of, known_same, opaque_same, Variable, variable_of, put_variables}
+use Rattle.cir_meaning.proofs.Settling.{settle_of, known_same, opaque_same, Variable, variable_of}
+use Rattle.cir_meaning.proofs.Settling.{put_variables}
 use Rattle.cir_meaning.proofs.Goes.{Goes, goes_ok, goes_refusing, goes_step}
 use Rattle.cir_meaning.proofs.Standing.{Stands, changed, stands_changed, Start}
 use Rattle.cir_meaning.proofs.VariableRuns.{Soundly, IsAdded, stepped_adds, After}

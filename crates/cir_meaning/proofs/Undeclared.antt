@@ -1,12 +1,18 @@
 -- A statement declares the signals of the numbers that the text gives it, and no others.
-use Rattle.std.proofs.Common.{◌≡◌, ◌⊎◌, inl, inr, ℕ, ◌+◌, ◌<◌, ◌≤◌, List, [], ◌∷◌, sym, subst, arith}
+use Rattle.std.proofs.Common.{◌≡◌, ◌⊎◌, inl, inr, ℕ, ◌+◌, ◌<◌, ◌≤◌, List, [], ◌∷◌, sym, subst}
+use Rattle.std.proofs.Common.{arith}
 use Rattle.cir_meaning.proofs.Standing.{Start}
 use Rattle.std.specs.List.{AllByRecursion}
 use Rattle.cir_ast.specs.declared.operators.Direction.{Direction}
 use Rattle.cir_ast.specs.declared.program.Spot.{Spot}
 use Rattle.cir_ast.specs.declared.program.Meant.{Meant}
-use Rattle.cir_ast.specs.Tree.{Signal, First, FirstVars, FirstAssign, Simple, Vars, Signals, Declared, Created, Assigned, Constrain, Right, TargetLeft, TargetRight, Alone, Statement, Block, If, IfElse, While, For, Return, Assert, Log, Ended, Statements, empty, then_more}
-use Rattle.cir_meaning.specs.Scoped.{Scope, with_signal, AreSignalsScoped, with_signals, IsSimpleScoped, behind_simple, behind_first, closed, behind, behind_all, IsScoped, AreScoped}
+use Rattle.cir_ast.specs.Tree.{Signal, First, FirstVars, FirstAssign, Simple, Vars, Signals}
+use Rattle.cir_ast.specs.Tree.{Declared, Created, Assigned, Constrain, Right, TargetLeft}
+use Rattle.cir_ast.specs.Tree.{TargetRight, Alone, Statement, Block, If, IfElse, While, For, Return}
+use Rattle.cir_ast.specs.Tree.{Assert, Log, Ended, Statements, empty, then_more}
+use Rattle.cir_meaning.specs.Scoped.{Scope, with_signal, AreSignalsScoped, with_signals}
+use Rattle.cir_meaning.specs.Scoped.{IsSimpleScoped, behind_simple, behind_first, closed, behind}
+use Rattle.cir_meaning.specs.Scoped.{behind_all, IsScoped, AreScoped}
 use Rattle.cir_meaning.specs.Anonymous.{lift_simple}
 use Rattle.cir_meaning.specs.Statement.{first_simple}
 use Rattle.cir_meaning.specs.Run.{Wires}
@@ -15,8 +21,10 @@ use Rattle.cir_meaning.proofs.VariableRuns.{Soundly}
 use Rattle.cir_meaning.proofs.Starting.{BodiesRun}
 use Rattle.cir_meaning.proofs.Keeping.{NotNumber, NotSimple}
 use Rattle.cir_meaning.proofs.KeepingStatements.{NotLifted, NotDeclared, AreNotDeclared}
-use Rattle.cir_meaning.proofs.ScopeLaws.{grows_first, grows_signals, grows, grows_all, IsSound, sound_first, sound_closed, sound}
-use Rattle.cir_meaning.proofs.LiftedStatements.{IsLifted, SameMeants, SameSignals, LiftedAs, simple_lifted}
+use Rattle.cir_meaning.proofs.ScopeLaws.{grows_first, grows_signals, grows, grows_all, IsSound}
+use Rattle.cir_meaning.proofs.ScopeLaws.{sound_first, sound_closed, sound}
+use Rattle.cir_meaning.proofs.LiftedStatements.{IsLifted, SameMeants, SameSignals, LiftedAs}
+use Rattle.cir_meaning.proofs.LiftedStatements.{simple_lifted}
 use Rattle.cir_meaning.proofs.ScopedQuiet.{everything, first_scoped, simple_wide}
 
 -- a number that isn't given between

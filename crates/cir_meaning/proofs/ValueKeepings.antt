@@ -3,20 +3,30 @@ use Rattle.std.proofs.Common.{ℕ, Bool, false, List, [], ◌∷◌, ◌++◌, l
 use Rattle.std.specs.List.{list_all}
 use Rattle.cir_ast.specs.declared.program.Meant.{Meant}
 use Rattle.cir_ast.specs.declared.program.Meant.TheVariants as meant
-use Rattle.cir_ast.specs.declared.refusal.Kind.TheVariants.{ShapeDiffers, ReadBeforeWrite, UnknownIndex, WrongKind}
-use Rattle.cir_ast.specs.Tree.{Expr, Number, Place, Call, Anonymous, Parentheses, Array, Unary, Binary, Choice, Exprs, none, more, Accessors, done, index, member}
+use Rattle.cir_ast.specs.declared.refusal.Kind.TheVariants.{ShapeDiffers, ReadBeforeWrite}
+use Rattle.cir_ast.specs.declared.refusal.Kind.TheVariants.{UnknownIndex, WrongKind}
+use Rattle.cir_ast.specs.Tree.{Expr, Number, Place, Call, Anonymous, Parentheses, Array, Unary}
+use Rattle.cir_ast.specs.Tree.{Binary, Choice, Exprs, none, more, Accessors, done, index, member}
 use Rattle.cir_meaning.specs.Tried.{Where, Tried, found}
 use Rattle.cir_meaning.specs.Places.{all_known}
-use Rattle.cir_meaning.specs.Arrays.{reach, Datum, Want, Scalar, Whole, fits, the_item, is_all_known, same_dims}
-use Rattle.cir_meaning.specs.Values.{unary_result, chosen, Value, Opaque, Known, known_number, side_of}
-use Rattle.cir_meaning.specs.Operators.{unary_of, operator_of, left_tells, applied, shading, first_shading, second_shading}
+use Rattle.cir_meaning.specs.Arrays.{reach, Datum, Want, Scalar, Whole, fits, the_item}
+use Rattle.cir_meaning.specs.Arrays.{is_all_known, same_dims}
+use Rattle.cir_meaning.specs.Values.{unary_result, chosen, Value, Opaque, Known, known_number}
+use Rattle.cir_meaning.specs.Values.{side_of}
+use Rattle.cir_meaning.specs.Operators.{unary_of, operator_of, left_tells, applied, shading}
+use Rattle.cir_meaning.specs.Operators.{first_shading, second_shading}
 use Rattle.cir_meaning.specs.Limits.{with_array}
 use Rattle.cir_meaning.specs.Frame.{State, Context, adding, is_input, entry_at, variable_at}
-use Rattle.cir_meaning.specs.Reading.{Root, Named, Found, read_origin, origin_of, inner_origin, part_at, named_signal}
-use Rattle.cir_meaning.specs.Evaluate.{scalar, answered, looked_at, has_literal, gathered, call_known, called, value_in, all_in, read_in, arguments_in, indices_in}
-use Rattle.cir_meaning.specs.Writing.{variable_assignment, signals_of, targeted, target_at, target_in, signal_assignment}
+use Rattle.cir_meaning.specs.Reading.{Root, Named, Found, read_origin, origin_of, inner_origin}
+use Rattle.cir_meaning.specs.Reading.{part_at, named_signal}
+use Rattle.cir_meaning.specs.Evaluate.{scalar, answered, looked_at, has_literal, gathered}
+use Rattle.cir_meaning.specs.Evaluate.{call_known, called, value_in, all_in, read_in, arguments_in}
+use Rattle.cir_meaning.specs.Evaluate.{indices_in}
+use Rattle.cir_meaning.specs.Writing.{variable_assignment, signals_of, targeted, target_at}
+use Rattle.cir_meaning.specs.Writing.{target_in, signal_assignment}
 use Rattle.cir_meaning.specs.Declaring.{creation, template_call}
-use Rattle.cir_meaning.proofs.Good.{OnGood, good_ok, good_bad, good_next, good_on, good_needed, either}
+use Rattle.cir_meaning.proofs.Good.{OnGood, good_ok, good_bad, good_next, good_on, good_needed}
+use Rattle.cir_meaning.proofs.Good.{either}
 
 module _ (P : State → Type 0) where
   abbrev pub Stays : {A : Type 0} → A × State → Type 0

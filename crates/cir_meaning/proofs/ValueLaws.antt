@@ -1,18 +1,21 @@
 -- The operators give values of the field.
-use Rattle.std.proofs.Common.{◌≡◌, ℕ, ◌<◌, Bool, true, false, cond, Option, Some, None, refl, subst, arith}
+use Rattle.std.proofs.Common.{◌≡◌, ℕ, ◌<◌, Bool, true, false, cond, Option, Some, None, refl, subst}
+use Rattle.std.proofs.Common.{arith}
 use Rattle.std.specs.Prelude.{◌==◌}
 use Rattle.gold_field.specs.declared.gold.TheConstants.{P}
 use Rattle.gold_field.specs.declared.operators.Op1.{Op1}
 use Rattle.gold_field.specs.declared.operators.Op1.TheVariants.{Neg, Not, Compl}
 use Rattle.gold_field.specs.declared.operators.Op2.{Op2}
-use Rattle.gold_field.specs.declared.operators.Op2.TheVariants.{Add, Sub, Mul, Div, Quot, Rem, Pow, Shl, Shr}
-use Rattle.gold_field.specs.declared.operators.Op2.TheVariants.{And, Xor, Or, Lt, Le, Gt, Ge, Eq, Ne}
+use Rattle.gold_field.specs.declared.operators.Op2.TheVariants.{Add, Sub, Mul, Div, Quot, Rem, Pow}
+use Rattle.gold_field.specs.declared.operators.Op2.TheVariants.{Shl, Shr, And, Xor, Or, Lt, Le, Gt}
+use Rattle.gold_field.specs.declared.operators.Op2.TheVariants.{Ge, Eq, Ne}
 use Rattle.gold_field.specs.Operators.{binary_of, inverse_of}
 use Rattle.gold_field.proofs.Answers.{binary_below, unary_below}
 use Rattle.cir_lc.specs.Number.{constant, added, scaled, negated}
-use Rattle.cir_meaning.specs.Values.{Value, Known, Linear, Quadratic, Opaque, IsValue, sum_of, negative_of}
-use Rattle.cir_meaning.specs.Values.{product_of, quotient_of, known_of, known_or_opaque, power_of, power_by, result_of}
-use Rattle.cir_meaning.specs.Values.{known_unary, unary_result}
+use Rattle.cir_meaning.specs.Values.{Value, Known, Linear, Quadratic, Opaque, IsValue, sum_of}
+use Rattle.cir_meaning.specs.Values.{negative_of, product_of, quotient_of, known_of}
+use Rattle.cir_meaning.specs.Values.{known_or_opaque, power_of, power_by, result_of, known_unary}
+use Rattle.cir_meaning.specs.Values.{unary_result}
 use Rattle.cir_meaning.proofs.ClassLaws.{divided_is}
 
 sum_value : (x y : Value) → IsValue x → IsValue y → IsValue (sum_of x y)

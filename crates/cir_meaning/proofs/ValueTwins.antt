@@ -1,24 +1,38 @@
 -- An expression has the same value whatever is counted, and where it is shaded too, unless it is
 -- refused.
-use Rattle.std.proofs.Common.{◌≡◌, ℕ, ◌%◌, Bool, true, false, ◌||◌, cond, List, [], ◌∷◌, ◌++◌, length, Option, Some, None, Ok, refl, sym, subst}
+use Rattle.std.proofs.Common.{◌≡◌, ℕ, ◌%◌, Bool, true, false, ◌||◌, cond, List, [], ◌∷◌, ◌++◌}
+use Rattle.std.proofs.Common.{length, Option, Some, None, Ok, refl, sym, subst}
 use Rattle.std.specs.Prelude.{⊤, is_some}
 use Rattle.std.specs.List.{list_all}
 use Rattle.gold_field.specs.declared.gold.TheConstants.{P}
 use Rattle.cir_ast.specs.declared.program.Meant.{Meant}
 use Rattle.cir_ast.specs.declared.program.Meant.TheVariants as meant
 use Rattle.cir_ast.specs.declared.refusal.Form.TheVariants.{LiteralPlace}
-use Rattle.cir_ast.specs.declared.refusal.Kind.TheVariants.{UnknownIndex, ReadBeforeWrite, OutOfBounds, ShapeDiffers, NotInProfile}
-use Rattle.cir_ast.specs.Tree.{Expr, Number, Place, Call, Anonymous, Parentheses, Array, Unary, Binary, Choice, Exprs, none, more, Accessors, done, index, member}
+use Rattle.cir_ast.specs.declared.refusal.Kind.TheVariants.{UnknownIndex, ReadBeforeWrite}
+use Rattle.cir_ast.specs.declared.refusal.Kind.TheVariants.{OutOfBounds, ShapeDiffers, NotInProfile}
+use Rattle.cir_ast.specs.Tree.{Expr, Number, Place, Call, Anonymous, Parentheses, Array, Unary}
+use Rattle.cir_ast.specs.Tree.{Binary, Choice, Exprs, none, more, Accessors, done, index, member}
 use Rattle.cir_meaning.specs.Tried.{Where, Tried, next, refused, needed, found}
 use Rattle.cir_meaning.specs.Places.{left_of, is_inside, all_known}
 use Rattle.cir_meaning.specs.Limits.{Counts, with_array}
-use Rattle.cir_meaning.specs.Arrays.{Datum, Want, Scalar, Whole, Reach, fits, reach, the_item, is_all_known, same_dims}
-use Rattle.cir_meaning.specs.Values.{Value, Known, Opaque, Lazy, Decided, Right, Shaded, Side, First, Second, Both, known_number, side_of, chosen, unary_result, result_of}
-use Rattle.cir_meaning.specs.Operators.{Operator, Strict, And, Or, operator_of, unary_of, left_tells, applied, divided_at, shading, first_shading, second_shading}
+use Rattle.cir_meaning.specs.Arrays.{Datum, Want, Scalar, Whole, Reach, fits, reach, the_item}
+use Rattle.cir_meaning.specs.Arrays.{is_all_known, same_dims}
+use Rattle.cir_meaning.specs.Values.{Value, Known, Opaque, Lazy, Decided, Right, Shaded, Side}
+use Rattle.cir_meaning.specs.Values.{First, Second, Both, known_number, side_of, chosen}
+use Rattle.cir_meaning.specs.Values.{unary_result, result_of}
+use Rattle.cir_meaning.specs.Operators.{Operator, Strict, And, Or, operator_of, unary_of}
+use Rattle.cir_meaning.specs.Operators.{left_tells, applied, divided_at, shading, first_shading}
+use Rattle.cir_meaning.specs.Operators.{second_shading}
 use Rattle.cir_meaning.specs.Frame.{Frame, World, State, Context, Caller, adding, entry_at}
-use Rattle.cir_meaning.specs.Reading.{Origin, Stored, Wired, Lost, Root, Named, Found, is_readable, read_origin, origin_of, inner_origin, part_in, part_at, located}
-use Rattle.cir_meaning.specs.Evaluate.{scalar, answered, looked_at, has_literal, gathered, call_known, called, value_in, all_in, read_in, dims_in, indices_in, known_at}
-use Rattle.cir_meaning.proofs.Twins.{Twin, twin_ok, twin_bad, twin_next, twin_itself, twin_if, twin_same, twin_needed, Below, below_with_array, counted_as, IsTwin, at_twin, twin_of}
+use Rattle.cir_meaning.specs.Reading.{Origin, Stored, Wired, Lost, Root, Named, Found, is_readable}
+use Rattle.cir_meaning.specs.Reading.{read_origin, origin_of, inner_origin, part_in, part_at}
+use Rattle.cir_meaning.specs.Reading.{located}
+use Rattle.cir_meaning.specs.Evaluate.{scalar, answered, looked_at, has_literal, gathered}
+use Rattle.cir_meaning.specs.Evaluate.{call_known, called, value_in, all_in, read_in, dims_in}
+use Rattle.cir_meaning.specs.Evaluate.{indices_in, known_at}
+use Rattle.cir_meaning.proofs.Twins.{Twin, twin_ok, twin_bad, twin_next, twin_itself, twin_if}
+use Rattle.cir_meaning.proofs.Twins.{twin_same, twin_needed, Below, below_with_array, counted_as}
+use Rattle.cir_meaning.proofs.Twins.{IsTwin, at_twin, twin_of}
 
 -- the second is shaded wherever the first is, and an array will do where it did
 abbrev pub Darker : Bool → Bool → Type 0

@@ -1,5 +1,7 @@
 -- Assignments to variables in a run.
-use Rattle.std.proofs.Common.{◌≡◌, ℕ, zero, suc, Bool, true, false, not, cond, List, [], ◌∷◌, ◌++◌, Option, Some, None, Ok, refl, sym, ap, subst, ◌∙◌, slice_get, slice_set}
+use Rattle.std.proofs.Common.{◌≡◌, ℕ, zero, suc, Bool, true, false, not, cond, List, [], ◌∷◌, ◌++◌}
+use Rattle.std.proofs.Common.{Option, Some, None, Ok, refl, sym, ap, subst, ◌∙◌, slice_get}
+use Rattle.std.proofs.Common.{slice_set}
 use Rattle.cir_meaning.proofs.GroupSizes.{IsGrowing}
 use Rattle.std.specs.Prelude.{◌==◌, unwrap_or}
 use Rattle.cir_ast.specs.declared.program.Meant.{Meant}
@@ -12,20 +14,25 @@ use Rattle.cir_meaning.specs.Scoped.{Scope, IsSetMeant}
 use Rattle.cir_meaning.specs.Tried.{Where, Tried, next}
 use Rattle.cir_meaning.specs.Places.{elements}
 use Rattle.cir_meaning.specs.Limits.{Counts}
-use Rattle.cir_meaning.specs.Arrays.{Datum, Scalar, Whole, reach, single, forgotten, is_known, is_all_known, same_dims, put_items, the_item}
+use Rattle.cir_meaning.specs.Arrays.{Datum, Scalar, Whole, reach, single, forgotten, is_known}
+use Rattle.cir_meaning.specs.Arrays.{is_all_known, same_dims, put_items, the_item}
 use Rattle.cir_meaning.specs.Values.{Known, Opaque, known_number}
-use Rattle.cir_meaning.specs.Frame.{Signals, Part, ComponentEntry, World, State, Context, Maker, variable_at}
+use Rattle.cir_meaning.specs.Frame.{Signals, Part, ComponentEntry, World, State, Context, Maker}
+use Rattle.cir_meaning.specs.Frame.{variable_at}
 use Rattle.cir_meaning.specs.Evaluate.{value_in, indices_in}
-use Rattle.cir_meaning.specs.Writing.{put_variable, written_datum, VariableAssignment, variable_assignment, write_variable, is_unknown}
+use Rattle.cir_meaning.specs.Writing.{put_variable, written_datum, VariableAssignment}
+use Rattle.cir_meaning.specs.Writing.{variable_assignment, write_variable, is_unknown}
 use Rattle.cir_meaning.specs.Costs.{Cost}
 use Rattle.cir_meaning.specs.Steps.{stepped, unless_faulty, variable_cost, new_cells, with_step}
 use Rattle.cir_meaning.specs.Functions.{function_fault, function_elements}
 use Rattle.cir_meaning.specs.Simple as simple
 use Rattle.cir_meaning.specs.RunValues.{Numbers, Store, stored}
 use Rattle.cir_meaning.specs.RunStatements.{step_set}
-use Rattle.cir_meaning.specs.Run.{Wires, Run, refusing, settled_store, store_of, environment, put_numbers}
+use Rattle.cir_meaning.specs.Run.{Wires, Run, refusing, settled_store, store_of, environment}
+use Rattle.cir_meaning.specs.Run.{put_numbers}
 use Rattle.cir_meaning.specs.RunSimple.{Running, with_known, variable_step, run_set_variable}
-use Rattle.cir_meaning.proofs.Good.{OnGood, good_ok, good_bad, good_next, good_on, good_needed, good_is, OnSome'}
+use Rattle.cir_meaning.proofs.Good.{OnGood, good_ok, good_bad, good_next, good_on, good_needed}
+use Rattle.cir_meaning.proofs.Good.{good_is, OnSome'}
 use Rattle.cir_meaning.proofs.Likes.{CallKeeps, Like, like_itself, value_like}
 use Rattle.cir_meaning.proofs.FineValues.{FineContext, Fine}
 use Rattle.cir_meaning.proofs.FineStatements.{set_variable_fine}
@@ -41,7 +48,8 @@ use Rattle.cir_meaning.proofs.KnownCalls.{CallBoth}
 use Rattle.cir_meaning.proofs.CallsTold.{call_told}
 use Rattle.cir_meaning.proofs.Goes.{Goes, goes_ok, goes_twice, goes_refusing, goes_step, pair_no}
 use Rattle.cir_meaning.proofs.Standing.{Stands, holds_of, changed, stands_changed, Start}
-use Rattle.cir_meaning.proofs.Settling.{settle_of, same_settled, opaque_same, put_same, Variable, variable_of, set_variables, put_variables}
+use Rattle.cir_meaning.proofs.Settling.{settle_of, same_settled, opaque_same, put_same, Variable}
+use Rattle.cir_meaning.proofs.Settling.{variable_of, set_variables, put_variables}
 
 -- what is known of the functions of a run
 pub record Soundly (scope : Scope) (q : Running) : Type 0 where

@@ -1,21 +1,30 @@
 -- An expression has the same value whatever the variables are that aren't in scope.
-use Rattle.std.proofs.Common.{◌≡◌, ℕ, ◌%◌, Bool, true, false, cond, List, [], ◌∷◌, ◌++◌, Option, Some, None, Ok, refl, sym, ap, subst, slice_get}
+use Rattle.std.proofs.Common.{◌≡◌, ℕ, ◌%◌, Bool, true, false, cond, List, [], ◌∷◌, ◌++◌, Option}
+use Rattle.std.proofs.Common.{Some, None, Ok, refl, sym, ap, subst, slice_get}
 use Rattle.std.specs.Prelude.{unwrap_or}
 use Rattle.std.specs.List.{list_all}
 use Rattle.gold_field.specs.declared.gold.TheConstants.{P}
 use Rattle.cir_ast.specs.declared.program.Meant.{Meant}
 use Rattle.cir_ast.specs.declared.program.Meant.TheVariants as meant
 use Rattle.cir_ast.specs.declared.refusal.Form.TheVariants.{LiteralPlace}
-use Rattle.cir_ast.specs.declared.refusal.Kind.TheVariants.{UnknownIndex, ShapeDiffers, NotInProfile}
-use Rattle.cir_ast.specs.Tree.{Expr, Number, Place, Call, Anonymous, Parentheses, Array, Unary, Binary, Choice, Exprs, none, more, Accessors, done, index, member}
+use Rattle.cir_ast.specs.declared.refusal.Kind.TheVariants.{UnknownIndex, ShapeDiffers}
+use Rattle.cir_ast.specs.declared.refusal.Kind.TheVariants.{NotInProfile}
+use Rattle.cir_ast.specs.Tree.{Expr, Number, Place, Call, Anonymous, Parentheses, Array, Unary}
+use Rattle.cir_ast.specs.Tree.{Binary, Choice, Exprs, none, more, Accessors, done, index, member}
 use Rattle.cir_meaning.specs.Scoped.{Scope, AreCallsMeant, AreAllMeant, AreIndicesMeant}
-use Rattle.cir_meaning.specs.Tried.{Where, Tried, next, refused, needed, found}
-use Rattle.cir_meaning.specs.Arrays.{Datum, Want, Scalar, Whole, fits, single, the_item, is_all_known, same_dims}
-use Rattle.cir_meaning.specs.Values.{Value, Known, Opaque, known_number, side_of, chosen, unary_result}
-use Rattle.cir_meaning.specs.Operators.{operator_of, unary_of, left_tells, applied, shading, first_shading, second_shading}
+use Rattle.cir_meaning.specs.Tried.{Where, Tried, next, refused, found}
+use Rattle.cir_meaning.specs.Arrays.{Datum, Want, Scalar, Whole, fits, single, the_item}
+use Rattle.cir_meaning.specs.Arrays.{is_all_known, same_dims}
+use Rattle.cir_meaning.specs.Values.{Value, Known, Opaque, known_number, side_of, chosen}
+use Rattle.cir_meaning.specs.Values.{unary_result}
+use Rattle.cir_meaning.specs.Operators.{operator_of, unary_of, left_tells, applied, shading}
+use Rattle.cir_meaning.specs.Operators.{first_shading, second_shading}
 use Rattle.cir_meaning.specs.Frame.{State, Context, variable_at}
-use Rattle.cir_meaning.specs.Reading.{Stored, Root, Named, Found, read_origin, origin_of, inner_origin}
-use Rattle.cir_meaning.specs.Evaluate.{scalar, answered, looked_at, has_literal, gathered, call_known, called, value_in, all_in, read_in, dims_in, indices_in, known_at}
+use Rattle.cir_meaning.specs.Reading.{Stored, Root, Named, Found, read_origin, origin_of}
+use Rattle.cir_meaning.specs.Reading.{inner_origin}
+use Rattle.cir_meaning.specs.Evaluate.{scalar, answered, looked_at, has_literal, gathered}
+use Rattle.cir_meaning.specs.Evaluate.{call_known, called, value_in, all_in, read_in, dims_in}
+use Rattle.cir_meaning.specs.Evaluate.{indices_in, known_at}
 use Rattle.cir_meaning.proofs.Twins.{Twin, twin_ok, twin_bad, twin_next, twin_same, twin_needed}
 use Rattle.cir_meaning.proofs.Sound.{IsRootSeen}
 

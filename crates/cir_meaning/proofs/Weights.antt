@@ -1,9 +1,12 @@
 -- How often a number is a signal's: once where it is in a group, and not at all elsewhere.
-use Rattle.std.proofs.Common.{◌≡◌, ℕ, zero, suc, ◌+◌, ◌-◌, ◌*◌, ◌≤◌, ◌<◌, Bool, true, false, List, [], ◌∷◌, ◌++◌, length, Option, Some, None, refl, ap, ◌∙◌, arith}
+use Rattle.std.proofs.Common.{◌≡◌, ℕ, zero, suc, ◌+◌, ◌-◌, ◌*◌, ◌≤◌, ◌<◌, Bool, true, false, List}
+use Rattle.std.proofs.Common.{[], ◌∷◌, ◌++◌, length, Option, Some, None, refl, ap, ◌∙◌, arith}
 use Rattle.std.specs.Prelude.{nat_lt}
 use Rattle.std.proofs.lemmas.Bool.{ltb-true, lt-ltb}
 use Rattle.cir_meaning.specs.Limits.{count_sum}
-use Rattle.cir_meaning.specs.Frame.{SignalEntry, Signals, Group, Outputs, PublicInputs, PrivateInputs, Others, Sizes, before_group, size_in, more_in, put_at, entry_at}
+use Rattle.cir_meaning.specs.Frame.{SignalEntry, Signals, Group, Outputs, PublicInputs}
+use Rattle.cir_meaning.specs.Frame.{PrivateInputs, Others, Sizes, before_group, size_in, more_in}
+use Rattle.cir_meaning.specs.Frame.{put_at, entry_at}
 use Rattle.cir_meaning.specs.Run.{Table}
 use Rattle.cir_meaning.proofs.GroupSizes.{Less}
 

@@ -3,9 +3,15 @@ use Rattle.std.proofs.Common.{◌≡◌, ℕ, true, List, [], ◌∷◌, subst}
 use Rattle.std.specs.List.{AllByRecursion}
 use Rattle.cir_ast.specs.declared.program.Meant.{Meant}
 use Rattle.cir_ast.specs.declared.program.Meant.TheVariants as meant
-use Rattle.cir_ast.specs.Tree.{Expr, Number, Place, Call, Anonymous, Parentheses, Array, Unary, Binary, Choice, Exprs, none, more, Accessors, done, index, member, Inputs, Listed, Named, NamedInputs, unnamed, named, SignalValue, Nothing, Given, Assign, Set, Compound, Left, Increment, Decrement, LogArgument, Words, LogValue, Source, One, Values}
+use Rattle.cir_ast.specs.Tree.{Expr, Number, Place, Call, Anonymous, Parentheses, Array, Unary}
+use Rattle.cir_ast.specs.Tree.{Binary, Choice, Exprs, none, more, Accessors, done, index, member}
+use Rattle.cir_ast.specs.Tree.{Inputs, Listed, Named, NamedInputs, unnamed, named, SignalValue}
+use Rattle.cir_ast.specs.Tree.{Nothing, Given, Assign, Set, Compound, Left, Increment, Decrement}
+use Rattle.cir_ast.specs.Tree.{LogArgument, Words, LogValue, Source, One, Values}
 use Rattle.cir_meaning.specs.SignalFree.{IsFunction}
-use Rattle.cir_meaning.specs.Scoped.{Scope, IsSeen, AreCallsMeant, AreAllMeant, AreIndicesMeant, AreInputsMeant, AreNamedMeant, IsSetMeant, IsAssignMeant, IsSignalValueMeant, IsSourceMeant, IsArgumentMeant}
+use Rattle.cir_meaning.specs.Scoped.{Scope, IsSeen, AreCallsMeant, AreAllMeant, AreIndicesMeant}
+use Rattle.cir_meaning.specs.Scoped.{AreInputsMeant, AreNamedMeant, IsSetMeant, IsAssignMeant}
+use Rattle.cir_meaning.specs.Scoped.{IsSignalValueMeant, IsSourceMeant, IsArgumentMeant}
 
 abbrev pub Wider : Scope → Scope → Type 0
 Wider s t = (s.functions ≡ t.functions) × ((n : ℕ) → s.seen n ≡ true → t.seen n ≡ true)

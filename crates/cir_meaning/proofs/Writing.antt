@@ -1,19 +1,27 @@
 -- The write of a signal's elements, at compile time and with the numbers of a run.
-use Rattle.std.proofs.Common.{◌≡◌, ◌≢◌, ◌<◌, ◌⊎◌, inl, inr, ℕ, zero, suc, ◌+◌, Bool, true, false, not, List, [], ◌∷◌, length, Option, Some, None, is_some, slice_get, slice_set, unwrap_or, refl, sym, ap, subst, arith, ◌∙◌}
+use Rattle.std.proofs.Common.{◌≡◌, ◌≢◌, ◌<◌, ◌⊎◌, inl, inr, ℕ, zero, suc, ◌+◌, Bool, true, false}
+use Rattle.std.proofs.Common.{not, List, [], ◌∷◌, length, Option, Some, None, is_some, slice_get}
+use Rattle.std.proofs.Common.{slice_set, unwrap_or, refl, sym, ap, subst, arith, ◌∙◌}
 use Rattle.cir_ast.specs.declared.operators.Arrow.{Arrow}
-use Rattle.cir_ast.specs.declared.operators.Arrow.TheVariants.{Assign as AssignArrow, Constrain as ConstrainArrow}
+use Rattle.cir_ast.specs.declared.operators.Arrow.TheVariants.{Assign as AssignArrow}
+use Rattle.cir_ast.specs.declared.operators.Arrow.TheVariants.{Constrain as ConstrainArrow}
 use Rattle.cir_ast.specs.declared.operators.Direction.{Direction}
 use Rattle.cir_ast.specs.declared.refusal.Kind.TheVariants.{ReadBeforeWrite, SecondWrite}
 use Rattle.cir_lc.specs.Number.{signal}
 use Rattle.cir_meaning.specs.Tried.{Where}
 use Rattle.cir_meaning.specs.Limits.{Counts}
 use Rattle.cir_meaning.specs.Values.{Value, Linear, Parts, difference_of, parts_of}
-use Rattle.cir_meaning.specs.Frame.{SignalEntry, Signals, Part, Frame, State, Context, is_written, put_at, entry_at}
-use Rattle.cir_meaning.specs.Writing.{Target, signals_of, part_signals, with_part_signals, with_signals, marked, write_element, appended, constrained_by, write_elements}
+use Rattle.cir_meaning.specs.Frame.{SignalEntry, Signals, Part, Frame, State, Context, is_written}
+use Rattle.cir_meaning.specs.Frame.{put_at, entry_at}
+use Rattle.cir_meaning.specs.Writing.{Target, signals_of, part_signals, with_part_signals}
+use Rattle.cir_meaning.specs.Writing.{with_signals, marked, write_element, appended, constrained_by}
+use Rattle.cir_meaning.specs.Writing.{write_elements}
 use Rattle.cir_meaning.specs.Run.{Wires, put_wire, put_wires}
-use Rattle.cir_meaning.proofs.Good.{OnGood, good_ok, good_bad, good_next, good_weaker, good_needed_as, good_found_as}
+use Rattle.cir_meaning.proofs.Good.{OnGood, good_ok, good_bad, good_next, good_weaker}
+use Rattle.cir_meaning.proofs.Good.{good_needed_as, good_found_as}
 use Rattle.cir_meaning.proofs.Pairs.{good_both}
-use Rattle.cir_meaning.proofs.Marking.{MarksOf, KeepsWires, put_entry, mark_wire, keeps_put, wire_new}
+use Rattle.cir_meaning.proofs.Marking.{MarksOf, KeepsWires, put_entry, mark_wire, keeps_put}
+use Rattle.cir_meaning.proofs.Marking.{wire_new}
 use Rattle.std.specs.Prelude.{⊤}
 
 pub get_set : {A : Type 0} (xs : List A) (j : ℕ) (p q : A) → slice_get xs j ≡ Some p

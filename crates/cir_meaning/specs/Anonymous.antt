@@ -2,7 +2,8 @@
 -- statements that create each and write its inputs, and has in their places the outputs of these
 -- components. They come in the order of their first tokens, an inner one before the one that holds
 -- it.
-use Rattle.std.specs.Prelude.{ℕ, ◌+◌, ◌-◌, Bool, true, false, if◌then◌else◌, List, [], ◌∷◌, ◌++◌, map, Option, Some, None, slice_get, slice_index_or, codes, decimal}
+use Rattle.std.specs.Prelude.{ℕ, ◌+◌, ◌-◌, Bool, true, false, if◌then◌else◌, List, [], ◌∷◌, ◌++◌}
+use Rattle.std.specs.Prelude.{map, Option, Some, None, slice_get, slice_index_or, codes, decimal}
 use Rattle.cir_ast.specs.declared.program.Spot.{Spot}
 use Rattle.cir_ast.specs.declared.program.Meant.{Meant}
 use Rattle.cir_ast.specs.declared.program.Meant.TheVariants as meant
@@ -11,7 +12,12 @@ use Rattle.cir_ast.specs.declared.operators.Arrow.TheVariants.{Constrain as Cons
 use Rattle.cir_ast.specs.declared.operators.Direction.{Direction}
 use Rattle.cir_ast.specs.declared.operators.Direction.TheVariants.{Inner, Input, Output}
 use Rattle.cir_ast.specs.Program.{Program}
-use Rattle.cir_ast.specs.Tree.{Expr, Number, Place, Call, Anonymous, Parentheses, Array, Unary, Binary, Choice, Exprs, none, more, done, member, Inputs, Listed, Named, NamedInputs, unnamed, named, SignalValue, Nothing, Given, Left, Target, Discard, Slots, Source, One, Values, Simple, Vars, Signals, Declared, Created, Assigned, Constrain, Right, TargetLeft, TargetRight, Alone, Statement, Ended, Statements, empty, then_more}
+use Rattle.cir_ast.specs.Tree.{Expr, Number, Place, Call, Anonymous, Parentheses, Array, Unary}
+use Rattle.cir_ast.specs.Tree.{Binary, Choice, Exprs, none, more, done, member, Inputs, Listed}
+use Rattle.cir_ast.specs.Tree.{Named, NamedInputs, unnamed, named, SignalValue, Nothing, Given}
+use Rattle.cir_ast.specs.Tree.{Left, Target, Discard, Slots, Source, One, Values, Simple, Vars}
+use Rattle.cir_ast.specs.Tree.{Signals, Declared, Created, Assigned, Constrain, Right, TargetLeft}
+use Rattle.cir_ast.specs.Tree.{TargetRight, Alone, Statement, Ended, Statements, empty, then_more}
 
 -- the names of this direction that a template declares in its outermost block, in order
 abbrev pub is_same : Direction → Direction → Bool

@@ -1,5 +1,6 @@
 -- Numbers and arrays: dimensions, and items in row order. A number has no dimension and one item.
-use Rattle.std.specs.Prelude.{ℕ, Bool, true, false, ◌||◌, if◌then◌else◌, is_some, List, [], ◌∷◌, map, replicate, Option, Ok, slice_get, slice_set, unwrap_or, bytes_eq}
+use Rattle.std.specs.Prelude.{ℕ, Bool, true, false, ◌||◌, if◌then◌else◌, is_some, List, [], ◌∷◌}
+use Rattle.std.specs.Prelude.{map, replicate, Option, Ok, slice_get, slice_set, unwrap_or, bytes_eq}
 use Rattle.std.specs.List.{list_all}
 use Rattle.cir_ast.specs.declared.refusal.Kind.TheVariants.{OutOfBounds, ShapeDiffers}
 use Rattle.cir_meaning.specs.Tried.{Where, Tried, next, needed, found}

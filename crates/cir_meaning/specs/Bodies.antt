@@ -1,13 +1,16 @@
 -- The execution of functions and of templates. Calls are open at most 256 deep, and so are
 -- templates.
-use Rattle.std.specs.Prelude.{ℕ, zero, suc, ◌-◌, ◌||◌, List, [], ◌∷◌, ◌++◌, length, Option, Some, None, Ok, slice_get}
+use Rattle.std.specs.Prelude.{ℕ, zero, suc, ◌-◌, ◌||◌, List, [], ◌∷◌, ◌++◌, length, Option, Some}
+use Rattle.std.specs.Prelude.{None, Ok, slice_get}
 use Rattle.cir_ast.specs.declared.operators.Direction.{Direction}
-use Rattle.cir_ast.specs.declared.refusal.Kind.TheVariants.{WrongKind, NeverWritten, InputsMissing, TooDeep}
+use Rattle.cir_ast.specs.declared.refusal.Kind.TheVariants.{WrongKind, NeverWritten, InputsMissing}
+use Rattle.cir_ast.specs.declared.refusal.Kind.TheVariants.{TooDeep}
 use Rattle.cir_ast.specs.Program.{Program, Template, Function}
 use Rattle.cir_meaning.specs.Tried.{Where, Tried, next, refused, needed, found}
 use Rattle.cir_meaning.specs.Arrays.{Datum, single}
 use Rattle.cir_meaning.specs.Values.{Known}
-use Rattle.cir_meaning.specs.Frame.{Signals, Part, Group, Others, World, State, Caller, Maker, Context, at, is_input, is_all_written, is_fed, begun}
+use Rattle.cir_meaning.specs.Frame.{Signals, Part, Group, Others, World, State, Caller, Maker}
+use Rattle.cir_meaning.specs.Frame.{Context, at, is_input, is_all_written, is_fed, begun}
 use Rattle.cir_meaning.specs.Statement.{Flow, Going, Returned, exec_all}
 
 abbrev pub numbered_others : Direction → List ℕ → Group

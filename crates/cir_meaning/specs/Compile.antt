@@ -1,6 +1,8 @@
 -- The meaning of a program at compile time: its signals, instances and equations, or the first
 -- refusal.
-use Rattle.std.specs.Prelude.{ℕ, zero, suc, ◌+◌, ◌/◌, ◌%◌, Bool, true, false, if◌then◌else◌, List, [], ◌∷◌, ◌++◌, map, flat_map, filter, None, Result, Ok, Err, slice_get, unwrap_or, codes, bytes_eq, ◌≡◌, All}
+use Rattle.std.specs.Prelude.{ℕ, zero, suc, ◌+◌, ◌/◌, ◌%◌, Bool, true, false, if◌then◌else◌, List}
+use Rattle.std.specs.Prelude.{[], ◌∷◌, ◌++◌, map, flat_map, filter, None, Result, Ok, Err}
+use Rattle.std.specs.Prelude.{slice_get, unwrap_or, codes, bytes_eq, ◌≡◌, All}
 use Rattle.std.specs.List.{list_any}
 use Rattle.cir_ast.specs.declared.program.Meant.{Meant}
 use Rattle.cir_ast.specs.declared.program.Meant.TheVariants as meant
@@ -14,7 +16,8 @@ use Rattle.cir_meaning.specs.Tried.{Where, Refused, Tried, next, refused, found}
 use Rattle.cir_meaning.specs.Places.{elements, brackets, numbers_from}
 use Rattle.cir_meaning.specs.Limits.{nothing}
 use Rattle.cir_meaning.specs.Source.{Equation, IsEqualAt}
-use Rattle.cir_meaning.specs.Frame.{Group, Outputs, PublicInputs, PrivateInputs, Others, Sizes, Row, World, State, Context, begun, at, settle, Signals}
+use Rattle.cir_meaning.specs.Frame.{Group, Outputs, PublicInputs, PrivateInputs, Others, Sizes, Row}
+use Rattle.cir_meaning.specs.Frame.{World, State, Context, begun, at, settle, Signals}
 use Rattle.cir_meaning.specs.Evaluate.{arguments_in}
 use Rattle.cir_meaning.specs.Bodies.{call_at, make_at, most_open, exec_template, numbered_others}
 

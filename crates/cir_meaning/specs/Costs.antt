@@ -2,16 +2,21 @@
 -- calls that it makes when it runs. A call that has its value already is one node, and nothing of
 -- it is read or called. An operand that isn't looked at is neither read nor called; its nodes count
 -- as they are written.
-use Rattle.std.specs.Prelude.{ℕ, ◌+◌, Bool, true, false, not, if◌then◌else◌, List, [], ◌∷◌, ◌++◌, map, filter, Option, Some, None, Ok, Err}
+use Rattle.std.specs.Prelude.{ℕ, ◌+◌, Bool, true, false, not, if◌then◌else◌, List, [], ◌∷◌, ◌++◌}
+use Rattle.std.specs.Prelude.{map, filter, Option, Some, None, Ok, Err}
 use Rattle.cir_ast.specs.declared.program.Meant.{Meant}
 use Rattle.cir_ast.specs.declared.program.Meant.TheVariants as meant
-use Rattle.cir_ast.specs.Tree.{Expr, Number, Place, Call, Anonymous, Parentheses, Array, Unary, Binary, Choice, Exprs, none, more, Accessors, done, index, member}
+use Rattle.cir_ast.specs.Tree.{Expr, Number, Place, Call, Anonymous, Parentheses, Array, Unary}
+use Rattle.cir_ast.specs.Tree.{Binary, Choice, Exprs, none, more, Accessors, done, index, member}
 use Rattle.cir_meaning.specs.Tried.{Where, Tried}
-use Rattle.cir_meaning.specs.Arrays.{Datum, Whole, Reach, reach, item_at, the_item, is_known, is_all_known}
+use Rattle.cir_meaning.specs.Arrays.{Datum, Whole, Reach, reach, item_at, the_item, is_known}
+use Rattle.cir_meaning.specs.Arrays.{is_all_known}
 use Rattle.cir_meaning.specs.Values.{Value, Opaque, known_number, side_of}
-use Rattle.cir_meaning.specs.Operators.{operator_of, left_tells, shading, first_shading, second_shading}
+use Rattle.cir_meaning.specs.Operators.{operator_of, left_tells, shading, first_shading}
+use Rattle.cir_meaning.specs.Operators.{second_shading}
 use Rattle.cir_meaning.specs.Frame.{State, Context, uncounted}
-use Rattle.cir_meaning.specs.Reading.{Origin, Stored, Wired, Lost, Root, Named, Found, origin_of, inner_origin}
+use Rattle.cir_meaning.specs.Reading.{Origin, Stored, Wired, Lost, Root, Named, Found, origin_of}
+use Rattle.cir_meaning.specs.Reading.{inner_origin}
 use Rattle.cir_meaning.specs.Evaluate.{value_in}
 
 -- an element of a variable, or a signal by its number

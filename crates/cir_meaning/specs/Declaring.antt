@@ -1,18 +1,24 @@
 -- Declarations of variables, signals and components, and the creation of components.
-use Rattle.std.specs.Prelude.{ℕ, ◌==◌, Bool, true, false, if◌then◌else◌, List, [], ◌∷◌, ◌++◌, length, replicate, Option, Some, None, is_none, Ok, slice_get, slice_set, codes}
+use Rattle.std.specs.Prelude.{ℕ, ◌==◌, Bool, true, false, if◌then◌else◌, List, [], ◌∷◌, ◌++◌}
+use Rattle.std.specs.Prelude.{length, replicate, Option, Some, None, is_none, Ok, slice_get}
+use Rattle.std.specs.Prelude.{slice_set, codes}
 use Rattle.cir_ast.specs.declared.program.Spot.{Spot}
 use Rattle.cir_ast.specs.declared.program.Meant.{Meant}
 use Rattle.cir_ast.specs.declared.program.Meant.TheVariants as meant
 use Rattle.cir_ast.specs.declared.operators.Direction.{Direction}
 use Rattle.cir_ast.specs.declared.refusal.Form.TheVariants.{MixedComponents}
-use Rattle.cir_ast.specs.declared.refusal.Kind.TheVariants.{WrongKind, UnknownIndex, ReadBeforeWrite, SecondWrite, TooDeep, NotInProfile}
+use Rattle.cir_ast.specs.declared.refusal.Kind.TheVariants.{WrongKind, UnknownIndex}
+use Rattle.cir_ast.specs.declared.refusal.Kind.TheVariants.{ReadBeforeWrite, SecondWrite, TooDeep}
+use Rattle.cir_ast.specs.declared.refusal.Kind.TheVariants.{NotInProfile}
 use Rattle.cir_ast.specs.Tree.{Expr, Parentheses, Call, Exprs, Accessors}
 use Rattle.cir_meaning.specs.Tried.{Where, Tried, next, refused, needed, found}
 use Rattle.cir_meaning.specs.Places.{elements, brackets, all_known}
 use Rattle.cir_meaning.specs.Limits.{count_sum, with_array, is_too_large}
 use Rattle.cir_meaning.specs.Arrays.{Datum, Scalar, reach, filled}
 use Rattle.cir_meaning.specs.Values.{Known}
-use Rattle.cir_meaning.specs.Frame.{SignalEntry, Signals, Part, ComponentEntry, Frame, World, State, Context, next_number, more_in, is_input, put_at, entry_at, in_frame, adding}
+use Rattle.cir_meaning.specs.Frame.{SignalEntry, Signals, Part, ComponentEntry, Frame, World, State}
+use Rattle.cir_meaning.specs.Frame.{Context, next_number, more_in, is_input, put_at, entry_at}
+use Rattle.cir_meaning.specs.Frame.{in_frame, adding}
 use Rattle.cir_meaning.specs.Evaluate.{arguments_in, indices_in}
 use Rattle.cir_meaning.specs.Writing.{put_variable}
 

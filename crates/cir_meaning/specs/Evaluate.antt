@@ -1,19 +1,25 @@
 -- The value of an expression where it stands. A shaded expression is only scanned: what may be
 -- refused when it runs is left to the run, and that part is opaque. Operands, arguments and indices
 -- go from left to right.
-use Rattle.std.specs.Prelude.{ℕ, ◌%◌, Bool, true, false, ◌||◌, if◌then◌else◌, List, [], ◌∷◌, ◌++◌, flat_map, length, Option, Some, None, Ok}
+use Rattle.std.specs.Prelude.{ℕ, ◌%◌, Bool, true, false, ◌||◌, if◌then◌else◌, List, [], ◌∷◌, ◌++◌}
+use Rattle.std.specs.Prelude.{flat_map, length, Option, Some, None, Ok}
 use Rattle.std.specs.List.{list_all}
 use Rattle.gold_field.specs.declared.gold.TheConstants.{P}
 use Rattle.cir_ast.specs.declared.program.Meant.{Meant}
 use Rattle.cir_ast.specs.declared.program.Meant.TheVariants as meant
 use Rattle.cir_ast.specs.declared.refusal.Form.TheVariants.{LiteralPlace}
-use Rattle.cir_ast.specs.declared.refusal.Kind.TheVariants.{WrongKind, UnknownIndex, ShapeDiffers, NotInProfile}
-use Rattle.cir_ast.specs.Tree.{Expr, Number, Place, Call, Anonymous, Parentheses, Array, Unary, Binary, Choice, Exprs, none, more, Accessors, done, index, member}
+use Rattle.cir_ast.specs.declared.refusal.Kind.TheVariants.{WrongKind, UnknownIndex, ShapeDiffers}
+use Rattle.cir_ast.specs.declared.refusal.Kind.TheVariants.{NotInProfile}
+use Rattle.cir_ast.specs.Tree.{Expr, Number, Place, Call, Anonymous, Parentheses, Array, Unary}
+use Rattle.cir_ast.specs.Tree.{Binary, Choice, Exprs, none, more, Accessors, done, index, member}
 use Rattle.cir_meaning.specs.Tried.{Where, Tried, next, refused, needed, found}
 use Rattle.cir_meaning.specs.Limits.{with_array}
-use Rattle.cir_meaning.specs.Arrays.{Datum, Want, Scalar, Whole, fits, single, made, the_item, is_all_known, same_dims}
-use Rattle.cir_meaning.specs.Values.{Value, Known, Opaque, known_number, side_of, chosen, unary_result}
-use Rattle.cir_meaning.specs.Operators.{operator_of, unary_of, left_tells, applied, shading, first_shading, second_shading}
+use Rattle.cir_meaning.specs.Arrays.{Datum, Want, Scalar, Whole, fits, single, made, the_item}
+use Rattle.cir_meaning.specs.Arrays.{is_all_known, same_dims}
+use Rattle.cir_meaning.specs.Values.{Value, Known, Opaque, known_number, side_of, chosen}
+use Rattle.cir_meaning.specs.Values.{unary_result}
+use Rattle.cir_meaning.specs.Operators.{operator_of, unary_of, left_tells, applied, shading}
+use Rattle.cir_meaning.specs.Operators.{first_shading, second_shading}
 use Rattle.cir_meaning.specs.Frame.{State, Context, adding}
 use Rattle.cir_meaning.specs.Reading.{Root, Named, Found, read_origin, origin_of, inner_origin}
 

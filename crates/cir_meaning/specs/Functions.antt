@@ -1,7 +1,9 @@
 -- The rules for functions that are called when the program runs: they return numbers, their
 -- dimensions are numbers as they are written, their array arguments are places, and for the shapes
 -- of their arguments all shapes fit.
-use Rattle.std.specs.Prelude.{ℕ, zero, suc, ◌+◌, ◌==◌, Bool, true, false, not, ◌&&◌, if◌then◌else◌, nat_lt, List, [], ◌∷◌, map, length, sum_by, Option, Some, None, is_some, slice_get, unwrap_or}
+use Rattle.std.specs.Prelude.{ℕ, zero, suc, ◌+◌, ◌==◌, Bool, true, false, not, ◌&&◌, if◌then◌else◌}
+use Rattle.std.specs.Prelude.{nat_lt, List, [], ◌∷◌, map, length, sum_by, Option, Some, None}
+use Rattle.std.specs.Prelude.{is_some, slice_get, unwrap_or}
 use Rattle.std.specs.List.{list_any, list_all}
 use Rattle.cir_ast.specs.declared.program.Spot.{Spot}
 use Rattle.cir_ast.specs.declared.program.Meant.{Meant}
@@ -10,13 +12,17 @@ use Rattle.cir_ast.specs.declared.refusal.Form.TheVariants.{RunArray, RunDimensi
 use Rattle.cir_ast.specs.declared.refusal.Kind.{Kind}
 use Rattle.cir_ast.specs.declared.refusal.Kind.TheVariants.{NotInProfile, ShapeDiffers}
 use Rattle.cir_ast.specs.Program.{Program}
-use Rattle.cir_ast.specs.Tree.{Expr, Number, Place, Call, Anonymous, Parentheses, Array, Unary, Binary, Choice, Exprs, none, more, Accessors, done, index, member, Variable, Assign, Set, Statements}
+use Rattle.cir_ast.specs.Tree.{Expr, Number, Place, Call, Anonymous, Parentheses, Array, Unary}
+use Rattle.cir_ast.specs.Tree.{Binary, Choice, Exprs, none, more, Accessors, done, index, member}
+use Rattle.cir_ast.specs.Tree.{Variable, Assign, Set, Statements}
 use Rattle.cir_meaning.specs.Places.{left_of}
 use Rattle.cir_meaning.specs.Limits.{size_of}
 use Rattle.cir_meaning.specs.Arrays.{Want, Scalar, Whole, fits, same_dims}
 use Rattle.cir_meaning.specs.Costs.{Made}
-use Rattle.cir_meaning.specs.Texts.{list_of, all_wanted, all_variables, all_assigns, calls_in, literal_number}
-use Rattle.cir_meaning.specs.Reached.{body_of, declaration_of, indices_count, all_reached, has_run_array, has_run_dimension, has_misplaced}
+use Rattle.cir_meaning.specs.Texts.{list_of, all_wanted, all_variables, all_assigns, calls_in}
+use Rattle.cir_meaning.specs.Texts.{literal_number}
+use Rattle.cir_meaning.specs.Reached.{body_of, declaration_of, indices_count, all_reached}
+use Rattle.cir_meaning.specs.Reached.{has_run_array, has_run_dimension, has_misplaced}
 
 -- the fourth rule
 abbrev pub variable_dims : List (List ℕ) → List (Variable Meant) → ℕ → List ℕ

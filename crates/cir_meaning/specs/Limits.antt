@@ -1,9 +1,11 @@
 -- What is counted while a program is compiled, and the limits, in the order in which they are
 -- tested.
-use Rattle.std.specs.Prelude.{ℕ, ◌+◌, ◌-◌, ◌^◌, ◌==◌, max, min, Bool, if◌then◌else◌, nat_lt, nat_le, List, [], ◌∷◌, fold, Ok}
+use Rattle.std.specs.Prelude.{ℕ, ◌+◌, ◌-◌, ◌^◌, ◌==◌, max, min, Bool, if◌then◌else◌, nat_lt, nat_le}
+use Rattle.std.specs.Prelude.{List, [], ◌∷◌, fold, Ok}
 use Rattle.cir_ast.specs.declared.refusal.Kind.TheVariants.{Limit}
 use Rattle.cir_ast.specs.declared.refusal.Which.{Which}
-use Rattle.cir_ast.specs.declared.refusal.Which.TheVariants.{Signals, Constraints, Terms, Elements, Cells, Steps, Nodes, Reads, Statements}
+use Rattle.cir_ast.specs.declared.refusal.Which.TheVariants.{Signals, Constraints, Terms, Elements}
+use Rattle.cir_ast.specs.declared.refusal.Which.TheVariants.{Cells, Steps, Nodes, Reads, Statements}
 use Rattle.cir_meaning.specs.Tried.{Where, Tried, refused}
 use Rattle.cir_meaning.specs.Places.{elements}
 

@@ -12,7 +12,8 @@ use Rattle.cir_ast.specs.declared.operators.Compound.{Compound}
 use Rattle.cir_ast.specs.declared.operators.Compound.TheVariants as compound
 use Rattle.cir_ast.specs.declared.refusal.Kind.TheVariants.{ZeroDivisor}
 use Rattle.cir_meaning.specs.Tried.{Where, Tried, refused}
-use Rattle.cir_meaning.specs.Values.{Value, Opaque, Lazy, Decided, Right, Shaded, Side, First, Second, Both, and_left, or_left, lazy_result, result_of}
+use Rattle.cir_meaning.specs.Values.{Value, Opaque, Lazy, Decided, Right, Shaded, Side, First}
+use Rattle.cir_meaning.specs.Values.{Second, Both, and_left, or_left, lazy_result, result_of}
 
 abbrev pub unary_of : Unary → Op1
 unary_of unary.Negate = op1.Neg

@@ -1,18 +1,23 @@
 -- Functions that are called when the program runs: which are reached, that they return numbers,
 -- that their dimensions are numbers as they are written, and that array literals stand where they
 -- may.
-use Rattle.std.specs.Prelude.{ℕ, zero, suc, ◌+◌, ◌-◌, ◌==◌, ◌^◌, Bool, true, false, not, ◌&&◌, ◌||◌, if◌then◌else◌, nat_le, List, [], ◌∷◌, ◌++◌, map, filter, flat_map, length, Option, Some, None, is_none, slice_get, unwrap_or, bytes_eq}
+use Rattle.std.specs.Prelude.{ℕ, zero, suc, ◌+◌, ◌-◌, ◌==◌, ◌^◌, Bool, true, false, not, ◌&&◌, ◌||◌}
+use Rattle.std.specs.Prelude.{if◌then◌else◌, nat_le, List, [], ◌∷◌, ◌++◌, map, filter, flat_map}
+use Rattle.std.specs.Prelude.{length, Option, Some, None, is_none, slice_get, unwrap_or, bytes_eq}
 use Rattle.std.specs.List.{list_any, list_all}
 use Rattle.cir_ast.specs.declared.program.Spot.{Spot}
 use Rattle.cir_ast.specs.declared.program.Meant.{Meant}
 use Rattle.cir_ast.specs.declared.program.Meant.TheVariants as meant
 use Rattle.cir_ast.specs.Program.{Program, Function}
-use Rattle.cir_ast.specs.Tree.{Expr, Number, Place, Call, Anonymous, Parentheses, Array, Unary, Binary, Choice, Exprs, none, more, Accessors, done, index, member, Variable, Statements, empty}
+use Rattle.cir_ast.specs.Tree.{Expr, Number, Place, Call, Anonymous, Parentheses, Array, Unary}
+use Rattle.cir_ast.specs.Tree.{Binary, Choice, Exprs, none, more, Accessors, done, index, member}
+use Rattle.cir_ast.specs.Tree.{Variable, Statements, empty}
 use Rattle.cir_meaning.specs.Arrays.{Want, Scalar, Whole}
 use Rattle.cir_meaning.specs.Evaluate.{is_literal}
 use Rattle.cir_meaning.specs.Unknown.{variable_of}
 use Rattle.cir_meaning.specs.Costs.{Made}
-use Rattle.cir_meaning.specs.Texts.{list_of, all_wanted, all_returned, all_variables, calls_in, literal_number}
+use Rattle.cir_meaning.specs.Texts.{list_of, all_wanted, all_returned, all_variables, calls_in}
+use Rattle.cir_meaning.specs.Texts.{literal_number}
 
 abbrev pub body_of : Program → ℕ → Statements Spot Meant
 body_of p f = of_function (slice_get p.functions f)

@@ -1,14 +1,18 @@
 -- What a name is read as: a variable, an own signal, or a signal of a component.
-use Rattle.std.specs.Prelude.{ℕ, suc, Bool, true, ◌&&◌, not, ◌||◌, if◌then◌else◌, List, [], ◌∷◌, Option, Some, None, Ok, is_some, slice_get, bytes_eq}
+use Rattle.std.specs.Prelude.{ℕ, suc, Bool, true, ◌&&◌, not, ◌||◌, if◌then◌else◌, List, [], ◌∷◌}
+use Rattle.std.specs.Prelude.{Option, Some, None, Ok, is_some, slice_get, bytes_eq}
 use Rattle.std.specs.List.{list_all}
 use Rattle.cir_ast.specs.declared.program.Meant.{Meant}
 use Rattle.cir_ast.specs.declared.program.Meant.TheVariants as meant
-use Rattle.cir_ast.specs.declared.refusal.Kind.TheVariants.{UnknownName, WrongKind, UnknownIndex, ReadBeforeWrite}
+use Rattle.cir_ast.specs.declared.refusal.Kind.TheVariants.{UnknownName, WrongKind, UnknownIndex}
+use Rattle.cir_ast.specs.declared.refusal.Kind.TheVariants.{ReadBeforeWrite}
 use Rattle.cir_meaning.specs.Tried.{Where, Tried, next, refused, needed, found}
 use Rattle.cir_meaning.specs.Places.{is_inside, all_known}
 use Rattle.cir_meaning.specs.Arrays.{Datum, Want, Scalar, reach, read_part, item_at, single}
 use Rattle.cir_meaning.specs.Values.{Opaque}
-use Rattle.cir_meaning.specs.Frame.{SignalEntry, Signals, Part, ComponentEntry, Frame, is_input, is_inner, is_written, is_fed, signal_item, entry_at, variable_at}
+use Rattle.cir_meaning.specs.Frame.{SignalEntry, Signals, Part, ComponentEntry, Frame, is_input}
+use Rattle.cir_meaning.specs.Frame.{is_inner, is_written, is_fed, signal_item, entry_at}
+use Rattle.cir_meaning.specs.Frame.{variable_at}
 
 -- a variable, a signal with whether it may be read at all, or what no known index means
 pub data Origin : Type 0 where

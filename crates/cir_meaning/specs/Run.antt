@@ -1,12 +1,15 @@
 -- What the run of a template's body keeps, and how its statements read: what the compile meaning
 -- has here, and numbers beside it. A variable's element has its known value, or else a number; a
 -- signal may have a number.
-use Rattle.std.specs.Prelude.{zero, suc, ◌&&◌, ℕ, true, not, if◌then◌else◌, List, [], ◌∷◌, map, length, Option, Some, None, Result, Ok, Err, slice_get, slice_index, nat_eq, slice_set}
+use Rattle.std.specs.Prelude.{zero, suc, ◌&&◌, ℕ, true, not, if◌then◌else◌, List, [], ◌∷◌, map}
+use Rattle.std.specs.Prelude.{length, Option, Some, None, Result, Ok, Err, slice_get, slice_index}
+use Rattle.std.specs.Prelude.{nat_eq, slice_set}
 use Rattle.cir_meaning.specs.Tried.{Where, Refused, Tried}
 use Rattle.cir_meaning.specs.Places.{is_inside, places_of, numbers_from}
 use Rattle.cir_meaning.specs.Arrays.{Shaped, Datum, Whole, is_all_known, single}
 use Rattle.cir_meaning.specs.Values.{Value, Known, Linear, Quadratic, Opaque}
-use Rattle.cir_meaning.specs.Frame.{SignalEntry, Signals, Part, ComponentEntry, World, State, Context, is_inner, entry_at, uncounted}
+use Rattle.cir_meaning.specs.Frame.{SignalEntry, Signals, Part, ComponentEntry, World, State}
+use Rattle.cir_meaning.specs.Frame.{Context, is_inner, entry_at, uncounted}
 use Rattle.cir_meaning.specs.Reading.{find_signal}
 use Rattle.cir_meaning.specs.Evaluate.{value_in}
 use Rattle.cir_meaning.specs.RunValues.{Ran, Numbers, Environment, Store, index_out, missing}

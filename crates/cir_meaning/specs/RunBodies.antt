@@ -1,5 +1,7 @@
 -- The run of statements, of bodies, and of a program.
-use Rattle.std.specs.Prelude.{ℕ, zero, suc, ◌+◌, ◌-◌, ◌==◌, false, if◌then◌else◌, List, [], ◌∷◌, ◌++◌, map, nat_lt, nat_le, ◌&&◌, Option, Some, None, Ok, Err, slice_get, codes, length}
+use Rattle.std.specs.Prelude.{ℕ, zero, suc, ◌+◌, ◌-◌, ◌==◌, false, if◌then◌else◌, List, [], ◌∷◌}
+use Rattle.std.specs.Prelude.{◌++◌, map, nat_lt, nat_le, ◌&&◌, Option, Some, None, Ok, Err}
+use Rattle.std.specs.Prelude.{slice_get, codes, length}
 use Rattle.std.specs.Fmt.{decimal}
 use Rattle.cir_ast.specs.declared.program.Spot.{Spot}
 use Rattle.cir_ast.specs.declared.program.Meant.{Meant}
@@ -8,21 +10,32 @@ use Rattle.cir_ast.specs.declared.operators.Direction.{Direction}
 use Rattle.cir_ast.specs.declared.refusal.Kind.TheVariants.{WrongKind, Limit}
 use Rattle.cir_ast.specs.declared.refusal.Which.TheVariants.{Statements as StatementCount}
 use Rattle.cir_ast.specs.Program.{Program, Template, Main}
-use Rattle.cir_ast.specs.Tree.{Expr, LogArgument, Words, LogValue, Assigned, Statement, Block, If, IfElse, While, For, Return, Assert, Log, Ended, Statements, empty, then_more}
+use Rattle.cir_ast.specs.Tree.{Expr, LogArgument, Words, LogValue, Assigned, Statement, Block, If}
+use Rattle.cir_ast.specs.Tree.{IfElse, While, For, Return, Assert, Log, Ended, Statements, empty}
+use Rattle.cir_ast.specs.Tree.{then_more}
 use Rattle.cir_meaning.specs.Tried.{Where, next, refused, found}
 use Rattle.cir_meaning.specs.Places.{numbers_from}
 use Rattle.cir_meaning.specs.Arrays.{Datum, Scalar, the_item}
-use Rattle.cir_meaning.specs.Frame.{SignalEntry, Signals, Part, is_input, entry_at, Group, Outputs, PublicInputs, PrivateInputs, Others, Sizes, before_group, size_in, World, State, Caller, Maker, Context, at}
+use Rattle.cir_meaning.specs.Frame.{SignalEntry, Signals, Part, is_input, entry_at, Group, Outputs}
+use Rattle.cir_meaning.specs.Frame.{PublicInputs, PrivateInputs, Others, Sizes, before_group}
+use Rattle.cir_meaning.specs.Frame.{size_in, World, State, Caller, Maker, Context, at}
 use Rattle.cir_meaning.specs.Evaluate.{value_in, arguments_in}
 use Rattle.cir_meaning.specs.Unknown.{Fault, first_of, assign_fault, fault_of, outer_assigned}
 use Rattle.cir_meaning.specs.Scan.{undecided}
-use Rattle.cir_meaning.specs.Statement.{condition, decided, most_turns, loop_of, first_simple, assert_value, log_values}
-use Rattle.cir_meaning.specs.Bodies.{template_context, template_state, ended, call_at, make_at, most_open, numbered_others}
-use Rattle.cir_meaning.specs.Compile.{main_group, main_context, main_state, the_main, exec_main, final_number}
-use Rattle.cir_meaning.specs.RunValues.{Ran, Environment, Store, gives, number, number_in, assert_fails, stored}
-use Rattle.cir_meaning.specs.RunStatements.{StepFlow, StepGoing, StepReturned, step_statement, run_call}
-use Rattle.cir_meaning.specs.Run.{put_numbers, RunTried, refusing, Wires, RunPart, Run, store_of, environment, stepping, Table}
-use Rattle.cir_meaning.specs.RunSimple.{Outcome, Runner, Running, with_known, run_counted, run_simple}
+use Rattle.cir_meaning.specs.Statement.{condition, decided, most_turns, loop_of, first_simple}
+use Rattle.cir_meaning.specs.Statement.{assert_value, log_values}
+use Rattle.cir_meaning.specs.Bodies.{template_context, template_state, ended, call_at, make_at}
+use Rattle.cir_meaning.specs.Bodies.{most_open, numbered_others}
+use Rattle.cir_meaning.specs.Compile.{main_group, main_context, main_state, the_main, exec_main}
+use Rattle.cir_meaning.specs.Compile.{final_number}
+use Rattle.cir_meaning.specs.RunValues.{Ran, Environment, Store, gives, number, number_in}
+use Rattle.cir_meaning.specs.RunValues.{assert_fails, stored}
+use Rattle.cir_meaning.specs.RunStatements.{StepFlow, StepGoing, StepReturned, step_statement}
+use Rattle.cir_meaning.specs.RunStatements.{run_call}
+use Rattle.cir_meaning.specs.Run.{put_numbers, RunTried, refusing, Wires, RunPart, Run, store_of}
+use Rattle.cir_meaning.specs.Run.{environment, stepping, Table}
+use Rattle.cir_meaning.specs.RunSimple.{Outcome, Runner, Running, with_known, run_counted}
+use Rattle.cir_meaning.specs.RunSimple.{run_simple}
 use Rattle.cir_meaning.specs.Values.{Value}
 
 -- the variables behind a statement; in a template none returns

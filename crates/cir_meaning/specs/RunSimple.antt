@@ -1,24 +1,33 @@
 -- The run of simple statements: each is executed at compile time too, and what isn't known there is
 -- a step.
-use Rattle.std.specs.Prelude.{ℕ, ◌==◌, Bool, false, not, ◌&&◌, if◌then◌else◌, List, [], ◌∷◌, ◌++◌, length, Option, Some, None, Ok, Err, slice_get, slice_set}
+use Rattle.std.specs.Prelude.{ℕ, ◌==◌, Bool, false, not, ◌&&◌, if◌then◌else◌, List, [], ◌∷◌, ◌++◌}
+use Rattle.std.specs.Prelude.{length, Option, Some, None, Ok, Err, slice_get, slice_set}
 use Rattle.cir_ast.specs.declared.program.Spot.{Spot}
 use Rattle.cir_ast.specs.declared.program.Meant.{Meant}
 use Rattle.cir_ast.specs.declared.program.Meant.TheVariants as meant
 use Rattle.cir_ast.specs.declared.operators.Arrow.{Arrow}
 use Rattle.cir_ast.specs.declared.operators.Direction.{Direction}
 use Rattle.cir_ast.specs.declared.refusal.Kind.TheVariants.{WrongKind}
-use Rattle.cir_ast.specs.Tree.{Expr, Accessors, done, Variable, SignalValue, Nothing, Given, Signal, Assign, Set, Left, Slot, SlotPlace, SlotDiscard, Target, Discard, Slots, Simple, Vars, Signals, Declared, Created, Assigned, Constrain, TargetLeft}
+use Rattle.cir_ast.specs.Tree.{Expr, Accessors, done, Variable, SignalValue, Nothing, Given, Signal}
+use Rattle.cir_ast.specs.Tree.{Assign, Set, Left, Slot, SlotPlace, SlotDiscard, Target, Discard}
+use Rattle.cir_ast.specs.Tree.{Slots, Simple, Vars, Signals, Declared, Created, Assigned, Constrain}
+use Rattle.cir_ast.specs.Tree.{TargetLeft}
 use Rattle.cir_meaning.specs.Tried.{Where, Tried, next, refused}
 use Rattle.cir_meaning.specs.Arrays.{Datum}
 use Rattle.cir_meaning.specs.Frame.{Part, World, State, Context, at, is_fed, counted}
 use Rattle.cir_meaning.specs.Evaluate.{dims_in}
 use Rattle.cir_meaning.specs.Anonymous.{Lifted, lift_simple}
-use Rattle.cir_meaning.specs.Writing.{plain, variable_assignment, is_unknown, signals_of, SignalAssignment, signal_assignment}
-use Rattle.cir_meaning.specs.Declaring.{declare_variable, declare_signal, declare_component, Creation, creation, create, path_of}
-use Rattle.cir_meaning.specs.Simple.{set_variable, set_signal, equal, component_declaration, dropped, values_of}
-use Rattle.cir_meaning.specs.RunValues.{Ran, Numbers, Environment, Store, number, number_in, constraint_fails, stored}
+use Rattle.cir_meaning.specs.Writing.{plain, variable_assignment, is_unknown, signals_of}
+use Rattle.cir_meaning.specs.Writing.{SignalAssignment, signal_assignment}
+use Rattle.cir_meaning.specs.Declaring.{declare_variable, declare_signal, declare_component}
+use Rattle.cir_meaning.specs.Declaring.{Creation, creation, create, path_of}
+use Rattle.cir_meaning.specs.Simple.{set_variable, set_signal, equal, component_declaration}
+use Rattle.cir_meaning.specs.Simple.{dropped, values_of}
+use Rattle.cir_meaning.specs.RunValues.{Ran, Numbers, Environment, Store, number, number_in}
+use Rattle.cir_meaning.specs.RunValues.{constraint_fails, stored}
 use Rattle.cir_meaning.specs.RunStatements.{step_set}
-use Rattle.cir_meaning.specs.Run.{put_numbers, write_wires, RunTried, refusing, Wires, Table, RunPart, Run, store_of, environment, stepping}
+use Rattle.cir_meaning.specs.Run.{put_numbers, write_wires, RunTried, refusing, Wires, Table}
+use Rattle.cir_meaning.specs.Run.{RunPart, Run, store_of, environment, stepping}
 
 -- what a body's run gives: the numbers of its own signals, and of those in it; and the log lines
 pub record Outcome : Type 0 where

@@ -1,15 +1,20 @@
 -- The execution of a statement when it runs, with numbers, and of the functions that it calls. A
 -- turn and a call cost a unit each.
-use Rattle.std.specs.Prelude.{ℕ, zero, suc, ◌-◌, ◌==◌, if◌then◌else◌, List, [], ◌∷◌, ◌++◌, length, replicate, Option, Some, None, Err, slice_get, slice_set}
+use Rattle.std.specs.Prelude.{ℕ, zero, suc, ◌-◌, ◌==◌, if◌then◌else◌, List, [], ◌∷◌, ◌++◌, length}
+use Rattle.std.specs.Prelude.{replicate, Option, Some, None, Err, slice_get, slice_set}
 use Rattle.cir_ast.specs.declared.program.Spot.{Spot}
 use Rattle.cir_ast.specs.declared.program.Meant.{Meant}
 use Rattle.cir_ast.specs.declared.program.Meant.TheVariants as meant
 use Rattle.cir_ast.specs.Program.{Program, Function}
-use Rattle.cir_ast.specs.Tree.{Expr, Accessors, done, Variable, Assign, Set, First, FirstVars, FirstAssign, Simple, Vars, Assigned, Statement, Block, If, IfElse, While, For, Return, Assert, Log, Ended, Statements, empty, then_more}
+use Rattle.cir_ast.specs.Tree.{Expr, Accessors, done, Variable, Assign, Set, First, FirstVars}
+use Rattle.cir_ast.specs.Tree.{FirstAssign, Simple, Vars, Assigned, Statement, Block, If, IfElse}
+use Rattle.cir_ast.specs.Tree.{While, For, Return, Assert, Log, Ended, Statements, empty, then_more}
 use Rattle.cir_meaning.specs.Tried.{next}
 use Rattle.cir_meaning.specs.Arrays.{single, filled, put_items}
 use Rattle.cir_meaning.specs.Writing.{plain}
-use Rattle.cir_meaning.specs.RunValues.{Ran, Numbers, Environment, Store, stored, gives, number, number_in, index_numbers, dims_numbers, bounded, the_number, missing, assert_fails, fuel_spent, too_deep}
+use Rattle.cir_meaning.specs.RunValues.{Ran, Numbers, Environment, Store, stored, gives, number}
+use Rattle.cir_meaning.specs.RunValues.{number_in, index_numbers, dims_numbers, bounded, the_number}
+use Rattle.cir_meaning.specs.RunValues.{missing, assert_fails, fuel_spent, too_deep}
 
 -- a statement goes on to the next, or returns from its function
 pub data StepFlow : Type 0 where

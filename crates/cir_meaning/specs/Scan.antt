@@ -5,7 +5,9 @@ use Rattle.cir_ast.specs.declared.program.Spot.{Spot}
 use Rattle.cir_ast.specs.declared.program.Meant.{Meant}
 use Rattle.cir_ast.specs.declared.program.Meant.TheVariants as meant
 use Rattle.cir_ast.specs.declared.refusal.Kind.TheVariants.{WrongKind, ShapeDiffers}
-use Rattle.cir_ast.specs.Tree.{Expr, Accessors, done, Variable, Assign, Set, First, FirstVars, FirstAssign, Simple, Vars, Assigned, Statement, Block, If, IfElse, While, For, Return, Assert, Log, Ended, Statements, empty, then_more}
+use Rattle.cir_ast.specs.Tree.{Expr, Accessors, done, Variable, Assign, Set, First, FirstVars}
+use Rattle.cir_ast.specs.Tree.{FirstAssign, Simple, Vars, Assigned, Statement, Block, If, IfElse}
+use Rattle.cir_ast.specs.Tree.{While, For, Return, Assert, Log, Ended, Statements, empty, then_more}
 use Rattle.cir_meaning.specs.Tried.{Where, Tried, next, refused, needed}
 use Rattle.cir_meaning.specs.Limits.{with_array}
 use Rattle.cir_meaning.specs.Arrays.{Scalar, Whole, reach, filled, forgotten, same_dims}

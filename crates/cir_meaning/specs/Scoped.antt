@@ -1,13 +1,22 @@
 -- What loading tells of the body of a template: each variable that is named is in scope, each call
 -- means a function, and declarations have their numbers in the order of the text.
-use Rattle.std.specs.Prelude.{◌≡◌, ℕ, ◌+◌, ◌==◌, ◌||◌, nat_lt, Bool, true, List, [], ◌∷◌, Option, Some, None, length, ⊤}
+use Rattle.std.specs.Prelude.{◌≡◌, ℕ, ◌+◌, ◌==◌, ◌||◌, nat_lt, Bool, true, List, [], ◌∷◌, Option}
+use Rattle.std.specs.Prelude.{Some, None, length, ⊤}
 use Rattle.std.specs.List.{AllByRecursion}
 use Rattle.cir_ast.specs.declared.operators.Direction.{Direction}
 use Rattle.cir_ast.specs.declared.program.Spot.{Spot}
 use Rattle.cir_ast.specs.declared.program.Meant.{Meant}
 use Rattle.cir_ast.specs.declared.program.Meant.TheVariants as meant
 use Rattle.cir_ast.specs.Program.{Program, Template}
-use Rattle.cir_ast.specs.Tree.{Expr, Number, Place, Call, Anonymous, Parentheses, Array, Unary, Binary, Choice, Exprs, none, more, Accessors, done, index, member, Inputs, Listed, Named, NamedInputs, unnamed, named, Variable, SignalValue, Nothing, Given, Signal, Assign, Set, Compound, Left, Increment, Decrement, First, FirstVars, FirstAssign, LogArgument, Words, LogValue, Source, One, Values, Simple, Vars, Signals, Declared, Created, Assigned, Constrain, Right, TargetLeft, TargetRight, Alone, Statement, Block, If, IfElse, While, For, Return, Assert, Log, Ended, Statements, empty, then_more}
+use Rattle.cir_ast.specs.Tree.{Expr, Number, Place, Call, Anonymous, Parentheses, Array, Unary}
+use Rattle.cir_ast.specs.Tree.{Binary, Choice, Exprs, none, more, Accessors, done, index, member}
+use Rattle.cir_ast.specs.Tree.{Inputs, Listed, Named, NamedInputs, unnamed, named, Variable}
+use Rattle.cir_ast.specs.Tree.{SignalValue, Nothing, Given, Signal, Assign, Set, Compound, Left}
+use Rattle.cir_ast.specs.Tree.{Increment, Decrement, First, FirstVars, FirstAssign, LogArgument}
+use Rattle.cir_ast.specs.Tree.{Words, LogValue, Source, One, Values, Simple, Vars, Signals}
+use Rattle.cir_ast.specs.Tree.{Declared, Created, Assigned, Constrain, Right, TargetLeft}
+use Rattle.cir_ast.specs.Tree.{TargetRight, Alone, Statement, Block, If, IfElse, While, For, Return}
+use Rattle.cir_ast.specs.Tree.{Assert, Log, Ended, Statements, empty, then_more}
 use Rattle.cir_meaning.specs.SignalFree.{IsFunction, AreFunctionsFree}
 
 -- how many functions the program has; which variables are in scope, by number; and how many

@@ -1,19 +1,25 @@
 -- The execution of simple statements. Limits are tested at the end of each, with all that it adds.
-use Rattle.std.specs.Prelude.{ℕ, false, if◌then◌else◌, List, [], ◌∷◌, length, Option, Some, None, Ok}
+use Rattle.std.specs.Prelude.{ℕ, false, if◌then◌else◌, List, [], ◌∷◌, length, Option, Some, None}
+use Rattle.std.specs.Prelude.{Ok}
 use Rattle.cir_ast.specs.declared.program.Spot.{Spot}
 use Rattle.cir_ast.specs.declared.program.Meant.{Meant}
 use Rattle.cir_ast.specs.declared.program.Meant.TheVariants as meant
 use Rattle.cir_ast.specs.declared.operators.Arrow.{Arrow}
 use Rattle.cir_ast.specs.declared.operators.Direction.{Direction}
 use Rattle.cir_ast.specs.declared.refusal.Kind.TheVariants.{WrongKind}
-use Rattle.cir_ast.specs.Tree.{Expr, Accessors, done, Variable, SignalValue, Nothing, Given, Signal, Component, Assign, Set, Left, Slot, SlotPlace, SlotDiscard, Target, Discard, Slots, Source, One, Values, Simple, Vars, Signals, Declared, Created, Assigned, Constrain, TargetLeft}
+use Rattle.cir_ast.specs.Tree.{Expr, Accessors, done, Variable, SignalValue, Nothing, Given, Signal}
+use Rattle.cir_ast.specs.Tree.{Component, Assign, Set, Left, Slot, SlotPlace, SlotDiscard, Target}
+use Rattle.cir_ast.specs.Tree.{Discard, Slots, Source, One, Values, Simple, Vars, Signals, Declared}
+use Rattle.cir_ast.specs.Tree.{Created, Assigned, Constrain, TargetLeft}
 use Rattle.cir_meaning.specs.Tried.{Where, Tried, next, refused}
 use Rattle.cir_meaning.specs.Arrays.{Scalar, Whole}
 use Rattle.cir_meaning.specs.Frame.{State, Context, at, counted}
 use Rattle.cir_meaning.specs.Evaluate.{scalar, value_in, dims_in}
 use Rattle.cir_meaning.specs.Anonymous.{Lifted, lift_simple}
-use Rattle.cir_meaning.specs.Writing.{plain, variable_assignment, is_unknown, write_variable, signal_assignment, write_signal, constrained}
-use Rattle.cir_meaning.specs.Declaring.{declare_variable, declare_signal, declare_component, creation, create}
+use Rattle.cir_meaning.specs.Writing.{plain, variable_assignment, is_unknown, write_variable}
+use Rattle.cir_meaning.specs.Writing.{signal_assignment, write_signal, constrained}
+use Rattle.cir_meaning.specs.Declaring.{declare_variable, declare_signal, declare_component}
+use Rattle.cir_meaning.specs.Declaring.{creation, create}
 use Rattle.cir_meaning.specs.Costs.{Cost}
 use Rattle.cir_meaning.specs.Steps.{stepped, variable_cost, signal_cost, equal_cost, new_cells}
 

@@ -4,7 +4,9 @@ use Rattle.cir_ast.specs.declared.program.Spot.{Spot}
 use Rattle.cir_ast.specs.declared.program.Meant.{Meant}
 use Rattle.cir_ast.specs.declared.refusal.Kind.TheVariants.{AssertFalse, Limit}
 use Rattle.cir_ast.specs.declared.refusal.Which.TheVariants.{Statements as StatementCount}
-use Rattle.cir_ast.specs.Tree.{Expr, First, FirstVars, FirstAssign, Assign, LogArgument, Words, LogValue, Simple, Vars, Assigned, Statement, Block, If, IfElse, While, For, Return, Assert, Log, Ended, Statements, empty, then_more}
+use Rattle.cir_ast.specs.Tree.{Expr, First, FirstVars, FirstAssign, Assign, LogArgument, Words}
+use Rattle.cir_ast.specs.Tree.{LogValue, Simple, Vars, Assigned, Statement, Block, If, IfElse}
+use Rattle.cir_ast.specs.Tree.{While, For, Return, Assert, Log, Ended, Statements, empty, then_more}
 use Rattle.cir_meaning.specs.Tried.{Where, Tried, next, refused}
 use Rattle.cir_meaning.specs.Arrays.{Datum, Scalar, Whole}
 use Rattle.cir_meaning.specs.Values.{Value, Known, Linear, Quadratic, Opaque}

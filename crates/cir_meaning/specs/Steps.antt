@@ -1,11 +1,16 @@
 -- The run-time statements, each a step: what each costs is counted, and the functions that it calls
 -- are tested, here and here alone.
-use Rattle.std.specs.Prelude.{ℕ, ◌+◌, ◌==◌, Bool, true, false, not, ◌&&◌, ◌||◌, if◌then◌else◌, List, [], ◌∷◌, ◌++◌, filter, flat_map, sum_by, count_by, Option, Some, None, Ok}
+use Rattle.std.specs.Prelude.{ℕ, ◌+◌, ◌==◌, Bool, true, false, not, ◌&&◌, ◌||◌, if◌then◌else◌, List}
+use Rattle.std.specs.Prelude.{[], ◌∷◌, ◌++◌, filter, flat_map, sum_by, count_by, Option, Some, None}
+use Rattle.std.specs.Prelude.{Ok}
 use Rattle.std.specs.List.{list_any}
 use Rattle.cir_ast.specs.declared.program.Spot.{Spot}
 use Rattle.cir_ast.specs.declared.program.Meant.{Meant}
 use Rattle.cir_ast.specs.declared.refusal.Kind.{Kind}
-use Rattle.cir_ast.specs.Tree.{Expr, Accessors, Variable, Assign, Set, Compound, Left, Increment, Decrement, First, FirstVars, FirstAssign, LogArgument, Words, LogValue, Simple, Vars, Assigned, Statement, Block, If, IfElse, While, For, Return, Assert, Log, Ended, Statements, empty, then_more}
+use Rattle.cir_ast.specs.Tree.{Expr, Accessors, Variable, Assign, Set, Compound, Left, Increment}
+use Rattle.cir_ast.specs.Tree.{Decrement, First, FirstVars, FirstAssign, LogArgument, Words}
+use Rattle.cir_ast.specs.Tree.{LogValue, Simple, Vars, Assigned, Statement, Block, If, IfElse}
+use Rattle.cir_ast.specs.Tree.{While, For, Return, Assert, Log, Ended, Statements, empty, then_more}
 use Rattle.cir_meaning.specs.Tried.{Where, Tried, refused}
 use Rattle.cir_meaning.specs.Places.{elements, numbers_from}
 use Rattle.cir_meaning.specs.Limits.{Counts, standing, count_sum}
@@ -13,7 +18,8 @@ use Rattle.cir_meaning.specs.Arrays.{is_known}
 use Rattle.cir_meaning.specs.Frame.{State, Context, variable_at, adding}
 use Rattle.cir_meaning.specs.Writing.{VariableAssignment}
 use Rattle.cir_meaning.specs.Unknown.{writes, declares, outer_assigned}
-use Rattle.cir_meaning.specs.Costs.{Cell, Element, Wire, Cost, node, both, cost_of, indices_cost, unknown_at}
+use Rattle.cir_meaning.specs.Costs.{Cell, Element, Wire, Cost, node, both, cost_of, indices_cost}
+use Rattle.cir_meaning.specs.Costs.{unknown_at}
 use Rattle.cir_meaning.specs.Texts.{wanted_in, list_of}
 use Rattle.cir_meaning.specs.Functions.{function_fault, function_elements}
 

@@ -5,7 +5,11 @@ use Rattle.gold_field.specs.declared.gold.TheConstants.{P}
 use Rattle.cir_ast.specs.declared.program.Spot.{Spot}
 use Rattle.cir_ast.specs.declared.program.Meant.{Meant}
 use Rattle.cir_ast.specs.declared.program.Meant.TheVariants as meant
-use Rattle.cir_ast.specs.Tree.{Expr, Number, Place, Call, Anonymous, Parentheses, Array, Unary, Binary, Choice, Exprs, none, more, Accessors, done, index, member, Variable, Assign, Set, First, FirstVars, FirstAssign, Simple, Vars, Assigned, Statement, Block, If, IfElse, While, For, Return, Assert, Log, Ended, Statements, empty, then_more}
+use Rattle.cir_ast.specs.Tree.{Expr, Number, Place, Call, Anonymous, Parentheses, Array, Unary}
+use Rattle.cir_ast.specs.Tree.{Binary, Choice, Exprs, none, more, Accessors, done, index, member}
+use Rattle.cir_ast.specs.Tree.{Variable, Assign, Set, First, FirstVars, FirstAssign, Simple, Vars}
+use Rattle.cir_ast.specs.Tree.{Assigned, Statement, Block, If, IfElse, While, For, Return, Assert}
+use Rattle.cir_ast.specs.Tree.{Log, Ended, Statements, empty, then_more}
 use Rattle.cir_meaning.specs.Arrays.{Want, Scalar, Whole}
 use Rattle.cir_meaning.specs.Writing.{plain}
 

@@ -1,6 +1,7 @@
 -- Statements under a condition that isn't known: which may stand there, and which variables they
 -- may assign.
-use Rattle.std.specs.Prelude.{ℕ, not, if◌then◌else◌, ◌==◌, nat_lt, List, [], ◌∷◌, ◌++◌, filter, flat_map, Option, Some, None}
+use Rattle.std.specs.Prelude.{ℕ, not, if◌then◌else◌, ◌==◌, nat_lt, List, [], ◌∷◌, ◌++◌, filter}
+use Rattle.std.specs.Prelude.{flat_map, Option, Some, None}
 use Rattle.std.specs.List.{list_any}
 use Rattle.cir_ast.specs.declared.program.Spot.{Spot}
 use Rattle.cir_ast.specs.declared.program.Meant.{Meant}
@@ -8,7 +9,10 @@ use Rattle.cir_ast.specs.declared.program.Meant.TheVariants as meant
 use Rattle.cir_ast.specs.declared.refusal.Form.TheVariants.{LogPlace}
 use Rattle.cir_ast.specs.declared.refusal.Kind.{Kind}
 use Rattle.cir_ast.specs.declared.refusal.Kind.TheVariants.{UnknownControl, NotInProfile}
-use Rattle.cir_ast.specs.Tree.{Variable, Assign, Set, Compound, Left, Increment, Decrement, First, FirstVars, FirstAssign, Simple, Vars, Assigned, Statement, Block, If, IfElse, While, For, Return, Assert, Log, Ended, Statements, empty, then_more}
+use Rattle.cir_ast.specs.Tree.{Variable, Assign, Set, Compound, Left, Increment, Decrement, First}
+use Rattle.cir_ast.specs.Tree.{FirstVars, FirstAssign, Simple, Vars, Assigned, Statement, Block, If}
+use Rattle.cir_ast.specs.Tree.{IfElse, While, For, Return, Assert, Log, Ended, Statements, empty}
+use Rattle.cir_ast.specs.Tree.{then_more}
 
 abbrev pub variable_of : Meant → List ℕ
 variable_of (meant.Variable n) = n ∷ []

@@ -5,7 +5,9 @@ use Rattle.gold_field.specs.declared.gold.TheConstants.{P}
 use Rattle.gold_field.specs.declared.operators.Op1.{Op1}
 use Rattle.gold_field.specs.declared.operators.Op1.TheVariants.{Neg, Not, Compl}
 use Rattle.gold_field.specs.declared.operators.Op2.{Op2}
-use Rattle.gold_field.specs.declared.operators.Op2.TheVariants.{Add, Sub, Mul, Div, Quot, Rem, Pow, Shl, Shr, And, Xor, Or, Lt, Le, Gt, Ge, Eq, Ne}
+use Rattle.gold_field.specs.declared.operators.Op2.TheVariants.{Add, Sub, Mul, Div, Quot, Rem, Pow}
+use Rattle.gold_field.specs.declared.operators.Op2.TheVariants.{Shl, Shr, And, Xor, Or, Lt, Le, Gt}
+use Rattle.gold_field.specs.declared.operators.Op2.TheVariants.{Ge, Eq, Ne}
 use Rattle.gold_field.specs.Operators.{unary_of, binary_of, inverse_of}
 use Rattle.cir_lc.specs.Number.{Assignment, Number, constant, added, scaled, multiplied, negated}
 use Rattle.cir_meaning.specs.declared.class.Class.{Class}

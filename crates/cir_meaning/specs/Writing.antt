@@ -1,22 +1,30 @@
 -- What assignments write: variables, and elements of signals, which are written once and may be
 -- constrained.
-use Rattle.std.specs.Prelude.{ℕ, ◌+◌, ◌==◌, Bool, true, false, not, if◌then◌else◌, is_some, List, [], ◌∷◌, ◌++◌, Option, Some, None, Ok, slice_get, slice_set}
+use Rattle.std.specs.Prelude.{ℕ, ◌+◌, ◌==◌, Bool, true, false, not, if◌then◌else◌, is_some, List}
+use Rattle.std.specs.Prelude.{[], ◌∷◌, ◌++◌, Option, Some, None, Ok, slice_get, slice_set}
 use Rattle.cir_ast.specs.declared.program.Meant.{Meant}
 use Rattle.cir_ast.specs.declared.program.Meant.TheVariants as meant
 use Rattle.cir_ast.specs.declared.operators.Arrow.{Arrow}
-use Rattle.cir_ast.specs.declared.operators.Arrow.TheVariants.{Assign as AssignArrow, Constrain as ConstrainArrow}
-use Rattle.cir_ast.specs.declared.refusal.Kind.TheVariants.{WrongKind, UnknownIndex, NonQuadratic, ReadBeforeWrite, SecondWrite, ShapeDiffers}
-use Rattle.cir_ast.specs.Tree.{Expr, Number, Place, Parentheses, Binary, Accessors, done, index, member, Assign, Set, Compound, Left, Increment, Decrement}
+use Rattle.cir_ast.specs.declared.operators.Arrow.TheVariants.{Assign as AssignArrow}
+use Rattle.cir_ast.specs.declared.operators.Arrow.TheVariants.{Constrain as ConstrainArrow}
+use Rattle.cir_ast.specs.declared.refusal.Kind.TheVariants.{WrongKind, UnknownIndex, NonQuadratic}
+use Rattle.cir_ast.specs.declared.refusal.Kind.TheVariants.{ReadBeforeWrite, SecondWrite}
+use Rattle.cir_ast.specs.declared.refusal.Kind.TheVariants.{ShapeDiffers}
+use Rattle.cir_ast.specs.Tree.{Expr, Number, Place, Parentheses, Binary, Accessors, done, index}
+use Rattle.cir_ast.specs.Tree.{member, Assign, Set, Compound, Left, Increment, Decrement}
 use Rattle.cir_ast.specs.declared.operators.Binary.TheVariants as binary
 use Rattle.cir_meaning.specs.Operators.{compound_of}
 use Rattle.cir_lc.specs.Number.{signal}
 use Rattle.cir_meaning.specs.Tried.{Where, Tried, next, refused, needed, found}
 use Rattle.cir_meaning.specs.Places.{elements, all_known}
 use Rattle.cir_meaning.specs.Limits.{count_sum}
-use Rattle.cir_meaning.specs.Arrays.{Datum, Whole, Reach, reach, forgotten, is_all_known, same_dims, put_items}
+use Rattle.cir_meaning.specs.Arrays.{Datum, Whole, Reach, reach, forgotten, is_all_known, same_dims}
+use Rattle.cir_meaning.specs.Arrays.{put_items}
 use Rattle.cir_meaning.specs.Values.{Value, Linear, Parts, difference_of, parts_of, number_of}
 use Rattle.cir_meaning.specs.Source.{terms_of}
-use Rattle.cir_meaning.specs.Frame.{SignalEntry, Signals, Part, Frame, State, Context, all_numbers, is_input, is_written, put_at, entry_at, variable_at, in_frame, adding}
+use Rattle.cir_meaning.specs.Frame.{SignalEntry, Signals, Part, Frame, State, Context, all_numbers}
+use Rattle.cir_meaning.specs.Frame.{is_input, is_written, put_at, entry_at, variable_at, in_frame}
+use Rattle.cir_meaning.specs.Frame.{adding}
 use Rattle.cir_meaning.specs.Reading.{part_at, named_signal}
 use Rattle.cir_meaning.specs.Evaluate.{value_in, indices_in}
 

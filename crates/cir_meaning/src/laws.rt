@@ -1,7 +1,8 @@
 //! Laws over the values of expressions and the constraints of a source, each the contract of a
 //! function that does nothing.
 
-ghost use Rattle.std.specs.Prelude.{◌≡◌, ◌≢◌, ◌↔◌, ◌+◌, ◌<◌, ℕ, true, Option, Some, is_some, Ok, Err, List, All, length, slice_get, sum_by};
+ghost use Rattle.std.specs.Prelude.{◌≡◌, ◌≢◌, ◌↔◌, ◌+◌, ◌<◌, ℕ, true, Some, is_some, Ok, Err, List};
+ghost use Rattle.std.specs.Prelude.{All, length, slice_get, sum_by};
 ghost use Rattle.std.specs.List.{list_all};
 ghost use Rattle.gold_field.specs.declared.form.Constraint.{Constraint};
 ghost use Rattle.gold_field.specs.declared.operators.Op1.{Op1};
@@ -12,8 +13,10 @@ ghost use Rattle.gold_field.specs.Operators.{binary_of, unary_of};
 ghost use Rattle.cir_lc.specs.Number.{Assignment};
 ghost use Rattle.cir_meaning.specs.declared.class.Class.{Class};
 ghost use Rattle.cir_meaning.specs.Classes.{class_by, unary_class};
-ghost use Rattle.cir_meaning.specs.Values.{IsValue, Parts, Value, class_of, difference_of, known_number, number_of, parts_of, result_of, unary_result};
-ghost use Rattle.cir_meaning.specs.Values.{Known as KnownValue, Decided, Shaded, Both, and_left, or_left, lazy_result, side_of, chosen};
+ghost use Rattle.cir_meaning.specs.Values.{IsValue, Parts, Value, class_of, difference_of};
+ghost use Rattle.cir_meaning.specs.Values.{known_number, number_of, parts_of, result_of};
+ghost use Rattle.cir_meaning.specs.Values.{unary_result, Known as KnownValue, Decided, Shaded};
+ghost use Rattle.cir_meaning.specs.Values.{Both, and_left, or_left, lazy_result, side_of, chosen};
 ghost use Rattle.cir_meaning.specs.Values.{and_number, or_number, choice_number};
 ghost use Rattle.cir_meaning.specs.Compile.{Circuit, Satisfies, compiled, group_size, exec_main};
 ghost use Rattle.cir_ast.specs.Program.{Main, Program};

@@ -1,6 +1,6 @@
 -- The body of a definition, behind its parameters.
-use Rattle.std.proofs.Common.{◌≡◌, ℕ, ◌+◌, Bool, List, [], ◌∷◌, length}
-use Rattle.std.proofs.Common.{None, refl, sym, subst, arith}
+use Rattle.std.proofs.Common.{◌≡◌, ℕ, ◌+◌, Bool, List, [], ◌∷◌, length, None, refl, sym, subst}
+use Rattle.std.proofs.Common.{arith}
 use Rattle.std.specs.Prelude.{nat_lt}
 use Rattle.std.proofs.lemmas.Bool.{ltb-true, lt-ltb}
 use Rattle.cir_ast.specs.declared.program.Spot.{Spot}
@@ -12,9 +12,8 @@ use Rattle.cir_ast.specs.Shape.{AreShapedStatements}
 use Rattle.cir_resolve.specs.Steps.{made, in_turn}
 use Rattle.cir_resolve.specs.Scope.{Lookup, State, opening, counted, with_name, declared}
 use Rattle.cir_resolve.specs.Naming.{named_statements}
-use Rattle.cir_resolve.specs.Definitions.{Definition, Numbers}
-use Rattle.cir_resolve.specs.Definitions.{defined_by}
-use Rattle.cir_resolve.specs.Definitions.{named_parameter, named_body}
+use Rattle.cir_resolve.specs.Definitions.{Definition, Numbers, defined_by, named_parameter}
+use Rattle.cir_resolve.specs.Definitions.{named_body}
 use Rattle.cir_checks.specs.declared.positions.Position.TheVariants.{InFunction, Outermost}
 use Rattle.cir_checks.specs.Heads.{Table}
 use Rattle.cir_checks.specs.Checked.{AreStatements}

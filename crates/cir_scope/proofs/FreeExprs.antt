@@ -8,8 +8,7 @@ use Rattle.cir_ast.specs.declared.program.Meant.TheVariants as meant
 use Rattle.cir_ast.specs.Tree.{Expr, Number, Place, Call, Anonymous, Parentheses, Array, Unary}
 use Rattle.cir_ast.specs.Tree.{Binary, Choice, Exprs, none, more, Accessors, done, index, member}
 use Rattle.cir_ast.specs.Tree.{Assign, Set, Compound, Left, Increment, Decrement}
-use Rattle.cir_ast.specs.Shape.{level_of, Fits, AllFit, AreFitAccessors, FitsValue}
-use Rattle.cir_ast.specs.Shape.{IsShapedAssign}
+use Rattle.cir_ast.specs.Shape.{level_of, Fits, AllFit, AreFitAccessors, FitsValue, IsShapedAssign}
 use Rattle.cir_resolve.specs.Scope.{State, read_at, called_at}
 use Rattle.cir_resolve.specs.Naming.{named_expr, named_exprs, named_accessors, named_value}
 use Rattle.cir_resolve.specs.Naming.{named_assign}

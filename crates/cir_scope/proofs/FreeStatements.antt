@@ -9,25 +9,24 @@ use Rattle.cir_ast.specs.declared.program.Meant.{Meant}
 use Rattle.cir_ast.specs.declared.program.Meant.TheVariants as meant
 use Rattle.cir_ast.specs.Tree.{Variable, First, FirstVars, FirstAssign, Simple, Vars, Signals}
 use Rattle.cir_ast.specs.Tree.{Declared, Created, Assigned, Constrain, Right, TargetLeft}
-use Rattle.cir_ast.specs.Tree.{TargetRight, Alone, Statement, Block, If, IfElse, While, For}
-use Rattle.cir_ast.specs.Tree.{Return, Assert, Log, Ended, Statements, empty, then_more}
-use Rattle.cir_ast.specs.Shape.{Each as EachShaped, IsShapedVariable, IsShapedFirst}
-use Rattle.cir_ast.specs.Shape.{IsShapedSimple, IsShapedStatement, AreShapedStatements}
+use Rattle.cir_ast.specs.Tree.{TargetRight, Alone, Statement, Block, If, IfElse, While, For, Return}
+use Rattle.cir_ast.specs.Tree.{Assert, Log, Ended, Statements, empty, then_more}
+use Rattle.cir_ast.specs.Shape.{Each as EachShaped, IsShapedVariable, IsShapedFirst, IsShapedSimple}
+use Rattle.cir_ast.specs.Shape.{IsShapedStatement, AreShapedStatements}
 use Rattle.cir_resolve.specs.Steps.{behind, made, in_turn}
 use Rattle.cir_resolve.specs.Scope.{State, read_at, entered, within, declared}
 use Rattle.cir_resolve.specs.Naming.{named_expr, named_exprs, named_value, named_accessors}
 use Rattle.cir_resolve.specs.Naming.{named_assign, named_variable, named_signal, named_component}
-use Rattle.cir_resolve.specs.Naming.{named_first, named_simple, named_statement}
-use Rattle.cir_resolve.specs.Naming.{named_statements}
+use Rattle.cir_resolve.specs.Naming.{named_first, named_simple, named_statement, named_statements}
 use Rattle.cir_checks.specs.declared.positions.Position.TheVariants.{InFunction}
 use Rattle.cir_checks.specs.Heads.{Table}
 use Rattle.cir_checks.specs.Uses.{members}
-use Rattle.cir_checks.specs.Checked.{Each, IsVariable as IsUsedVariable, MayDeclareSignal}
-use Rattle.cir_checks.specs.Checked.{IsSimple, IsHead, IsStatement, AreStatements}
+use Rattle.cir_checks.specs.Checked.{Each, IsVariable as IsUsedVariable, MayDeclareSignal, IsSimple}
+use Rattle.cir_checks.specs.Checked.{IsHead, IsStatement, AreStatements}
 use Rattle.cir_meaning.specs.SignalFree.{IsVariable, IsFreeVariable, IsFreeFirst, IsFreeSimple}
 use Rattle.cir_meaning.specs.SignalFree.{IsFree, AreFreeStatements}
-use Rattle.cir_scope.proofs.Given.{OnGiven, given_behind, given_made, given_within}
-use Rattle.cir_scope.proofs.Given.{given_declared, given_any}
+use Rattle.cir_scope.proofs.Given.{OnGiven, given_behind, given_made, given_within, given_declared}
+use Rattle.cir_scope.proofs.Given.{given_any}
 use Rattle.cir_scope.proofs.FreeNames.{IsFreeState, free_read, free_variable, free_entered}
 use Rattle.cir_scope.proofs.FreeNames.{free_left, not_driven}
 use Rattle.cir_scope.proofs.FreeExprs.{free_expr, free_exprs, free_option, free_assign}

@@ -4,12 +4,11 @@ use Rattle.std.proofs.Common.{◌≡◌, ◌∙◌, Ok, refl, sym, subst}
 use Rattle.cir_ast.specs.declared.program.Spot.{Spot}
 use Rattle.cir_ast.specs.declared.program.Meant.{Meant}
 use Rattle.cir_ast.specs.declared.program.Meant.TheVariants as meant
-use Rattle.cir_ast.specs.Tree.{First, FirstVars, FirstAssign, Simple, Vars, Signals}
-use Rattle.cir_ast.specs.Tree.{Declared, Created, Assigned, Constrain, Right, TargetLeft}
-use Rattle.cir_ast.specs.Tree.{TargetRight, Alone, Statement, Block, If, IfElse, While, For}
-use Rattle.cir_ast.specs.Tree.{Return, Assert, Log, Ended, Statements, empty, then_more}
-use Rattle.cir_resolve.specs.Steps.{made, in_turn}
-use Rattle.cir_resolve.specs.Steps.{behind as and_then}
+use Rattle.cir_ast.specs.Tree.{First, FirstVars, FirstAssign, Simple, Vars, Signals, Declared}
+use Rattle.cir_ast.specs.Tree.{Created, Assigned, Constrain, Right, TargetLeft, TargetRight, Alone}
+use Rattle.cir_ast.specs.Tree.{Statement, Block, If, IfElse, While, For, Return, Assert, Log, Ended}
+use Rattle.cir_ast.specs.Tree.{Statements, empty, then_more}
+use Rattle.cir_resolve.specs.Steps.{made, in_turn, behind as and_then}
 use Rattle.cir_resolve.specs.Scope.{State, entered, left, within, declared}
 use Rattle.cir_resolve.specs.Naming.{named_expr, named_assign, named_variable, named_signal}
 use Rattle.cir_resolve.specs.Naming.{named_component, named_target, named_first, named_simple}
@@ -22,8 +21,7 @@ use Rattle.cir_checks.specs.Statements.{inside, in_loop, value_room, other_room}
 use Rattle.cir_checks.specs.Checked.{InTemplate, IsSimple, IsHead, IsStatement, AreStatements}
 use Rattle.cir_meaning.specs.Scoped.{Scope, IsSimpleScoped, behind_simple, IsFirstScoped}
 use Rattle.cir_meaning.specs.Scoped.{behind_first, closed, behind, behind_all, IsScoped, AreScoped}
-use Rattle.cir_scope.proofs.Given.{OnGiven, given_behind, given_made, given_within}
-use Rattle.cir_scope.proofs.Given.{given_declared}
+use Rattle.cir_scope.proofs.Given.{OnGiven, given_behind, given_made, given_within, given_declared}
 use Rattle.cir_scope.proofs.Agreement.{Agrees, agrees_component, agrees_entered, agrees_left}
 use Rattle.cir_scope.proofs.ScopedExprs.{meant_expr, meant_inputs, meant_assign, meant_arguments}
 use Rattle.cir_scope.proofs.ScopedExprs.{meant_source}

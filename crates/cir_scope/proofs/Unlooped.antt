@@ -5,8 +5,8 @@ use Rattle.cir_ast.specs.declared.program.Meant.{Meant}
 use Rattle.cir_ast.specs.declared.program.Spot.{Spot}
 use Rattle.cir_ast.specs.Tree.{Variable, First, FirstVars, FirstAssign, Simple, Vars, Signals}
 use Rattle.cir_ast.specs.Tree.{Declared, Created, Assigned, Constrain, Right, TargetLeft}
-use Rattle.cir_ast.specs.Tree.{TargetRight, Alone, Statement, Block, If, IfElse, While, For}
-use Rattle.cir_ast.specs.Tree.{Return, Assert, Log, Ended, Statements, empty, then_more}
+use Rattle.cir_ast.specs.Tree.{TargetRight, Alone, Statement, Block, If, IfElse, While, For, Return}
+use Rattle.cir_ast.specs.Tree.{Assert, Log, Ended, Statements, empty, then_more}
 use Rattle.cir_checks.specs.declared.positions.Position.TheVariants.{Looped}
 use Rattle.cir_checks.specs.Heads.{Table}
 use Rattle.cir_checks.specs.Checked.{IsSimple, IsStatement, AreStatements}
