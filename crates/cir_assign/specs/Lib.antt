@@ -1,0 +1,6 @@
+pub mod Leads
+pub mod Makes
+pub mod Given
+pub mod Assigns
+pub mod Finds
+pub mod Declares
