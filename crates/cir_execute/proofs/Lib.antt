@@ -1,0 +1,11 @@
+pub mod Going
+pub mod Scanning
+pub mod Lifting
+pub mod Branching
+pub mod Agains
+pub mod Tuples
+pub mod Leaving
+pub mod Standing
+pub mod Placed
+pub mod Flowing
+pub mod Logging

@@ -1,0 +1,111 @@
+use Rattle.std.proofs.Common.{◌∙◌, ap, sym, refl, subst}
+use Rattle.std.specs.Prelude.{sum_by}
+use Rattle.cir_arrays.specs.Counted.{counts_of}
+use Rattle.cir_arrays.proofs.Exits.{exit_gives, exits}
+use Rattle.cir_frame.specs.Shown.{state_of}
+use Rattle.cir_meaning.specs.Frame.{at, settle, variable_at}
+use Rattle.cir_meaning.specs.Limits.{standing}
+use Rattle.cir_meaning.specs.Places.{elements}
+use Rattle.cir_meaning.specs.Scan.{forget, scan}
+use Rattle.cir_meaning.specs.Steps.{start_reads}
+use Rattle.cir_meaning.specs.Tried.{next}
+use Rattle.cir_evaluate.specs.Within.{context_of}
+use Rattle.cir_cost.specs.Adds.{IsCost, read_alone}
+use Rattle.cir_execute.specs.Rests.{rest_by, rest_fault}
+use Rattle.cir_execute.proofs.Going.{given, refusal}
+use Rattle.cir_execute.proofs.Leaving.{allowed_stops, enclosing, memory_refuses, none_faulty}
+use Rattle.cir_execute.proofs.Leaving.{scan_goes, scan_stops}
+use Rattle.cir_execute.proofs.undecided.undecided.Goals as goal
+
+pub returns-in_err-allowed-clause-state : goal.returns-in_err-allowed-clause-state
+returns-in_err-allowed-clause-state g c =
+    λ m qs.
+    let s = state_of c.args.frame.now c.args.world.now qs in
+    let k = context_of c.args.context.now m.call m.make in
+    exit_gives _ _ _ _ c.from_residual.ensures.1
+    (allowed_stops k (rest_fault c.args.rest.now) s _ _ (c.in_err-allowed.ensures m.call m.make s))
+
+pub returns-in_err-scan_rest-clause-state : goal.returns-in_err-scan_rest-clause-state
+returns-in_err-scan_rest-clause-state g c =
+    let spot = c.args.spot in
+    let a = rest_by spot c.args.rest.now in
+    let old = c.args.world.now in
+    let scans = rw (c.dark-dark.ensures, c.here-here.ensures) at c.in_err-scan_rest.ensures.state in
+    let is = c.as_slice-variables.ensures.value ∙ (c.in_ok-touched.ensures spot).assigned in
+    λ m qs.
+    let s = state_of c.args.frame.now old qs in
+    let k = context_of c.args.context.now m.call m.make in
+    let forgotten = c.forget.ensures old qs ∙ ap (λ l. forget l s) is in
+    exit_gives _ _ _ _ c.from_residual-in_err-scan_rest.ensures.1
+    (scan_stops k spot (rest_fault c.args.rest.now) a s (c.in_ok-allowed.ensures m.call m.make s) _
+    (refusal _ _ _ (ap (scan k (at k spot) a) (sym forgotten)) (scans m spot qs refl)))
+
+pub returns-in_err-inside-clause-state : goal.returns-in_err-inside-clause-state
+returns-in_err-inside-clause-state g c =
+    λ m qs. exit_gives _ _ _ _ c.from_residual-in_err-inside.ensures.1
+    (memory_refuses _ _ c.in_err-inside.ensures.memory)
+
+pub returns-in_err-stepped-clause-state : goal.returns-in_err-stepped-clause-state
+returns-in_err-stepped-clause-state g c =
+    let spot = c.args.spot in
+    let a = rest_by spot c.args.rest.now in
+    let fault = rest_fault c.args.rest.now in
+    let old = c.args.world.now in
+    let f = c.scan_rest.new.frame in
+    let scans = rw (c.dark-dark.ensures, c.here-here.ensures) at c.in_ok-scan_rest.ensures.state in
+    let costs = rw (c.dark-dark.ensures, c.here-here.ensures) at c.in_ok-inside.ensures.cost in
+    let sames = rw (c.dark-dark.ensures, c.here-here.ensures) at c.in_ok-inside.ensures.same in
+    let steps = rw c.here-here.ensures at c.in_err-stepped.ensures.step in
+    let touched = c.in_ok-touched.ensures spot in
+    let is = c.as_slice-variables.ensures.value ∙ touched.assigned in
+    let begun = c.in_ok-cost.ensures in
+    λ m qs.
+    let s = state_of c.args.frame.now old qs in
+    let k = context_of c.args.context.now m.call m.make in
+    let free = c.in_ok-allowed.ensures m.call m.make s in
+    let forgotten = c.forget.ensures old qs ∙ ap (λ l. forget l s) is in
+    let once = costs m spot qs refl (none_faulty k fault s free) in
+    let whole = scan_goes k spot fault a s free (state_of f c.scan_rest.new.world qs)
+    (state_of f c.inside_cost.new.world qs) once.once c.in_ok-cost.cells
+    (ap (scan k (at k spot) a) (sym forgotten) ∙ scans m spot qs refl) once.repeats
+    (begun.cells (counts_of old.added)
+    ∙ ap (λ l. standing (sum_by (λ n. elements (variable_at s.frame n).dims) l)) is)
+    ((sames m).states f qs) in
+    let paid = c.in_ok-enclose.ensures a (start_reads _ s) once.once touched
+    (subst (λ l. IsCost c.in_ok-cost.cost (read_alone (start_reads l s))) is (begun.reads old qs))
+    once.is in
+    exit_gives _ _ _ _ c.from_residual-in_err-stepped.ensures.1
+    (refusal _ _ _ whole (exits _ _ _ (steps m.call m.make
+    (enclosing k spot fault a s free once.once) f qs paid)))
+
+pub returns-clause-state : goal.returns-clause-state
+returns-clause-state g c =
+    let spot = c.args.spot in
+    let a = rest_by spot c.args.rest.now in
+    let fault = rest_fault c.args.rest.now in
+    let old = c.args.world.now in
+    let f = c.scan_rest.new.frame in
+    let scans = rw (c.dark-dark.ensures, c.here-here.ensures) at c.in_ok-scan_rest.ensures.state in
+    let costs = rw (c.dark-dark.ensures, c.here-here.ensures) at c.in_ok-inside.ensures.cost in
+    let sames = rw (c.dark-dark.ensures, c.here-here.ensures) at c.in_ok-inside.ensures.same in
+    let steps = rw c.here-here.ensures at c.in_ok-stepped.ensures.step in
+    let touched = c.in_ok-touched.ensures spot in
+    let is = c.as_slice-variables.ensures.value ∙ touched.assigned in
+    let begun = c.in_ok-cost.ensures in
+    λ m qs.
+    let s = state_of c.args.frame.now old qs in
+    let k = context_of c.args.context.now m.call m.make in
+    let free = c.in_ok-allowed.ensures m.call m.make s in
+    let forgotten = c.forget.ensures old qs ∙ ap (λ l. forget l s) is in
+    let once = costs m spot qs refl (none_faulty k fault s free) in
+    let whole = scan_goes k spot fault a s free (state_of f c.scan_rest.new.world qs)
+    (state_of f c.inside_cost.new.world qs) once.once c.in_ok-cost.cells
+    (ap (scan k (at k spot) a) (sym forgotten) ∙ scans m spot qs refl) once.repeats
+    (begun.cells (counts_of old.added)
+    ∙ ap (λ l. standing (sum_by (λ n. elements (variable_at s.frame n).dims) l)) is)
+    ((sames m).states f qs) in
+    let paid = c.in_ok-enclose.ensures a (start_reads _ s) once.once touched
+    (subst (λ l. IsCost c.in_ok-cost.cost (read_alone (start_reads l s))) is (begun.reads old qs))
+    once.is in
+    given _ _ _ _ (whole ∙ ap (λ z. next z (settle (at k spot))) (steps m.call m.make
+    (enclosing k spot fault a s free once.once) f qs paid)) (c.settle.ensures.value f qs)

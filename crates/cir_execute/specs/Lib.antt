@@ -1,0 +1,4 @@
+pub mod Flows
+pub mod Turned
+pub mod Rests
+pub mod Again
