@@ -1,6 +1,9 @@
 -- What the values of a written file mean.
-use Rattle.std.proofs.Common.{◌≡◌, ℕ, suc, ◌+◌, ◌*◌, ◌%◌, ◌<◌, ◌≤◌, nat_le, Bool, true, false, cond, List, [], ◌∷◌, Result, Ok, Err, refl, ap, sym, ◌∙◌, subst, arith, inl, inr}
-use Rattle.std.specs.Prelude.{All, IsErrAnd, Option, sum_by, length, slice_index, slice_index_or, ◌↔◌}
+use Rattle.std.proofs.Common.{◌≡◌, ℕ, suc, ◌+◌, ◌*◌, ◌%◌, ◌<◌, ◌≤◌, nat_le, Bool, true, false, cond}
+use Rattle.std.proofs.Common.{List, [], ◌∷◌, Result, Ok, Err, refl, ap, sym, ◌∙◌, subst, arith, inl}
+use Rattle.std.proofs.Common.{inr}
+use Rattle.std.specs.Prelude.{All, IsErrAnd, Option, sum_by, length, slice_index, slice_index_or}
+use Rattle.std.specs.Prelude.{◌↔◌}
 use Rattle.std.proofs.lemmas.Bool.{cases_lt}
 use Rattle.std.proofs.lemmas.List.Sums.{sum_by-cons}
 use Rattle.gold_field.specs.Form.{Holds, value_at, SignalsBelow, ConstraintBelow}
@@ -17,7 +20,7 @@ use Rattle.cir_sources.specs.declared.fault.LoadFault.{LoadFault}
 use Rattle.cir_sources.specs.declared.fault.LoadFault.TheVariants as load
 use Rattle.cir_names.specs.Loading.{Loads, IsLoaded, IsLoadFault}
 use Rattle.cir_inst.specs.declared.circuit.Circuit.{Circuit}
-use Rattle.cir_inst.specs.Meaning.Program.{Satisfies}
+use Rattle.cir_meaning.specs.Compile.{Satisfies}
 use Rattle.cir_simplify.specs.declared.types.Level.{Level}
 use Rattle.cir_simplify.specs.declared.types.Simple.{Simple}
 use Rattle.cir_simplify.specs.Answer.{IsOverWires}
@@ -31,7 +34,7 @@ use Rattle.cir_compile.specs.declared.fault.CompileFault.{CompileFault}
 use Rattle.cir_compile.specs.declared.fault.CompileFault.TheVariants as fault
 use Rattle.cir_compile.specs.Compiled.{Task, Compiles, Writes, IsWritten, IsCompiled, IsRefused}
 use Rattle.cir_compile.specs.Faults.{of_load}
-use Rattle.cir_compile.specs.Written.{AreValues, Extends, rules_of, file_of, Means}
+use Rattle.cir_compile.specs.Written.{own_count, AreValues, Extends, rules_of, file_of, Means}
 use Rattle.cir_compile.proofs.Wires.{Labels, labelled, label_of, place_below}
 
 -- the two give the same number to each signal below n
@@ -154,8 +157,8 @@ by_labels keeps n f list some below labels wires known w values = (forth, back)
         whole = two_parts n found.0 (λ k. wire_values (wire_of keeps k)) small some
 
 pub means : (p : Program) (level : Level) (c : Circuit) (simple : Simple) (end : Simplified)
-    → All (IsGood (c.signals + 1)) c.constraints
-    → All (ConstraintBelow (1 + c.signals)) c.constraints
+    → All (IsGood (length c.signals.names + 1)) c.constraints
+    → All (ConstraintBelow (1 + length c.signals.names)) c.constraints
     → simplified (rules_of level c) c.constraints ≡ Ok end
     → IsOverWires (rules_of level c) end simple
     → ((s : Assignment) → Satisfies p s ↔ All (Holds s.at) c.constraints)
@@ -166,7 +169,7 @@ means p level c simple end good below ends wires satisfied w values = (
 )
   where
     keeps : ℕ → Bool
-    keeps = is_kept level (c.outputs + c.inputs) end.list
+    keeps = is_kept level (own_count c) end.list
 
     law : WiresKeepSolutions keeps c.constraints simple.constraints
     law = subst (WiresKeepSolutions keeps c.constraints) (sym wires.constraints)
@@ -175,8 +178,9 @@ means p level c simple end good below ends wires satisfied w values = (
     known : All (Holds (slice_index w)) simple.constraints ↔
         ((s : Assignment) × Extends (file_of c simple) w s × HoldAll s c.constraints)
     known =
-        let same : c.signals + 1 ≡ 1 + c.signals = omega arith in
-        by_labels keeps (1 + c.signals) (file_of c simple) c.constraints (omega arith) below
+        let same : length c.signals.names + 1 ≡ 1 + length c.signals.names = omega arith in
+        by_labels keeps (1 + length c.signals.names) (file_of c simple) c.constraints
+        (omega arith) below
         (wires.wires ∙ ap (kept_below keeps) same) refl law w values
 
 -- a source that isn't loaded isn't compiled

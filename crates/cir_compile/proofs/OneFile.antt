@@ -1,13 +1,10 @@
 -- Over the same files a source compiles to one file, or has one refusal.
-use Rattle.std.proofs.Common.{◌≡◌, ℕ, inl, inr, List, Option, None, Some, Result, Ok, Err, ap}
-use Rattle.std.proofs.Common.{sym, subst, ◌∙◌}
+use Rattle.std.proofs.Common.{◌≡◌, ℕ, inl, inr, List, None, Result, Ok, Err, ap, sym, subst, ◌∙◌}
 use Rattle.out_io.specs.Contents.{Contents}
 use Rattle.gold_field.specs.declared.form.Constraint.{Constraint}
 use Rattle.iden_files.specs.File.{File}
 use Rattle.cir_ast.specs.Program.{Program}
 use Rattle.cir_ast.specs.declared.refusal.Refusal.{Refusal}
-use Rattle.cir_subset.specs.declared.site.Site.{Site}
-use Rattle.cir_subset.specs.Unbuilt.{first_unbuilt}
 use Rattle.cir_names.proofs.OneLoading.{one_program, one_load_fault, loaded_or_refused}
 use Rattle.cir_names.proofs.OneLoading.{there_or_loaded, there_or_fault}
 use Rattle.cir_inst.specs.declared.circuit.Circuit.{Circuit}
@@ -17,8 +14,8 @@ use Rattle.cir_simplify.specs.declared.types.Rules.{Rules}
 use Rattle.cir_simplify.specs.declared.types.Simple.{Simple}
 use Rattle.cir_simplify.specs.Answer.{IsOverWires, Simplifies}
 use Rattle.cir_simplify.specs.Turn.{Simplified, simplified}
-use Rattle.cir_compile.specs.Compiled.{IsCompiled, IsMeaningless, IsRefused, IsTooLarge, IsUnbuilt}
-use Rattle.cir_compile.specs.Compiled.{IsUnwritten, IsWritten, Task, terms_refusal, unbuilt_at}
+use Rattle.cir_compile.specs.Compiled.{IsCompiled, IsMeaningless, IsRefused, IsTooLarge}
+use Rattle.cir_compile.specs.Compiled.{IsUnwritten, IsWritten, Task, terms_refusal}
 use Rattle.cir_compile.specs.Written.{file_of, rules_of}
 
 one_over : (r : Rules) (end : Simplified) (s t : Simple) → IsOverWires r end s
@@ -55,14 +52,6 @@ module _ (program : Program) (level : Level) where
   one_answer c d a b same e f =
       sym e ∙ ap (λ (k : Circuit). simplified (rules_of level k) k.constraints) same ∙ f
 
-  one_unbuilt : (r s : Refusal) → IsUnbuilt program r → IsUnbuilt program s → r ≡ s
-  one_unbuilt r s x y =
-      let site : x.site ≡ y.site = one_site (first_unbuilt program) x.first y.first in
-      x.refusal ∙ ap (unbuilt_at program) site ∙ sym y.refusal
-    where
-      one_site : {a b : Site} (o : Option Site) → o ≡ Some a → o ≡ Some b → a ≡ b
-      one_site o e f = cc
-
   one_too_large : (r s : Refusal) → IsTooLarge program level r → IsTooLarge program level s → r ≡ s
   one_too_large r s x y =
       let circuit = one_instance program x.circuit y.circuit x.instantiated y.instantiated in
@@ -71,35 +60,23 @@ module _ (program : Program) (level : Level) where
       let count : x.count ≡ y.count = cc in
       x.refusal ∙ ap (terms_refusal program) count ∙ sym y.refusal
 
-  built_or_not : (r : Refusal) → first_unbuilt program ≡ None → IsUnbuilt program r → ⊥
-  built_or_not r built x = some_and_none (first_unbuilt program) built x.first
-    where
-      some_and_none : {a : Site} (o : Option Site) → o ≡ None → o ≡ Some a → ⊥
-      some_and_none o e f = cc
-
   meaningless_or_large : (r s : Refusal) → IsMeaningless program r → IsTooLarge program level s → ⊥
   meaningless_or_large r s x y =
       instance_or_refusal program y.circuit r y.instantiated x.instantiated
 
   one_unwritten : (r s : Refusal) → IsUnwritten program level r → IsUnwritten program level s
       → r ≡ s
-  one_unwritten r s (inl x) (inl y) = one_unbuilt r s x y
-  one_unwritten r s (inl x) (inr (inl y)) = absurd (built_or_not r y.built x)
-  one_unwritten r s (inl x) (inr (inr y)) = absurd (built_or_not r y.built x)
-  one_unwritten r s (inr (inl x)) (inl y) = absurd (built_or_not s x.built y)
-  one_unwritten r s (inr (inl x)) (inr (inl y)) =
+  one_unwritten r s (inl x) (inl y) =
       one_instance_refusal program r s x.instantiated y.instantiated
-  one_unwritten r s (inr (inl x)) (inr (inr y)) = absurd (meaningless_or_large r s x y)
-  one_unwritten r s (inr (inr x)) (inl y) = absurd (built_or_not s x.built y)
-  one_unwritten r s (inr (inr x)) (inr (inl y)) = absurd (meaningless_or_large s r y x)
-  one_unwritten r s (inr (inr x)) (inr (inr y)) = one_too_large r s x y
+  one_unwritten r s (inl x) (inr y) = absurd (meaningless_or_large r s x y)
+  one_unwritten r s (inr x) (inl y) = absurd (meaningless_or_large s r y x)
+  one_unwritten r s (inr x) (inr y) = one_too_large r s x y
 
   written_or_not : (f : File) (r : Refusal) → IsWritten program level f
       → IsUnwritten program level r → ⊥
-  written_or_not f r x (inl y) = built_or_not r x.built y
-  written_or_not f r x (inr (inl y)) =
+  written_or_not f r x (inl y) =
       instance_or_refusal program x.circuit r x.instantiated y.instantiated
-  written_or_not f r x (inr (inr y)) =
+  written_or_not f r x (inr y) =
       let circuit = one_instance program x.circuit y.circuit x.instantiated y.instantiated in
       let answer : Ok x.simplified.0 ≡ Err y.count =
       one_answer x.circuit y.circuit (Ok x.simplified.0) (Err y.count) circuit x.simplified.1

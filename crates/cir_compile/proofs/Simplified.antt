@@ -1,5 +1,7 @@
 -- What stays true of a list in simplification.
-use Rattle.std.proofs.Common.{◌≡◌, ℕ, zero, suc, ◌+◌, ◌<◌, ◌≤◌, ◌==◌, ◌||◌, not, nat_le, Bool, true, false, cond, List, [], ◌∷◌, map, length, sum_by, All, Option, Some, None, Result, Ok, Err, refl, subst, arith}
+use Rattle.std.proofs.Common.{◌≡◌, ℕ, zero, suc, ◌+◌, ◌<◌, ◌≤◌, ◌==◌, ◌||◌, not, nat_le, Bool, true}
+use Rattle.std.proofs.Common.{false, cond, List, [], ◌∷◌, map, length, sum_by, All, Option, Some}
+use Rattle.std.proofs.Common.{None, Result, Ok, Err, refl, subst, arith}
 use Rattle.std.specs.List.{filter}
 use Rattle.std.proofs.lemmas.Bool.{eq-eqb}
 use Rattle.std.proofs.lemmas.List.{length-map}
@@ -17,7 +19,8 @@ use Rattle.cir_simplify.specs.declared.types.Level.{Level}
 use Rattle.cir_simplify.specs.declared.types.Level.TheVariants.{O0, O1, O2}
 use Rattle.cir_simplify.specs.Index.{IsGood}
 use Rattle.cir_simplify.specs.Shape.{names, names_in, is_empty, terms_in}
-use Rattle.cir_simplify.specs.Turn.{Pick, Simplified, first_pivot, solution, after, dropped, limited, turn, turns, simplified}
+use Rattle.cir_simplify.specs.Turn.{Pick, Simplified, first_pivot, solution, after, dropped}
+use Rattle.cir_simplify.specs.Turn.{limited, turn, turns, simplified}
 use Rattle.cir_simplify.specs.Wires.{is_kept, is_left, keeps_all, wire_of, renamed, renamed_in}
 use Rattle.cir_simplify.proofs.Law.{step_of, step_good, all_dropped}
 

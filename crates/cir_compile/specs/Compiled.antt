@@ -1,18 +1,17 @@
 -- What the compilation of a source answers.
-use Rattle.std.specs.Prelude.{◌≡◌, ℕ, List, [], ◌∷◌, Option, Some, None, Result, Ok, Err, ⊤, ◌⊎◌, slice_get, unwrap_or, codes}
+use Rattle.std.specs.Prelude.{◌≡◌, ℕ, List, [], ◌∷◌, Option, None, Result, Ok, Err, ⊤, ◌⊎◌}
+use Rattle.std.specs.Prelude.{slice_get, unwrap_or, codes}
 use Rattle.out_io.specs.Contents.{Contents}
 use Rattle.iden_files.specs.File.{File}
 use Rattle.cir_ast.specs.Program.{Program, Main}
 use Rattle.cir_ast.specs.Spot.{start}
 use Rattle.cir_ast.specs.declared.refusal.Refusal.{Refusal}
 use Rattle.cir_ast.specs.declared.refusal.Kind.{Kind}
-use Rattle.cir_ast.specs.declared.refusal.Kind.TheVariants.{NotInProfile, Limit}
+use Rattle.cir_ast.specs.declared.refusal.Kind.TheVariants.{Limit}
 use Rattle.cir_ast.specs.declared.refusal.Which.TheVariants.{Terms}
-use Rattle.cir_ast.specs.declared.refusal.Form.TheVariants.{Unbuilt}
 use Rattle.out_io.specs.Calls.{Told}
 use Rattle.cir_names.specs.Loading.{IsLoaded, IsLoadFault}
-use Rattle.cir_subset.specs.declared.site.Site.{Site}
-use Rattle.cir_subset.specs.Unbuilt.{first_unbuilt}
+use Rattle.cir_compile.specs.declared.compiling.Site.{Site}
 use Rattle.cir_inst.specs.declared.circuit.Circuit.{Circuit}
 use Rattle.cir_inst.specs.declared.circuit.InstFault.TheVariants.{Refused as NotInstantiated}
 use Rattle.cir_inst.specs.Compiled.{Instantiates}
@@ -24,9 +23,8 @@ use Rattle.cir_compile.specs.declared.fault.CompileFault.{CompileFault}
 use Rattle.cir_compile.specs.declared.fault.CompileFault.TheVariants as fault
 use Rattle.cir_compile.specs.Written.{rules_of, file_of, Means}
 
--- all forms of the program are built, and its circuit, simplified at the level, is written as the file
+-- the program's circuit, simplified at the level, is written as the file
 pub record IsWritten (program : Program) (level : Level) (f : File) : Type 0 where
-  pub built : first_unbuilt program ≡ None
   pub circuit : Circuit
   pub instantiated : Instantiates program (Ok circuit)
   pub simple : Simple
@@ -46,19 +44,8 @@ refusal_of files site kind path = record {
   };
 }
 
--- a form that isn't built, at its place among the program's files
-abbrev pub unbuilt_at : Program → Site → Refusal
-unbuilt_at program site = refusal_of program.files site (NotInProfile Unbuilt) (codes "-")
-
--- the program has a form that isn't built, at the first of them
-pub record IsUnbuilt (program : Program) (r : Refusal) : Type 0 where
-  pub site : Site
-  pub first : first_unbuilt program ≡ Some site
-  pub refusal : r ≡ unbuilt_at program site
-
--- all forms of the program are built, and its meaning refuses it
+-- the program's meaning refuses it
 pub record IsMeaningless (program : Program) (r : Refusal) : Type 0 where
-  pub built : first_unbuilt program ≡ None
   pub instantiated : Instantiates program (Err (NotInstantiated r))
 
 -- where the statement of the main component stands; a program with a circuit has just one
@@ -71,9 +58,8 @@ abbrev pub terms_refusal : Program → ℕ → Refusal
 terms_refusal program count =
     refusal_of program.files (main_site program.mains) (Limit Terms count) (codes "main")
 
--- all forms of the program are built, and simplification at the level comes to too many terms
+-- simplification at the level comes to too many terms
 pub record IsTooLarge (program : Program) (level : Level) (r : Refusal) : Type 0 where
-  pub built : first_unbuilt program ≡ None
   pub circuit : Circuit
   pub instantiated : Instantiates program (Ok circuit)
   pub count : ℕ
@@ -82,8 +68,7 @@ pub record IsTooLarge (program : Program) (level : Level) (r : Refusal) : Type 0
 
 -- why a program that is loaded is refused
 abbrev pub IsUnwritten : Program → Level → Refusal → Type 0
-IsUnwritten program level r =
-    IsUnbuilt program r ⊎ IsMeaningless program r ⊎ IsTooLarge program level r
+IsUnwritten program level r = IsMeaningless program r ⊎ IsTooLarge program level r
 
 -- what the compilation of a program answers; want of memory is free
 abbrev pub Writes : Program → Level → Result File CompileFault → Type 0

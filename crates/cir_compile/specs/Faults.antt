@@ -4,7 +4,8 @@ use Rattle.cir_sources.specs.declared.fault.LoadFault.TheVariants as load
 use Rattle.cir_inst.specs.declared.circuit.InstFault.{InstFault}
 use Rattle.cir_inst.specs.declared.circuit.InstFault.TheVariants as instance
 use Rattle.cir_compile.specs.declared.fault.CompileFault.{CompileFault}
-use Rattle.cir_compile.specs.declared.fault.CompileFault.TheVariants.{Missing, Refused, Fault, OutOfMemory}
+use Rattle.cir_compile.specs.declared.fault.CompileFault.TheVariants.{Missing, Refused, Fault}
+use Rattle.cir_compile.specs.declared.fault.CompileFault.TheVariants.{OutOfMemory}
 
 abbrev pub of_load : LoadFault → CompileFault
 of_load load.Missing = Missing

@@ -6,24 +6,31 @@ use Rattle.iden_files.specs.File.{File}
 use Rattle.cir_ast.specs.Program.{Program}
 use Rattle.cir_lc.specs.Number.{Assignment}
 use Rattle.cir_inst.specs.declared.circuit.Circuit.{Circuit}
-use Rattle.cir_inst.specs.Meaning.Program.{Satisfies}
+use Rattle.cir_meaning.specs.Compile.{Satisfies}
 use Rattle.cir_simplify.specs.declared.types.Level.{Level}
 use Rattle.cir_simplify.specs.declared.types.Rules.{Rules}
 use Rattle.cir_simplify.specs.declared.types.Simple.{Simple}
 
--- signals 1 to outputs + inputs are main's own, and are never eliminated
-abbrev pub rules_of : Level → Circuit → Rules
-rules_of level c = record { level = level; kept = c.outputs + c.inputs; bound = c.signals + 1 }
+-- how many signals are main's own
+abbrev pub own_count : Circuit → ℕ
+own_count c = c.signals.outputs + (c.signals.public_inputs + c.signals.private_inputs)
 
--- the wires are the signals that simplification keeps, and the label of each is its number; all
--- inputs are private
+-- signals 1 to the number of outputs and inputs are main's own, and are never eliminated
+abbrev pub rules_of : Level → Circuit → Rules
+rules_of level c = record {
+  level = level;
+  kept = own_count c;
+  bound = length c.signals.names + 1;
+}
+
+-- the wires are the signals that simplification keeps, and the label of each is its number
 abbrev pub file_of : Circuit → Simple → File
 file_of c simple = record {
   wires = length simple.wires;
-  outputs = c.outputs;
-  public_inputs = 0;
-  private_inputs = c.inputs;
-  label_count = 1 + c.signals;
+  outputs = c.signals.outputs;
+  public_inputs = c.signals.public_inputs;
+  private_inputs = c.signals.private_inputs;
+  label_count = 1 + length c.signals.names;
   labels = simple.wires;
   constraints = simple.constraints;
 }

@@ -1,20 +1,23 @@
-ghost use Rattle.std.specs.Prelude.{◌≡◌, IfOk, map};
+ghost use Rattle.std.specs.Prelude.{◌≡◌, ◌+◌, ◌≤◌, All, IfOk, length, map};
 ghost use Rattle.std.specs.Option.{option_copied};
 ghost use Rattle.out_io.specs.Faults.{Rose};
 ghost use Rattle.iden_files.specs.File.{InLimits};
 ghost use Rattle.out_io.specs.Calls.{OnlyReads};
 ghost use Rattle.cir_ast.specs.Program.{bare_main, bare_program};
 ghost use Rattle.cir_checks.specs.Checked.{IsChecked};
+ghost use Rattle.cir_meaning.specs.SignalFree.{AreFunctionsFree};
+ghost use Rattle.cir_simplify.specs.Answer.{Simplifies};
+ghost use Rattle.cir_simplify.specs.Index.{IsGood};
 ghost use Rattle.cir_compile.specs.Compiled.{Compiles, Writes, main_site, refusal_of};
+ghost use Rattle.cir_compile.specs.Written.{own_count, rules_of};
 
 use crate::fault::CompileFault;
 use crate::file::file_of;
 use cir_ast::program::{Main, Program, Spot};
-use cir_ast::{Form, Kind, Place, Refusal, Text, Which};
-use cir_inst::instantiate;
+use cir_ast::{Kind, Place, Refusal, Text, Which};
+use cir_inst::{Circuit, instantiate};
 use cir_names::load;
-use cir_simplify::{Level, SimpFault, simplify};
-use cir_subset::{Site, unbuilt};
+use cir_simplify::{Level, SimpFault, Simple, simplify};
 use iden_files::R1cs;
 use out_io::Store;
 use std::alloc::{AllocError, Global};
@@ -46,21 +49,13 @@ pub fn compile<S: Store>(
 
 /// The file of the constraints of a program.
 fn written(alloc: Global, program: Program, level: Level) -> Result<R1cs, CompileFault>
-    requires { IsChecked (bare_program program) }
+    requires checked { IsChecked (bare_program program) }
+    requires free { AreFunctionsFree (bare_program program) }
     ensures writes { Writes (bare_program program) level result }
     ensures limits { IfOk result InLimits }
 {
-    if let Some(site) = unbuilt(&program) {
-        let kind = Kind::NotInProfile {
-            form: Form::Unbuilt,
-        };
-        let refusal = refusal_at(alloc, program.files.as_slice(), site, kind, b"-")?;
-        return Err(CompileFault::Refused(refusal));
-    }
     let circuit = instantiate(alloc, &program)?;
-    let list = circuit.constraints.as_slice();
-    let own = circuit.outputs + circuit.inputs;
-    let simple = match simplify(alloc, list, circuit.signals, own, level) {
+    let simple = match simple_of(alloc, &circuit, level) {
         Ok(simple) => simple,
         Err(SimpFault::Terms { count }) => {
             let kind = Kind::Limit {
@@ -75,6 +70,20 @@ fn written(alloc: Global, program: Program, level: Level) -> Result<R1cs, Compil
     };
     let file = file_of(alloc, &circuit, simple)?;
     Ok(file)
+}
+
+/// The circuit's constraints, simplified. Main's own signals stay.
+fn simple_of(alloc: Global, circuit: &Circuit, level: Level) -> Result<Simple, SimpFault>
+    requires few { length circuit.now.signals.names ≤ 1048575 }
+    requires own { own_count circuit.now ≤ length circuit.now.signals.names }
+    requires good { All (IsGood (length circuit.now.signals.names + 1)) circuit.now.constraints }
+    ensures { Simplifies (rules_of level circuit.now) circuit.now.constraints result }
+{
+    let table = &circuit.signals;
+    let list = circuit.constraints.as_slice();
+    let count = table.names.len() as u32;
+    let own = table.outputs + (table.public_inputs + table.private_inputs);
+    simplify(alloc, list, count, own, level)
 }
 
 /// The refusal of this kind at a site of the program, with the path of an instance.
@@ -101,6 +110,13 @@ fn refusal_at(
             path,
         },
     })
+}
+
+/// A place in a file of the program.
+#[derive(Clone, Copy, Debug, PartialEq, Eq)]
+pub struct Site {
+    pub file: u32,
+    pub spot: Spot,
 }
 
 /// Where the statement of the main component stands.

@@ -1,4 +1,4 @@
-ghost use Rattle.std.specs.Prelude.{◌≡◌, ◌≤◌, IfOk};
+ghost use Rattle.std.specs.Prelude.{◌≡◌, ◌≤◌, length, IfOk};
 ghost use Rattle.iden_files.specs.File.{IsFile, InLimits};
 ghost use Rattle.cir_compile.specs.Written.{file_of};
 
@@ -10,7 +10,7 @@ use std::alloc::{AllocError, Global};
 
 /// The file of a circuit: the kept signals are the wires, and the label of each is its number.
 pub fn file_of(alloc: Global, circuit: &Circuit, simple: Simple) -> Result<R1cs, AllocError>
-    requires few { circuit.now.signals ≤ 1048575 }
+    requires few { length circuit.now.signals.names ≤ 1048575 }
     requires file { IsFile (file_of circuit.now simple) }
     requires limits { InLimits (file_of circuit.now simple) }
     ensures { IfOk result (λ f. f ≡ file_of circuit.now simple) }
@@ -23,10 +23,10 @@ pub fn file_of(alloc: Global, circuit: &Circuit, simple: Simple) -> Result<R1cs,
     let labels = labels_of(alloc, wires.as_slice())?;
     Ok(R1cs {
         wires: labels.len() as u32,
-        outputs: circuit.outputs,
-        public_inputs: 0,
-        private_inputs: circuit.inputs,
-        label_count: 1 + u64::from(circuit.signals),
+        outputs: circuit.signals.outputs,
+        public_inputs: circuit.signals.public_inputs,
+        private_inputs: circuit.signals.private_inputs,
+        label_count: 1 + circuit.signals.names.len() as u64,
         labels: Items::of(labels),
         constraints,
     })

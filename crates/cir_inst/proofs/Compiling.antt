@@ -1,91 +1,89 @@
--- The circuit of a program.
-use Rattle.std.proofs.Common.{◌≡◌, ℕ, ◌+◌, ◌≤◌, ◌↔◌, List, [], ◌∷◌, All, Result, Ok, MatchResult, refl, subst, ap, sym, ◌∙◌, arith}
-use Rattle.std.specs.List.{AllByRecursion}
-use Rattle.std.proofs.lemmas.List.Elements.{All-from_recursion}
-use Rattle.gold_field.specs.declared.form.Constraint.{Constraint}
-use Rattle.gold_field.specs.Form.{Holds, ConstraintBelow}
+-- A program's first main component, and what it compiles to.
+use Rattle.std.proofs.Common.{◌≡◌, ◌≤◌, List, [], ◌∷◌, Option, Some, Ok, Err, length, get_or}
+use Rattle.std.proofs.Common.{refl, sym, ap, subst, ◌∙◌, slice_get, arith}
+use Rattle.std.specs.Prelude.{◌↔◌, All, option_map}
+use Rattle.std.proofs.lemmas.Option.{slice_get-map, slice_get_read}
+use Rattle.gold_field.specs.Form.{Holds}
 use Rattle.cir_lc.specs.Number.{Assignment}
-use Rattle.cir_ast.specs.declared.program.Meant.{Meant as NameMeant}
-use Rattle.cir_ast.specs.declared.program.Spot.{Spot}
-use Rattle.cir_ast.specs.Tree.{Statements}
-use Rattle.cir_ast.specs.Program.{Program}
+use Rattle.cir_ast.specs.declared.program.Main.{Main as CodeMain}
+use Rattle.cir_ast.specs.declared.program.Program.{Program as CodeProgram}
+use Rattle.cir_ast.specs.Program.{Program, Main, bare_main, bare_program}
 use Rattle.cir_ast.specs.declared.refusal.Refusal.{Refusal}
-use Rattle.cir_inst.specs.declared.circuit.Circuit.{Circuit}
-use Rattle.cir_meaning.specs.Source.{Equation, IsEqualAt, IsDifference, IsSource, all_terms}
-use Rattle.cir_meaning.proofs.Holding.{all_hold}
-use Rattle.cir_meaning.proofs.TermCount.{source_length, terms_are_of}
-use Rattle.cir_inst.specs.declared.counts.Counts.{Counts}
-use Rattle.cir_inst.specs.declared.record.Recorder.{Recorder}
-use Rattle.cir_inst.specs.Meaning.Tried.{Tried, next}
-use Rattle.cir_inst.specs.Meaning.Statement.{World}
-use Rattle.cir_inst.specs.Meaning.Program.{Circuit as Meant, total, executed, executed_by, declared_by, meaning, Satisfies}
-use Rattle.cir_inst.specs.Source.{Executes}
-use Rattle.cir_inst.specs.Compiled.{Compiles, Instantiates, IsWithinLimits, IsFormed}
+use Rattle.cir_ast.specs.declared.refusal.Kind.TheVariants.{Main as MainKind}
+use Rattle.cir_meaning.specs.Tried.{Tried, Refused, next, found}
+use Rattle.cir_meaning.specs.Source.{Equation}
+use Rattle.cir_meaning.specs.Frame as F
+use Rattle.cir_meaning.specs.Compile.{Circuit, exec_main, circuit_of, compiled, group_size, shown}
+use Rattle.cir_meaning.specs.Compile.{refusal_of, Satisfies}
+use Rattle.cir_meaning.proofs.FineLaws.{list_holds}
+use Rattle.cir_frame.specs.declared.world.World.{World as CodeWorld}
+use Rattle.cir_arrays.specs.declared.stop.Fault.{Fault}
+use Rattle.cir_arrays.specs.declared.stop.Fault.TheVariants as fault
+use Rattle.cir_arrays.specs.Stopped.{IsRefusal, refused_of}
+use Rattle.cir_frame.specs.Shown.{world_of}
+use Rattle.cir_inst.specs.declared.circuit.Circuit.{Circuit as CodeCircuit}
+use Rattle.cir_inst.specs.declared.circuit.InstFault.{InstFault}
+use Rattle.cir_inst.specs.declared.circuit.InstFault.TheVariants.{Refused as NotInstantiated}
+use Rattle.cir_inst.specs.declared.circuit.InstFault.TheVariants.{OutOfMemory}
+use Rattle.cir_inst.specs.Compiled.{Instantiates}
+use Rattle.cir_inst.specs.Made.{Compiles, Shows}
+use Rattle.cir_arrays.proofs.Exits.{exits}
 
-pub compiled : (file : ℕ) (sts : Statements Spot NameMeant) (C : Counts) (r : Recorder) → C ≡ declared_by sts → total C ≤ 1048575 → Executes C (Ok r) (executed_by C file sts)
-    → Compiles (Ok record { outputs = C.outputs; inputs = C.inputs; signals = total C; constraints = r.constraints }) (executed (declared_by sts) file sts)
-compiled file sts C r h few e =
-    let w : World = e.0 in
-    let run : executed C file sts ≡ Ok record { outputs = C.outputs; inputs = C.inputs; signals = total C; equations = w.equations } =
-    ap (λ (m : Tried World). next m (λ w. Ok record { outputs = C.outputs; inputs = C.inputs; signals = total C; equations = w.equations })) e.1 in (
-      record { outputs = C.outputs; inputs = C.inputs; signals = total C; equations = w.equations },
-      ap (λ (D : Counts). executed D file sts) (sym h) ∙ run,
-      record {
-        outputs = refl;
-        inputs = refl;
-        signals = refl;
-        source = subst (λ (n : ℕ). IsSource n w.equations r.constraints) e.3 e.2.source;
-        few_signals = few;
-        few_constraints = e.2.few;
-        few_terms = subst (λ (n : ℕ). all_terms n w.equations ≤ 8388608) e.3 e.2.small;
-        public = omega arith;
-        differences = e.2.differences;
-      },
-    )
+abbrev pub of_main : Program → Main → Tried Circuit
+of_main p m =
+    next (exec_main p group_size m m.meant) (λ (signals, w). Ok (circuit_of group_size w))
 
-abbrev MetBy : Assignment → Result Meant Refusal → Type 0
-MetBy s r = MatchResult r (λ m. All (IsEqualAt s) m.equations) (λ _. ⊥)
+pub compiled_by : (p : Program) (m : Main) → slice_get p.mains 0 ≡ Some m
+    → compiled p ≡ of_main p m
+compiled_by p m e =
+    ap (λ (o : Option Main). next (found record {
+      file = 0;
+      spot = record { line = 1; column = 1 };
+      instance = 0;
+      path = 45 ∷ [];
+    } MainKind o) (of_main p)) e
 
-satisfied_by : (p : Program) (m : Meant) (ks : List Constraint) (s : Assignment) → meaning p ≡ Ok m → AllByRecursion IsDifference m.equations → IsSource (1 + m.signals) m.equations ks → Satisfies p s ↔ All (Holds s.at) ks
-satisfied_by p m ks s e d h =
-    let each : All (IsEqualAt s) m.equations ↔ All (Holds s.at) ks = all_hold (1 + m.signals) m.equations ks s (All-from_recursion IsDifference m.equations d) h in
-    (λ g. each.0 (subst (MetBy s) e g), λ g. subst (MetBy s) (sym e) (each.1 g))
+pub made_by : (p : Program) (m : Main) (w : CodeWorld) (es : List Equation) (signals : F.Signals)
+    → slice_get p.mains 0 ≡ Some m
+    → exec_main p group_size m m.meant ≡ Ok (signals, world_of w es)
+    → compiled p ≡ Ok (circuit_of group_size (world_of w es))
+made_by p m w es signals first e =
+    compiled_by p m first
+    ∙ ap (λ (t : Tried (F.Signals × F.World)). next t (λ (signals, w).
+    Ok (circuit_of group_size w))) e
 
-pub satisfied : (p : Program) (c : Circuit) → Instantiates p (Ok c) → (s : Assignment) → Satisfies p s ↔ All (Holds s.at) c.constraints
-satisfied p c h s = satisfied_by p h.0 c.constraints s h.1 h.2.differences h.2.source
+pub refused_by : (p : Program) (m : Main) (f : Fault) → slice_get p.mains 0 ≡ Some m
+    → IsRefusal f (exec_main p group_size m m.meant) → IsRefusal f (compiled p)
+refused_by p m f first h =
+    subst (λ (t : Tried Circuit). IsRefusal f t) (sym (compiled_by p m first))
+    (exits f (exec_main p group_size m m.meant) _ h)
 
--- the limits
-below_of : (n : ℕ) (es : List Equation) (ks : List Constraint) → IsSource n es ks → AllByRecursion (ConstraintBelow n) ks
-below_of n [] [] h = tt
-below_of n [] (k ∷ ks) h = absurd h
-below_of n (e ∷ es) [] h = absurd h
-below_of n (e ∷ es) (k ∷ ks) h =
-    let w = h.0.within_constraint in
-    (record { a = λ i d l. (w.0 i d l).0; b = λ i d l. (w.1 i d l).0; c = λ i d l. (w.2 i d l).0 }, below_of n es ks h.1)
+pub first_main : (p : CodeProgram) (mains : List CodeMain) (m : CodeMain) → mains ≡ p.mains
+    → 1 ≤ length mains → m ≡ get_or mains 0 m
+    → slice_get (bare_program p).mains 0 ≡ Some (bare_main m)
+first_main p mains m same long e =
+    slice_get-map bare_main p.mains 0
+    ∙ ap (option_map bare_main) (subst (λ (ms : List CodeMain). slice_get ms 0 ≡ Some m) same
+    (slice_get_read mains (length mains) 0 m refl (omega arith) e))
 
-formed_of : (n : ℕ) (es : List Equation) (ks : List Constraint) → IsSource n es ks → AllByRecursion IsFormed ks
-formed_of n [] [] h = tt
-formed_of n [] (k ∷ ks) h = absurd h
-formed_of n (e ∷ es) [] h = absurd h
-formed_of n (e ∷ es) (k ∷ ks) h =
-    let w = h.0.within_constraint in (
-      record {
-        a = record { rises = h.0.rises_left; coefs = λ i d l. (w.0 i d l).1 };
-        b = record { rises = h.0.rises_right; coefs = λ i d l. (w.1 i d l).1 };
-        c = record { rises = h.0.rises_product; coefs = λ i d l. (w.2 i d l).1 };
-      },
-      formed_of n es ks h.1,
-    )
+-- as a user sees it
+pub instantiated : (p : Program) (c : CodeCircuit) → Compiles (Ok c) (compiled p)
+    → Instantiates p (Ok c)
+instantiated p c (x, e, is) = (x, ap (λ (t : Tried Circuit). shown p t) e, is)
 
-pub within_limits : (p : Program) (c : Circuit) → Instantiates p (Ok c) → IsWithinLimits c
-within_limits p c h =
-    let m = h.0 in
-    let o = h.2 in
-    record {
-      few_signals = omega (arith, o.signals, o.few_signals);
-      few_constraints = omega (arith, o.few_constraints, source_length (1 + m.signals) m.equations c.constraints o.source);
-      few_terms = omega (arith, o.few_terms, terms_are_of (1 + m.signals) m.equations c.constraints (omega arith) o.source);
-      public = omega (arith, o.public, o.outputs, o.inputs, o.signals);
-      below = subst (λ (n : ℕ). All (ConstraintBelow (1 + n)) c.constraints) (sym o.signals) (All-from_recursion (ConstraintBelow (1 + m.signals)) c.constraints (below_of (1 + m.signals) m.equations c.constraints o.source));
-      formed = All-from_recursion IsFormed c.constraints (formed_of (1 + m.signals) m.equations c.constraints o.source);
-    }
+pub not_instantiated : (p : Program) (f : Fault) (r : InstFault) → IsRefusal f (compiled p)
+    → Shows p f r → Instantiates p (Err r)
+not_instantiated p f OutOfMemory h s = tt
+not_instantiated p fault.OutOfMemory (NotInstantiated r) h s = absurd s
+not_instantiated p (fault.Refused stop) (NotInstantiated r) h s =
+    at (compiled p) h
+  where
+    at : (t : Tried Circuit) → IsRefusal (fault.Refused stop) t → shown p t ≡ Err r
+    at (Ok c) h = cc
+    at (Err e) h =
+        let same : e ≡ refused_of stop = cc in
+        ap (λ (x : Refused). Err (refusal_of p x)) same ∙ ap (λ (x : Refusal). Err x) s
+
+pub satisfied : (p : Program) (c : CodeCircuit) → Compiles (Ok c) (compiled p)
+    → (s : Assignment) → Satisfies p s ↔ All (Holds s.at) c.constraints
+satisfied p c (x, e, is) s = list_holds p x _ c.constraints s e is.source

@@ -1,7 +1,10 @@
-pub mod Within
-pub mod Recording
-pub mod Leading
-pub mod Numbers
-pub mod Progress
-pub mod Compiling
 pub mod OneCircuit
+pub mod Tables
+pub mod Numbering
+pub mod NamedSignals
+pub mod Renumbering
+pub mod Circuits
+pub mod Made
+pub mod Openings
+pub mod Mains
+pub mod Compiling

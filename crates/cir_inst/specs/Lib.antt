@@ -1,5 +1,5 @@
-pub mod Seen
-pub mod Source
+pub mod Table
+pub mod Renumbered
+pub mod Opened
 pub mod Compiled
-pub mod Progress
-pub mod Meaning
+pub mod Made

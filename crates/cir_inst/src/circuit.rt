@@ -1,33 +1,44 @@
-ghost use Rattle.std.specs.Prelude.{◌≡◌, ◌↔◌, [], None, IfOk, All, map, slice_get, unwrap_or, codes};
+ghost use Rattle.std.specs.Prelude.{◌≡◌, ◌↔◌, IfOk, OnOk, All, List, [], codes, map, slice_get};
+ghost use Rattle.std.specs.Prelude.{unwrap_or};
 ghost use Rattle.gold_field.specs.Form.{Holds};
 ghost use Rattle.cir_lc.specs.Number.{Assignment};
-ghost use Rattle.cir_ast.specs.Tree.{bare_statement, bare_block, as_statements};
-ghost use Rattle.cir_ast.specs.Program.{bare_program};
+ghost use Rattle.cir_ast.specs.Program.{bare_main, bare_program};
 ghost use Rattle.cir_checks.specs.Checked.{IsChecked};
-ghost use Rattle.cir_subset.specs.Unbuilt.{first_unbuilt};
-ghost use Rattle.cir_inst.specs.Meaning.Program.{compiled, executed, declared_by, refusal_at, Satisfies};
-ghost use Rattle.cir_inst.specs.Compiled.{Instantiates, Compiles, Places, IsWithinLimits};
+ghost use Rattle.cir_meaning.specs.Limits.{Counts as AnyCounts};
+ghost use Rattle.cir_meaning.specs.SignalFree.{AreFunctionsFree};
+ghost use Rattle.cir_meaning.specs.Source.{Equation};
+ghost use Rattle.cir_meaning.specs.Frame as F;
+ghost use Rattle.cir_meaning.specs.Bodies.{call_at, exec_template, make_at, most_open};
+ghost use Rattle.cir_meaning.specs.Compile as M;
+ghost use Rattle.cir_meaning.specs.Compile.{Satisfies, compiled, group_size, refusal_of};
+ghost use Rattle.cir_arrays.specs.Shown.{datum_of};
+ghost use Rattle.cir_arrays.specs.Stopped.{Gives, refused_of};
+ghost use Rattle.cir_frame.specs.Shown.{frame_of, world_of};
+ghost use Rattle.cir_evaluate.specs.Within.{Means, at_spot, context_of, kept_of};
+ghost use Rattle.cir_assign.specs.Makes.{Creates};
+ghost use Rattle.cir_inst.specs.Compiled.{Instantiates, IsCircuitOf, IsWithinLimits};
+ghost use Rattle.cir_inst.specs.Made.{Compiles, IsMade, Makes, Shows};
 
-use crate::counts::count;
-use crate::main_template::main_template;
-use crate::run::run_template;
-use crate::stop::{Fault, Spot, Stop};
-use cir_ast::program::{Program, Statement, Template};
-use cir_ast::{Place, Refusal, Text};
+use crate::bodies::{MOST_OPEN, Opening, Place, call_function, context_in, run_template};
+use crate::table::{renumbered, table_of};
+use cir_arrays::{Datum, Fault, Site, Stop};
+use cir_ast::program::{Main, Meant, Program, Spot};
+use cir_ast::{Kind, Refusal, Text};
+use cir_evaluate::{Context, arguments_in};
+use cir_frame::{Frame, Grouping, Room, SignalEntry, World, begun};
+use cir_values::Signals;
 use gold_field::Constraint;
 use items::Items;
 use std::alloc::{AllocError, Global};
 
-/// What a program compiles to. Signal 0 stands for 1; then come the outputs, the inputs and all other
-/// signals.
+/// What a program compiles to.
 #[derive(Debug, Drop)]
 pub struct Circuit {
-    pub outputs: u32,
-    pub inputs: u32,
-    /// The number of signals, without signal 0.
-    pub signals: u32,
+    pub signals: Signals,
     /// Normal constraints, in the order in which they are executed.
     pub constraints: Items<Constraint>,
+    /// The paths of the instances in order of creation, main first.
+    pub instances: Items<Text>,
 }
 
 /// Why a program doesn't compile.
@@ -51,21 +62,15 @@ impl From<AllocError> for InstFault {
 /// Executes the main component of a program.
 pub fn instantiate(alloc: Global, program: &Program) -> Result<Circuit, InstFault>
     requires checked { IsChecked (bare_program program.now) }
-    requires built { first_unbuilt (bare_program program.now) ≡ None }
-
+    requires free { AreFunctionsFree (bare_program program.now) }
     // A program is refused exactly where its meaning is, of the same kind and at the same place;
-    // else the constraints are the normal constraints of its equations.
+    // else the circuit has the meaning's table of signals, and the normal constraints of its
+    // equations.
     ensures meaning { Instantiates (bare_program program.now) result }
     // They hold at just the assignments that satisfy the program.
-    ensures satisfied { IfOk result (λ c. (s : Assignment) → Satisfies (bare_program program.now) s ↔ All (Holds s.at) c.constraints) }
+    ensures satisfied { IfOk result (λ c. (s : Assignment)
+        → Satisfies (bare_program program.now) s ↔ All (Holds s.at) c.constraints) }
     ensures fits { IfOk result IsWithinLimits }
-{
-    let circuit = outcome(alloc, program)?;
-    Ok(circuit)
-}
-
-fn outcome(alloc: Global, program: &Program) -> Result<Circuit, InstFault>
-    ensures { Instantiates (bare_program program.now) result }
 {
     match compile(alloc, program) {
         Ok(circuit) => Ok(circuit),
@@ -74,38 +79,156 @@ fn outcome(alloc: Global, program: &Program) -> Result<Circuit, InstFault>
 }
 
 fn compile(alloc: Global, program: &Program) -> Result<Circuit, Fault>
-    ensures { Compiles result (compiled (bare_program program.now)) }
+    requires { AreFunctionsFree (bare_program program.now) }
+    ensures meaning { Compiles result (compiled (bare_program program.now)) }
+    ensures fits { IfOk result IsWithinLimits }
 {
-    let template = main_template(program)?;
-    let circuit = compile_template(alloc, template)?;
+    let [main, ..] = program.mains.as_slice() else {
+        let nowhere = Site {
+            file: 0,
+            spot: Spot { line: 1, column: 1 },
+            instance: 0,
+            path: b"-",
+        };
+        return Err(nowhere.refused(alloc, Kind::Main));
+    };
+    let world = run_main(alloc, program, main)?;
+    let circuit = circuit_of(alloc, world)?;
     Ok(circuit)
 }
 
-fn compile_template(alloc: Global, template: &Template) -> Result<Circuit, Fault>
-    ensures { Compiles result (executed (declared_by (bare_block template.now.body)) template.now.file
-        (bare_block template.now.body)) }
+/// Main is executed in a context of its own.
+fn run_main<'x>(alloc: Global, program: &'x Program, main: &'x Main) -> Result<World, Fault>
+    requires { AreFunctionsFree (bare_program program.now) }
+    ensures { Makes result (M.exec_main (bare_program program.now) group_size (bare_main main.now)
+        main.now.meant) }
 {
-    compile_statements(alloc, template.file, template.body.statements.as_slice())
+    let opening = Opening {
+        alloc,
+        program,
+        room: MOST_OPEN,
+    };
+    let file = main.file;
+    let call = |spot: Spot, f: u32, arguments: Vec<Datum>, world: &mut World| -> Result<
+        Datum,
+        Fault,
+    >
+        ensures gives { (qs : List Equation) → Gives (λ d. (datum_of d, world_of world.new qs))
+            result
+            (call_at (bare_program opening.entry.program.now) group_size opening.entry.room
+            record { file = file; spot = spot; instance = 0; path = codes "main" }
+            f (map datum_of arguments.items) (world_of world.old qs)) }
+        ensures added { world.new.added ≡ world.old.added }
+        ensures keeps { kept_of world.new ≡ kept_of world.old }
+    {
+        let site = Site {
+            file,
+            spot,
+            instance: 0,
+            path: b"main",
+        };
+        call_function(opening, site, f, arguments, world)
+    };
+    let grouping = Grouping::Inside;
+    let place = Place {
+        file,
+        instance: 0,
+        components: 0,
+    };
+    let context = context_in(program, alloc, place, b"main", &grouping, &call);
+    execute_main(&context, main)
 }
 
-fn compile_statements(alloc: Global, file: u32, statements: &[Statement]) -> Result<Circuit, Fault>
-    ensures { Compiles result
-        (executed (declared_by (as_statements (map bare_statement statements.now))) file
-        (as_statements (map bare_statement statements.now))) }
+/// Main's arguments are evaluated at its statement, and its body is executed.
+fn execute_main<C>(context: &Context<C>, main: &Main) -> Result<World, Fault>
+where
+    C: Fn(Spot, u32, Vec<Datum>, &mut World) -> Result<Datum, Fault>,
+    requires calls { C.IsAlwaysCallable context.now.call.now }
+    requires free { AreFunctionsFree (bare_program context.now.program.now) }
+    ensures { (m : Means (C.post context.now.call.now) context.now)
+        → context_of context.now m.call m.make
+        ≡ M.main_context (bare_program context.now.program.now) group_size (bare_main main.now)
+        → Makes result (M.exec_main (bare_program context.now.program.now) group_size
+        (bare_main main.now) main.now.meant) }
 {
-    let counts = count(statements);
-    let recorder = run_template(alloc, counts, file, statements)?;
+    let here = context.here(main.spot);
+    let Meant::Template(t) = main.meant else {
+        return Err(here.refused(Kind::WrongKind));
+    };
+    let mut world = World::new(context.alloc);
+    let frame = no_frame(context.alloc)?;
+    let arguments = arguments_in(&here, main.arguments.as_slice(), &frame, &mut world)?;
+    let _signals = open_main(context, main, t, arguments, &mut world)?;
+    context.settle(main.spot, &mut world)?;
+    Ok(world)
+}
+
+/// The signals of main's template, if there is one of this number.
+fn open_main<C>(
+    context: &Context<C>,
+    main: &Main,
+    t: u32,
+    arguments: Vec<Datum>,
+    world: &mut World,
+) -> Result<Vec<Option<SignalEntry>>, Fault>
+    ensures creates { (qs : List Equation) → Creates qs world.old world.new result
+        (exec_template (bare_program context.now.program.now) group_size
+        (call_at (bare_program context.now.program.now) group_size most_open)
+        (make_at (bare_program context.now.program.now) group_size 255)
+        (M.main_group main.now.public) (at_spot context.now main.now.spot) t
+        (map datum_of arguments.items) (codes "main") (world_of world.old qs)) }
+    ensures added { OnOk result (world.new.added ≡ world.old.added) }
+{
+    let Some(template) = context.program.templates.get(t as usize) else {
+        return Err(context.here(main.spot).refused(Kind::WrongKind));
+    };
+    let opening = Opening {
+        alloc: context.alloc,
+        program: context.program,
+        room: MOST_OPEN - 1,
+    };
+    let grouping = Grouping::Main(main.public.as_slice());
+    run_template(opening, template, &grouping, arguments, b"main", world)
+}
+
+fn no_frame(alloc: Global) -> Result<Frame, AllocError>
+    ensures { (c : AnyCounts) → IfOk result (λ f. frame_of f c
+        ≡ record (F.begun [] 0 0 0) { added = c }) }
+{
+    let room = Room {
+        variables: 0,
+        signals: 0,
+        components: 0,
+    };
+    begun(alloc, Vec::new(alloc), room)
+}
+
+fn circuit_of(alloc: Global, world: World) -> Result<Circuit, AllocError>
+    requires { (es : List Equation) × IsMade es world }
+    ensures circuit { (es : List Equation) → IsMade es world
+        → IfOk result (IsCircuitOf (M.circuit_of group_size (world_of world es))) }
+    ensures fits { IfOk result IsWithinLimits }
+{
+    let signals = table_of(alloc, &world)?;
+    let World {
+        rows: _,
+        sizes,
+        constraints,
+        instances,
+        counts: _,
+        added: _,
+    } = world;
+    let constraints = renumbered(alloc, &sizes, constraints)?;
     Ok(Circuit {
-        outputs: counts.outputs,
-        inputs: counts.inputs,
-        signals: counts.outputs + counts.inputs + counts.inner,
-        constraints: recorder.constraints,
+        signals,
+        constraints,
+        instances: Items::of(instances),
     })
 }
 
-// A refusal of the main component, with its file's name and its path.
+/// A refusal as a user sees it, with its file's name.
 fn placed(alloc: Global, program: &Program, fault: Fault) -> InstFault
-    ensures { Places program.now.files (codes "main") fault result }
+    ensures { Shows (bare_program program.now) fault result }
 {
     match fault {
         Fault::OutOfMemory => InstFault::OutOfMemory,
@@ -117,25 +240,31 @@ fn placed(alloc: Global, program: &Program, fault: Fault) -> InstFault
 }
 
 fn refusal(alloc: Global, program: &Program, stop: Stop) -> Result<Refusal, AllocError>
-    ensures { IfOk result (λ r. r ≡ refusal_at program.now.files (codes "main") stop) }
+    ensures { IfOk result (λ r. r ≡ refusal_of (bare_program program.now) (refused_of stop)) }
 {
-    let file = file_name(alloc, program, stop.spot)?;
-    let path = Text::from_slice(alloc, b"main")?;
+    let Stop {
+        kind,
+        file,
+        spot,
+        instance: _,
+        path,
+    } = stop;
+    let file = file_name(alloc, program, file)?;
     Ok(Refusal {
-        kind: stop.kind,
-        place: Place {
+        kind,
+        place: cir_ast::Place {
             file,
-            line: stop.spot.line,
-            column: stop.spot.column,
+            line: spot.line,
+            column: spot.column,
             path,
         },
     })
 }
 
-fn file_name(alloc: Global, program: &Program, spot: Spot) -> Result<Text, AllocError>
-    ensures { IfOk result (λ t. t ≡ unwrap_or (slice_get program.now.files spot.file) []) }
+fn file_name(alloc: Global, program: &Program, file: u32) -> Result<Text, AllocError>
+    ensures { IfOk result (λ name. name ≡ unwrap_or (slice_get program.now.files file) []) }
 {
-    match program.files.get(spot.file as usize) {
+    match program.files.get(file as usize) {
         Some(name) => {
             let copy = Text::from_slice(alloc, name.as_slice())?;
             Ok(copy)

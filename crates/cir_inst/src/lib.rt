@@ -1,15 +1,8 @@
-//! What a program compiles to: the normal constraints of its main component.
+//! What a program compiles to: the constraints of its main component, and the table of its signals.
 #![tactic(auto)]
 
+mod bodies;
 mod circuit;
-mod counts;
-mod evaluate;
-mod execute;
-mod main_template;
-mod record;
-mod run;
-mod scope;
-mod stop;
-mod value;
+mod table;
 
 pub use circuit::{Circuit, InstFault, instantiate};

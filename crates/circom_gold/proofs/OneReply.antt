@@ -5,8 +5,7 @@ use Rattle.iden_files.specs.File.{File}
 use Rattle.cir_ast.specs.declared.refusal.Refusal.{Refusal as SourceRefusal}
 use Rattle.cir_compile.proofs.OneFile.{compiled_or_refused, one_file, one_refusal}
 use Rattle.cir_compile.proofs.OneFile.{there_or_compiled, there_or_refused}
-use Rattle.circom_words.specs.Words.{Command, Options, check, compile, prove, public}
-use Rattle.circom_words.specs.Words.{audit}
+use Rattle.circom_words.specs.Words.{Command, Options, check, compile, prove, public, audit}
 use Rattle.circom_words.specs.declared.answer.Refusal.{Refusal}
 use Rattle.circom_words.specs.declared.answer.Refusal.TheVariants.{NoSuchFile, BadSource}
 use Rattle.circom_files.proofs.Once.{one_outcome, one_audit}

@@ -1,5 +1,6 @@
 -- What a command says where it was stopped, and what a run does with its reply.
-use Rattle.std.proofs.Common.{◌≡◌, ◌<◌, ◌∙◌, ◌++◌, ◌↔◌, ◌⊎◌, ℕ, List, [], length, Option, Some, None, Result, Ok, Err, IfOk, refl, sym, ap, subst, inl, inr, arith}
+use Rattle.std.proofs.Common.{◌≡◌, ◌<◌, ◌∙◌, ◌++◌, ◌↔◌, ◌⊎◌, ℕ, List, [], length, Option, Some}
+use Rattle.std.proofs.Common.{None, Result, Ok, Err, IfOk, refl, sym, ap, subst, inl, inr, arith}
 use Rattle.std.proofs.Math.Seq.{take-length}
 use Rattle.std.proofs.lemmas.List.{append-nil}
 use Rattle.std.proofs.lemmas.Result.{IfOk-weaker}
@@ -19,7 +20,8 @@ use Rattle.circom_words.specs.Proving.{audit_status}
 use Rattle.lig_proof.specs.declared.verdict.Verdict.{Verdict as Audited}
 use Rattle.lig_proof.specs.declared.verdict.Verdict.TheVariants as audits
 use Rattle.circom_files.specs.Accepted.{HoldsProof, IsAccepted, WritesProof}
-use Rattle.circom_files.specs.Reply.{Reply, NewFile, Says, said, checked, proved, published, audited, store_failed}
+use Rattle.circom_files.specs.Reply.{Reply, NewFile, Says, said, checked, proved, published}
+use Rattle.circom_files.specs.Reply.{audited, store_failed}
 use Rattle.circom_files.specs.declared.outcome.Outcome.{Outcome}
 use Rattle.circom_files.specs.declared.outcome.Outcome.TheVariants.{Made, Unmade}
 use Rattle.circom_files.specs.declared.outcome.Published.{Published}
@@ -31,7 +33,8 @@ use Rattle.circom_files.specs.Stops.{EndsBy}
 use Rattle.circom_words.specs.Words.{Command, Options, check, compile, prove, public, audit}
 use Rattle.circom_words.specs.declared.answer.Refusal.{Refusal}
 use Rattle.circom_words.specs.declared.answer.Verdict.{Verdict}
-use Rattle.circom_words.specs.declared.answer.Verdict.TheVariants.{CountsDiffer, WireZero, ConstraintFails, Satisfied}
+use Rattle.circom_words.specs.declared.answer.Verdict.TheVariants.{CountsDiffer, WireZero}
+use Rattle.circom_words.specs.declared.answer.Verdict.TheVariants.{ConstraintFails, Satisfied}
 use Rattle.circom_files.specs.declared.reply.Reply.{Reply as CodeReply}
 use Rattle.circom_files.specs.declared.stop.Stop.{Stop}
 use Rattle.circom_files.specs.declared.stop.Stop.TheVariants.{Refused, StoreFailed, OutOfMemory}
@@ -71,10 +74,7 @@ writes contents source options out f r told is read =
         file = f;
         read = read;
         program = compiles.program;
-        source_means = record {
-          loaded = compiles.loaded;
-          built = compiles.written.built;
-        };
+        loaded = compiles.loaded;
         exactly = λ values are.
             let means = compiles.written.means values are in (
               (λ holds. let s = means.0 holds in (s.0, s.1.agrees, s.2)),

@@ -1,5 +1,6 @@
 -- The command `compile`: the file of a source's constraints.
-use Rattle.std.specs.Prelude.{◌≡◌, ◌↔◌, ℕ, ◌<◌, List, slice_index, All, Option, Some, None, Result, Ok, Err, ⊤}
+use Rattle.std.specs.Prelude.{◌≡◌, ◌↔◌, ℕ, ◌<◌, List, slice_index, All, Option, Some, None, Result}
+use Rattle.std.specs.Prelude.{Ok, Err, ⊤}
 use Rattle.out_io.specs.Calls.{Told}
 use Rattle.out_io.specs.Contents.{Contents}
 use Rattle.gold_field.specs.Form.{Holds}
@@ -8,13 +9,13 @@ use Rattle.iden_files.specs.ReadR1cs.{r1cs_of}
 use Rattle.cir_ast.specs.Program.{Program}
 use Rattle.cir_lc.specs.Number.{Assignment}
 use Rattle.cir_names.specs.Loading.{IsLoaded}
-use Rattle.cir_inst.specs.Meaning.Program.{Satisfies}
-use Rattle.cir_subset.specs.Unbuilt.{first_unbuilt}
+use Rattle.cir_meaning.specs.Compile.{Satisfies}
 use Rattle.cir_compile.specs.Compiled.{Task, IsCompiled, IsRefused}
 use Rattle.cir_compile.specs.Written.{AreValues}
 use Rattle.circom_words.specs.Words.{Options}
 use Rattle.circom_words.specs.declared.answer.Refusal.{Refusal}
-use Rattle.circom_words.specs.declared.answer.Refusal.TheVariants.{NoSuchFile, BadFile, BadSource, BadInput}
+use Rattle.circom_words.specs.declared.answer.Refusal.TheVariants.{NoSuchFile, BadFile, BadSource}
+use Rattle.circom_words.specs.declared.answer.Refusal.TheVariants.{BadInput}
 use Rattle.circom_files.specs.declared.stop.Stop.{Stop}
 use Rattle.circom_files.specs.declared.stop.Stop.TheVariants.{Refused, StoreFailed, OutOfMemory}
 
@@ -47,21 +48,16 @@ SourceSteps contents source options failed (Err (Refused r)) =
 SourceSteps contents source options failed (Err StoreFailed) = failed
 SourceSteps contents source options failed (Err OutOfMemory) = ⊤
 
--- the program that the source under the name means, with all that it includes; all its forms are built
-pub record IsProgramOf (files : Contents) (source : List ℕ) (options : Options)
-    (program : Program) : Type 0 where
-  pub loaded : IsLoaded files source options.folder program
-  pub built : first_unbuilt program ≡ None
-
--- The bytes are read as a file of constraints. Values of its wires satisfy them exactly when they
--- extend to an assignment that satisfies the source: the value of each wire is that of the signal
--- that its label names.
+-- The bytes are read as a file of constraints, and the program is that of the source under the name
+-- with all that it includes. Values of the wires satisfy the constraints exactly when they extend
+-- to an assignment that satisfies the program: the value of each wire is that of the signal that
+-- its label names.
 pub record AreConstraintsOf (files : Contents) (source : List ℕ) (options : Options)
     (bytes : List ℕ) : Type 0 where
   pub file : File
   pub read : r1cs_of bytes ≡ Ok file
   pub program : Program
-  pub source_means : IsProgramOf files source options program
+  pub loaded : IsLoaded files source options.folder program
   pub exactly : (values : List ℕ) → AreValues file values
       → All (Holds (slice_index values)) file.constraints
       ↔ ((s : Assignment)

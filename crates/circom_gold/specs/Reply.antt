@@ -8,7 +8,8 @@ use Rattle.circom_words.specs.Words.{Command, Options, check, compile, prove, pu
 use Rattle.circom_files.specs.Check.{check_of}
 use Rattle.circom_files.specs.Files.{r1cs_in}
 use Rattle.circom_files.specs.Proving.{Audits, Proves, public_of}
-use Rattle.circom_files.specs.Reply.{Reply, Says, audited, checked, proved, published, usage, written}
+use Rattle.circom_files.specs.Reply.{Reply, Says, audited, checked, proved, published, usage}
+use Rattle.circom_files.specs.Reply.{written}
 use Rattle.circom_gold.specs.Compile.{Compiles, AreConstraintsOf}
 
 abbrev pub compiled : List ℕ → File → Reply

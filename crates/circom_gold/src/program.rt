@@ -1,4 +1,5 @@
-ghost use Rattle.std.specs.Prelude.{◌≡◌, ◌⊎◌, ◌≢◌, ◌↔◌, ℕ, List, [], None, Some, IfOk, IsErrOf, IsOk, OnOk, OnErr, option_map};
+ghost use Rattle.std.specs.Prelude.{◌≡◌, ◌⊎◌, ◌≢◌, ◌↔◌, ℕ, List, [], None, Some, IfOk, IsErrOf};
+ghost use Rattle.std.specs.Prelude.{IsOk, OnOk, OnErr, option_map};
 ghost use Rattle.out_io.specs.Calls.{Counting, OnlyReads, Told, course};
 ghost use Rattle.out_io.specs.Contents.{Changes};
 ghost use Rattle.out_io.specs.Faults.{Rose};
@@ -11,7 +12,8 @@ ghost use Rattle.circom_files.specs.Reply.{Reply};
 ghost use Rattle.circom_gold.specs.Reply.{Answers, WritesConstraintsOf};
 ghost use Rattle.circom_gold.specs.Run.{Ends, Stays, Leaves, LeavesInPart, Puts, Replies, Writing};
 ghost use Rattle.circom_files.specs.Shown.{shown};
-ghost use Rattle.circom_words.specs.Words.{Options, ProveOptions, compile, prove, audit, texts, command_of, meant};
+ghost use Rattle.circom_words.specs.Words.{Options, ProveOptions, compile, prove, audit, texts};
+ghost use Rattle.circom_words.specs.Words.{command_of, meant};
 
 use crate::compile::compile_reply;
 use circom_files::{Reply, audit_reply, check_reply, prove_reply, public_reply};

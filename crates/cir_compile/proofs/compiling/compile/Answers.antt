@@ -1,5 +1,9 @@
+use Rattle.cir_scope.proofs.Loaded.{of_sources}
 use Rattle.cir_compile.proofs.Meaning.{not_loaded, not_written, compiled}
 use Rattle.cir_compile.proofs.compiling.compile.Goals as goal
+
+pub written-requires-clause-free : goal.written-requires-clause-free
+written-requires-clause-free g c = (of_sources _ c.in_ok-program.ensures.theirs).functions
 
 pub returns-in_err-program-clause-compiles : goal.returns-in_err-program-clause-compiles
 returns-in_err-program-clause-compiles g c =

@@ -1,9 +1,7 @@
 use Rattle.cir_ast.specs.Program.{bare_program}
-use Rattle.cir_inst.proofs.Compiling.{satisfied, within_limits}
+use Rattle.cir_inst.proofs.Compiling.{satisfied}
 use Rattle.cir_inst.proofs.circuit.instantiate.Goals as goal
 
-pub returns-clause-satisfied : goal.returns-clause-satisfied
-returns-clause-satisfied c = satisfied (bare_program c.args.program.now) c.in_ok-circuit.circuit c.in_ok-circuit.ensures
-
-pub returns-clause-fits : goal.returns-clause-fits
-returns-clause-fits c = within_limits (bare_program c.args.program.now) c.in_ok-circuit.circuit c.in_ok-circuit.ensures
+pub returns-in-Ok-clause-satisfied : goal.returns-in-Ok-clause-satisfied
+returns-in-Ok-clause-satisfied c =
+    satisfied (bare_program c.args.program.now) c.in-Ok.circuit c.in-Ok.ensures.meaning

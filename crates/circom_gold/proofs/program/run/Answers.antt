@@ -5,7 +5,8 @@ use Rattle.circom_gold.specs.Reply.{Answers}
 use Rattle.circom_gold.specs.Run.{Writing}
 use Rattle.circom_files.specs.Shown.{shown}
 use Rattle.circom_words.specs.Words.{Command, command_of, texts}
-use Rattle.circom_gold.proofs.Replies.{audit_told, proof_written, stays_said, stays_wanting, success_written}
+use Rattle.circom_gold.proofs.Replies.{audit_told, proof_written, stays_said, stays_wanting}
+use Rattle.circom_gold.proofs.Replies.{success_written}
 use Rattle.circom_gold.proofs.program.run.Goals as goal
 
 pub returns-in-Ok-clause-kept : goal.returns-in-Ok-clause-kept

@@ -1,6 +1,0 @@
-use Rattle.std.proofs.Common.{◌∙◌}
-use Rattle.cir_inst.proofs.Within.{none_value}
-use Rattle.cir_inst.proofs.value.zero.Goals as goal
-
-pub returns-clause-value : goal.returns-clause-value
-returns-clause-value c = none_value _ (c.of.ensures ∙ c.new.ensures.items)
