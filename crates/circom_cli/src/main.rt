@@ -10,14 +10,24 @@ use std::env;
 use std::io::ErrorKind;
 use std::process::ExitCode;
 use std::rt::Env;
-use std::thread::Threads;
+use std::thread::{Builder, Promise, Threads};
 
 // The exit status where memory ran out.
 const WANT_OF_MEMORY: u8 = 4;
 
+// A source is executed by calls inside each other, one for each template, call, statement and
+// expression that is open: 256 templates and 256 calls, with 256 others in each. This takes half a
+// gigabyte at most; only what is used of it is ever taken from the system.
+const STACK: usize = 1 << 30;
+
 fn main(rt: HostRuntime) -> ExitCode {
-    let outcome = match devices(&rt) {
-        Ok((mut store, mut out)) => outcome(&rt, &mut store, &mut out),
+    let outcome = match rt.clone() {
+        Ok(inner) => on_a_deep_stack(&rt, move || -> Result<u8, AllocError> {
+            match devices(&inner) {
+                Ok((mut store, mut out)) => outcome(&inner, &mut store, &mut out),
+                Err(error) => Err(error),
+            }
+        }),
         Err(error) => Err(error),
     };
     if outcome.is_err() {
@@ -34,6 +44,32 @@ fn exit_status(outcome: Result<u8, AllocError>) -> u8
     match outcome {
         Ok(status) => status,
         Err(AllocError) => WANT_OF_MEMORY,
+    }
+}
+
+// Nothing is said of the answer: a thread gives what its work gives.
+#[derive(Drop)]
+struct Unsaid;
+
+impl Promise<Result<u8, AllocError>> for Unsaid {
+    ghost use Rattle.std.specs.Prelude.{⊤};
+
+    ghost kept_by = { λ _ _. ⊤ };
+}
+
+// The answer of the work, on a stack of that size; where there can't be one, on this one.
+fn on_a_deep_stack<R: Threads, F: FnOnce() -> Result<u8, AllocError> + Send + 'static>(
+    rt: &R,
+    work: F,
+) -> Result<u8, AllocError>
+    requires { F.pre work }
+{
+    match Builder::new()
+        .stack_size(STACK)
+        .spawn_with(rt, Unsaid, work)
+    {
+        Ok(child) => child.join(rt),
+        Err(refused) => (refused.value)(),
     }
 }
 
