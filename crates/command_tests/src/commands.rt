@@ -5,6 +5,7 @@ use std::alloc::Global;
 use std::test::Fail;
 use std::thread::Threads;
 
+mod compiling;
 mod proving;
 
 // Three sections: the sizes, the constraint (-a) * b = -c, the labels.
@@ -409,6 +410,57 @@ fn compile_says_why_a_source_is_refused(rt: HostRuntime) -> Result<(), Fail> {
             "template A() { signal input a;\na <== 1; } component main = A();",
             "refused: E8 WrongKind at t.circom:2:1 in -\n",
         ),
+        (
+            "template T() {
+  signal input a; signal input b; signal input c; signal input d;
+  a*b === c*d;
+}
+component main = T();",
+            "refused: E11 NonQuadratic at t.circom:3:3 in main\n",
+        ),
+        (
+            "template Id() { signal input x; signal output y; y <== x; }
+template T() {
+  signal input a; signal output out; component c = Id();
+  out <== c.y; c.x <== a;
+}
+component main = T();",
+            "refused: E12 ReadBeforeWrite at t.circom:4:3 in main\n",
+        ),
+        (
+            "template Id() { signal input x; signal output y; y <== x; }
+template T() {
+  signal input a; signal output out; component c = Id();
+  out <== a;
+}
+component main = T();",
+            "refused: E15 InputsMissing at t.circom:3:38 in main\n",
+        ),
+        (
+            "template Id() { signal input x; signal output y; y <== x; }
+template T() {
+  signal input a; signal output out; component c = Id();
+  c.x <== a;
+}
+component main = T();",
+            "refused: E14 NeverWritten at t.circom:3:19 in main\n",
+        ),
+        (
+            "template T(n) {
+  signal input in; signal output x;
+  if (in) { x <== 1; } else { x <== 2; }
+}
+component main = T(1);",
+            "refused: E9 UnknownControl at t.circom:3:13 in main\n",
+        ),
+        (
+            "template Mul() { signal input a; signal input b; signal output c; c <== a*b; }
+template T() { signal input in; signal input x; signal input y;
+  if (in) { Mul()(in, in); }
+}
+component main = T();",
+            "refused: E9 UnknownControl at t.circom:3:13 in main\n",
+        ),
     ] {
         let said = line_of(&rt, rt.alloc(), source)?;
         assert_eq!(rt; said.as_slice(), line.as_bytes(), "{source}");
@@ -438,10 +490,6 @@ fn forms_outside_the_profile_are_named(rt: HostRuntime) -> Result<(), Fail> {
         (
             "function f() {\nlog(1); return 1; } template A() { } component main = A();",
             "LogPlace at t.circom:2:1",
-        ),
-        (
-            "template A() {\nsignal output o[2]; } component main = A();",
-            "Unbuilt at t.circom:2:1",
         ),
     ] {
         let said = line_of(&rt, rt.alloc(), source)?;

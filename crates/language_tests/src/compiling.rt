@@ -1,5 +1,5 @@
 use crate::loading::store_of;
-use cir_ast::{Form, Kind, Refusal};
+use cir_ast::{Form, Kind, Refusal, Which};
 use cir_compile::{CompileFault, Level, compile};
 use iden_files::write_r1cs;
 use std::alloc::Global;
@@ -40,10 +40,21 @@ fn a_product_is_written(rt: HostRuntime) -> Result<(), Fail> {
 
 // The refusal of a template with these statements, on its third line.
 fn refusal(alloc: Global, statements: &str) -> Result<Refusal, Fail> {
-    let mut source = String::new(alloc);
-    source.push_str("template T() {\n  signal input a; signal input b; signal output c;\n")?;
-    source.push_str(statements)?;
-    source.push_str("\n}\ncomponent main = T();\n")?;
+    let source = format!(in alloc;
+        "template T() {{
+  signal input a; signal input b; signal output c;
+{statements}
+}}
+template S() {{ signal input x; signal output y; signal z; z <== x; y <== z; }}
+template U(n) {{ signal output y; y <== n; }}
+function f(n) {{
+  return f(n); }}
+function pair(n) {{ return [n, n]; }}
+function sized(n) {{ var v[1 + 1]; return n; }}
+function first(v) {{ return v[0]; }}
+component main = T();
+"
+    )?;
     let mut store = store_of(alloc, source.as_str())?;
     match compile(alloc, &mut store, "t.circom", None, Level::O0) {
         Err(CompileFault::Refused(refusal)) => Ok(refusal),
@@ -51,32 +62,110 @@ fn refusal(alloc: Global, statements: &str) -> Result<Refusal, Fail> {
     }
 }
 
-// Each row has statements, the kind of their refusal, its column, and whether an instance is made
-// by then.
+fn left_out(form: Form) -> Kind {
+    Kind::NotInProfile { form }
+}
+
+// Each row has statements, the kind of their refusal, its line and column, and the path there.
 #[test]
 fn refusals_stand_at_their_statements(rt: HostRuntime) -> Result<(), Fail> {
-    let unbuilt = Kind::NotInProfile {
-        form: Form::Unbuilt,
+    let signals = Kind::Limit {
+        which: Which::Signals,
+        count: 1048579,
     };
-    for (statements, kind, column, made) in [
-        ("c <== a*b*a;", Kind::NonQuadratic, 1, true),
-        ("c <== a; c <== b;", Kind::SecondWrite, 10, true),
-        ("a <== b;", Kind::WrongKind, 1, false),
-        ("c <== T;", Kind::WrongKind, 1, false),
-        ("c <== a; c === d;", Kind::UnknownName, 10, false),
-        (" var x = 1; c <== a;", unbuilt, 2, false),
+    for (statements, kind, place, path) in [
+        ("a <== b;", Kind::WrongKind, (3, 1), "-"),
+        ("c <== T;", Kind::WrongKind, (3, 1), "-"),
+        ("c <== a; c === d;", Kind::UnknownName, (3, 10), "-"),
+        (
+            "component d = S(); d.w <== a;",
+            Kind::UnknownName,
+            (3, 20),
+            "main",
+        ),
+        (
+            "component d = S(); c <== d.z;",
+            Kind::WrongKind,
+            (3, 20),
+            "main",
+        ),
+        (
+            "signal s; if (a) { s <== 1; }",
+            Kind::UnknownControl,
+            (3, 20),
+            "main",
+        ),
+        ("var u[a];", Kind::UnknownIndex, (3, 1), "main"),
+        ("c <== a*b*a;", Kind::NonQuadratic, (3, 1), "main"),
+        ("signal s; c <== s;", Kind::ReadBeforeWrite, (3, 11), "main"),
+        ("c <== a; c <== b;", Kind::SecondWrite, (3, 10), "main"),
+        (" signal s; c <== a;", Kind::NeverWritten, (3, 2), "main"),
+        (
+            "c <== a; component d = S();",
+            Kind::InputsMissing,
+            (3, 10),
+            "main",
+        ),
+        ("var w[2]; c <== w[2];", Kind::OutOfBounds, (3, 11), "main"),
+        (" c <-- a / 0;", Kind::ZeroDivisor, (3, 2), "main"),
+        (
+            "c <== a; assert(1 == 2);",
+            Kind::AssertFalse,
+            (3, 10),
+            "main",
+        ),
+        (" signal s[1048576];", signals, (3, 2), "main"),
+        ("c <== f(1);", Kind::TooDeep, (8, 3), "main"),
+        (
+            "component d[2]; d[0] = S(); d[1] = U(1);",
+            left_out(Form::MixedComponents),
+            (3, 29),
+            "main",
+        ),
+        (
+            "var v = 1 + [1];",
+            left_out(Form::LiteralPlace),
+            (3, 1),
+            "main",
+        ),
+        (
+            "if (a) { log(1); }",
+            left_out(Form::LogPlace),
+            (3, 10),
+            "main",
+        ),
+        ("c <-- pair(a);", left_out(Form::RunArray), (3, 1), "main"),
+        (
+            "c <-- sized(a);",
+            left_out(Form::RunDimension),
+            (3, 1),
+            "main",
+        ),
+        (
+            "c <-- first([a, b]);",
+            left_out(Form::LiteralPlace),
+            (3, 1),
+            "main",
+        ),
+        (
+            " var x[2] = 1; c <== a;",
+            Kind::ShapeDiffers,
+            (3, 2),
+            "main",
+        ),
+        (
+            " signal s[2]; s <== [a];",
+            Kind::ShapeDiffers,
+            (3, 15),
+            "main",
+        ),
     ] {
         let refusal = refusal(rt.alloc(), statements)?;
-        let place = refusal.place;
-        assert_eq!(rt; refusal.kind, kind);
-        assert_eq!(rt; (place.line, place.column), (3, column), "{statements}");
-        let path = if made {
-            b"main".as_slice()
-        } else {
-            b"-".as_slice()
-        };
-        assert!(rt; place.path.as_slice() == path, "{statements}");
-        assert!(rt; place.file.as_slice() == b"t.circom".as_slice());
+        let at = refusal.place;
+        assert_eq!(rt; refusal.kind, kind, "{statements}");
+        assert_eq!(rt; (at.line, at.column), place, "{statements}");
+        assert!(rt; at.path.as_slice() == path.as_bytes(), "{statements}");
+        assert!(rt; at.file.as_slice() == b"t.circom".as_slice());
     }
     Ok(())
 }
