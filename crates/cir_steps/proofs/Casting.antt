@@ -1,0 +1,496 @@
+-- The steps of bodies, by the number of templates that may be open yet.
+use Rattle.std.proofs.Common.{◌≡◌, ◌≢◌, ◌⊎◌, inl, inr, ℕ, zero, suc, ◌-◌, Bool, true, false, List}
+use Rattle.std.proofs.Common.{[], ◌∷◌, ◌++◌, length, replicate, Option, Some, None, Ok, Err, refl}
+use Rattle.std.proofs.Common.{sym, ap, subst, ◌∙◌, slice_get}
+use Rattle.std.specs.Prelude.{⊤, is_none, not, codes}
+use Rattle.cir_ast.specs.declared.program.Spot.{Spot}
+use Rattle.cir_ast.specs.declared.program.Meant.{Meant}
+use Rattle.cir_ast.specs.declared.program.Meant.TheVariants as meant
+use Rattle.cir_ast.specs.declared.operators.Arrow.{Arrow}
+use Rattle.cir_ast.specs.declared.operators.Arrow.TheVariants as arrow
+use Rattle.cir_ast.specs.declared.operators.Direction.{Direction}
+use Rattle.cir_ast.specs.declared.refusal.Kind.{Kind}
+use Rattle.cir_ast.specs.declared.refusal.Kind.TheVariants.{TooDeep, WrongKind, SecondWrite}
+use Rattle.cir_ast.specs.declared.refusal.Kind.TheVariants.{ReadBeforeWrite, UnknownIndex}
+use Rattle.cir_ast.specs.declared.refusal.Kind.TheVariants.{NotInProfile}
+use Rattle.cir_ast.specs.declared.refusal.Form.TheVariants.{MixedComponents}
+use Rattle.cir_ast.specs.Program.{Program, Template, Main}
+use Rattle.cir_ast.specs.Tree.{Expr, Number, Place, Call, Anonymous, Parentheses, Array, Unary}
+use Rattle.cir_ast.specs.Tree.{Binary, Choice, Exprs, none, more, Accessors, Assign}
+use Rattle.cir_meaning.specs.Tried.{Where, Tried, next, needed, found}
+use Rattle.cir_meaning.specs.Places.{all_known}
+use Rattle.cir_meaning.specs.Arrays.{Datum, Scalar, Whole, reach, is_all_known}
+use Rattle.cir_meaning.specs.Evaluate.{arguments_in}
+use Rattle.cir_meaning.specs.Compile.{main_group, main_context, main_state, exec_main}
+use Rattle.cir_meaning.specs.RunBodies.{port_tables}
+use Rattle.cir_meaning.specs.Values.{Value, Linear, Parts, parts_of, difference_of}
+use Rattle.cir_meaning.specs.Frame.{SignalEntry, Signals, Part, Group, Frame, World, State, Caller}
+use Rattle.cir_meaning.specs.Frame.{Maker, Context, at, settle, entry_at, put_at, in_frame}
+use Rattle.cir_meaning.specs.Frame.{is_written}
+use Rattle.cir_meaning.specs.Writing as writing
+use Rattle.cir_meaning.specs.Writing.{Target, signals_of, with_part_signals, marked, write_element}
+use Rattle.cir_meaning.specs.Writing.{write_elements, constrained_by, appended, SignalAssignment}
+use Rattle.cir_meaning.specs.Writing.{signal_assignment, write_signal}
+use Rattle.cir_meaning.specs.Declaring.{Creation, template_call, creation, create, create_each}
+use Rattle.cir_meaning.specs.Declaring.{may_be, template_of, path_of, declare_signal, opened}
+use Rattle.cir_meaning.specs.Declaring.{add_part}
+use Rattle.cir_meaning.specs.Costs.{Cost}
+use Rattle.cir_meaning.specs.Steps.{signal_cost, stepped}
+use Rattle.cir_meaning.specs.Simple.{set_signal, wired}
+use Rattle.cir_meaning.specs.Statement.{Flow, Going, Returned, exec_all}
+use Rattle.cir_meaning.specs.Bodies.{template_context, template_state, ended, ended_flow}
+use Rattle.cir_meaning.specs.Bodies.{exec_template, call_at, make_at, most_open, numbered_others}
+use Rattle.cir_meaning.proofs.Good.{OnGood, good_ok, good_bad, good_next, good_on, good_needed}
+use Rattle.cir_meaning.proofs.Good.{good_weaker, good_found_as, good_any, good_is}
+use Rattle.cir_meaning.proofs.Likes.{CallKeeps, like_itself}
+use Rattle.cir_meaning.proofs.KnownCalls.{calls_keep}
+use Rattle.cir_meaning.proofs.Twins.{Twin, twin_bad, twin_same}
+use Rattle.cir_meaning.proofs.SignalTargets.{SignalLike, assignment_target}
+use Rattle.cir_meaning.proofs.PartWrites.{same_or_not}
+use Rattle.cir_steps.specs.Step.{Step}
+use Rattle.cir_steps.specs.Emission.{Emission, Emitted, known_in, with_state, made_elements}
+use Rattle.cir_steps.specs.Emission.{with_signal}
+use Rattle.cir_steps.specs.Making.{Cast, Caster, Emitting, freed_at, with_cast}
+use Rattle.cir_steps.specs.Emit.{make_wiring, emit_set_signal, emit_created, emit_create}
+use Rattle.cir_steps.specs.Statements.{emit_all, emit_begun, emit_ended, emit_body, cast_at}
+use Rattle.cir_steps.specs.Circuit.{emit_main}
+use Rattle.cir_steps.proofs.Templates.{AreApart, AreTemplates, all_declare}
+use Rattle.cir_steps.proofs.Still.{Still, stepped_still, valued_still, indices_still}
+use Rattle.cir_steps.proofs.Following.{Keeps, FollowsFlow}
+use Rattle.cir_steps.proofs.Walk.{IsFresh, one_step, Leaves, ClearIn, Clear, StaysClear}
+use Rattle.cir_steps.proofs.Walk.{still_clear, put_else, all_follow}
+
+pub blank_at : (count m : ℕ) → entry_at {A = SignalEntry} (replicate count None) m ≡ None
+blank_at zero m = refl
+blank_at (suc count) zero = refl
+blank_at (suc count) (suc m) = blank_at count m
+
+blank_clear : (ns : List ℕ) (count : ℕ) → AreApart ns → ClearIn ns (replicate count None)
+blank_clear [] count h = tt
+blank_clear (n ∷ ns) count h = (blank_at count n, h.0, blank_clear ns count h.1)
+
+-- what is written of signals was declared
+marked_clear : (n : ℕ) (e a : SignalEntry) (xs : Signals) (ns : List ℕ) → entry_at xs n ≡ Some e
+    → ClearIn ns xs → ClearIn ns (put_at n a xs)
+marked_clear n e a xs [] there p = tt
+marked_clear n e a xs (m ∷ ms) there p =
+    (at (same_or_not n m), p.1, marked_clear n e a xs ms there p.2)
+  where
+    at : (n ≡ m) ⊎ (n ≢ m) → entry_at (put_at n a xs) m ≡ None
+    at (inl same) =
+        let both : Some e ≡ None = sym there ∙ ap (λ (i : ℕ). entry_at xs i) same ∙ p.0 in cc
+    at (inr other) = put_else n m a xs other ∙ p.0
+
+then_clear : (f s t : State) → StaysClear f s → StaysClear s t → StaysClear f t
+then_clear f s t h g ns p = g ns (h ns p)
+
+part_clear : (j : ℕ) (signals : Signals) (o : Option Part) (f : State) (ns : List ℕ)
+    → Clear ns f → Clear ns (record f { frame = with_part_signals j signals o f.frame })
+part_clear j signals None f ns p = p
+part_clear j signals (Some x) f ns p = p
+
+written_clear : (t : Target) (place : ℕ) (e : SignalEntry) (part : Option ℕ) (s : State)
+    → entry_at (signals_of part s.frame) t.number ≡ Some e
+    → StaysClear s (record s {
+      frame = writing.with_signals part (put_at t.number (marked e place)
+          (signals_of part s.frame)) s.frame;
+    })
+written_clear t place e None s there ns p =
+    marked_clear t.number e (marked e place) s.frame.signals ns there p
+written_clear t place e (Some j) s there ns p =
+    part_clear j _ (slice_get s.frame.parts j) s ns p
+
+module _ (k : Context) (w : Where) where
+  element_clear : (t : Target) (place : ℕ) (s : State)
+      → OnGood (λ x. StaysClear s x.1) (write_element w t place s)
+  element_clear t place s =
+      good_found_as (λ x. StaysClear s x.1) w ReadBeforeWrite
+      (entry_at (signals_of t.part s.frame) t.number) _ (λ e there.
+      good_needed (λ x. StaysClear s x.1) (not (is_written e place)) w SecondWrite _
+      (good_ok (λ x. StaysClear s x.1) _ (written_clear t place e t.part s there)))
+
+  constrained_clear : (a : Arrow) (x y : Value) (s : State)
+      → OnGood (StaysClear s) (constrained_by k w a x y s)
+  constrained_clear arrow.Assign x y s = good_ok (StaysClear s) s (λ ns p. p)
+  constrained_clear arrow.Constrain x y s = at (parts_of (difference_of x y))
+    where
+      at : (o : Option Parts) → OnGood (StaysClear s) (appended k w x y s o)
+      at None = good_bad (StaysClear s) _
+      at (Some c) = good_ok (StaysClear s) _ (λ ns p. p)
+
+  elements_clear : (a : Arrow) (t : Target) (places : List ℕ) (vs : List Value) (s : State)
+      → OnGood (StaysClear s) (write_elements k w a t places vs s)
+  elements_clear a t [] vs s = good_ok (StaysClear s) s (λ ns p. p)
+  elements_clear a t (place ∷ places) [] s = good_ok (StaysClear s) s (λ ns p. p)
+  elements_clear a t (place ∷ places) (v ∷ vs) s =
+      good_next (λ x. StaysClear s x.1) (StaysClear s) (write_element w t place s) _
+      (element_clear t place s) (λ x h.
+      good_next (StaysClear x.1) (StaysClear s)
+      (constrained_by k w a (Linear _) v x.1) _ (constrained_clear a _ v x.1) (λ s2 g.
+      good_weaker (StaysClear s2) (StaysClear s) (write_elements k w a t places vs s2)
+      (elements_clear a t places vs s2)
+      (λ s3 i. then_clear s s2 s3 (then_clear s x.1 s2 h g) i)))
+
+  wired_clear : (cost : Cost) (places : List ℕ) (s : State)
+      → OnGood (StaysClear s) (wired k w cost places s)
+  wired_clear cost [] s = good_ok (StaysClear s) s (λ ns p. p)
+  wired_clear cost (place ∷ places) s =
+      good_weaker (Still s) (StaysClear s) (stepped k w cost 0 s)
+      (stepped_still s k w cost 0 s (refl, refl)) (λ t h ns p. still_clear ns s t h p)
+
+  -- an assignment to signals
+  set_signal_clear : (calls : CallKeeps k.call) (written : Assign Meant) (m : Meant)
+      (accessors : Accessors Meant) (a : Arrow) (e : Expr Meant) (s : State)
+      → OnGood (StaysClear s) (set_signal k w written m accessors a e s)
+  set_signal_clear calls written m accessors a e s =
+      good_next (SignalLike k calls s w) (StaysClear s) (signal_assignment k w m accessors e s) _
+      (assignment_target k calls s w m accessors e s (like_itself s)) (λ b h.
+      good_next (StaysClear b.state) (StaysClear s) (write_signal k w a b) _
+      (elements_clear a b.target b.target.reach.places b.value.items b.state) (λ t g.
+      good_weaker (StaysClear t) (StaysClear s)
+      (wired k w (signal_cost k w written accessors e s) b.target.reach.places t)
+      (wired_clear (signal_cost k w written accessors e s) b.target.reach.places t)
+      (λ u i. then_clear s t u (λ ns p. g ns (subst (ClearIn ns) (sym h.0.1) p)) i)))
+
+-- what is asked for as a whole, after a part of it
+twice : {A B C : Type 0} (R : B → C → Type 0) (m : Tried A) (go : A → Tried B)
+    (on : A → B → Tried C)
+    → ((a : A) → m ≡ Ok a → Twin R (go a) (next (go a) (on a)))
+    → Twin R (next m go) (next m (λ a. next (next m go) (on a)))
+unfolding Twin
+twice R (Ok a) go on f = f a refl
+twice R (Err e) go on f = tt
+
+alone : {B C : Type 0} (P : B → Type 0) (R : B → C → Type 0) (m : Tried B) (on : B → Tried C)
+    → OnGood P m → ((b : B) → m ≡ Ok b → P b → Twin R (Ok b) (on b)) → Twin R m (next m on)
+unfolding Twin OnGood
+alone P R (Ok b) on h f = f b refl h
+alone P R (Err e) on h f = tt
+
+twin_is : {B C : Type 0} (R : B → C → Type 0) (b : B) (c : C) → R b c → Twin R (Ok b) (Ok c)
+unfolding Twin
+twin_is R b c h = h
+
+needed_alone : {B C : Type 0} (R : B → C → Type 0) (test : Bool) (w : Where) (kind : Kind)
+    (m : Tried B) (on : B → Tried C) → Twin R m (next m on)
+    → Twin R (needed test w kind m) (next (needed test w kind m) on)
+unfolding Twin
+needed_alone R true w kind m on h = h
+needed_alone R false w kind m on h = tt
+
+found_alone : {A B C : Type 0} (R : B → C → Type 0) (w : Where) (kind : Kind) (o : Option A)
+    (go : A → Tried B) (on : B → Tried C)
+    → ((a : A) → o ≡ Some a → Twin R (go a) (next (go a) on))
+    → Twin R (next (found w kind o) go) (next (next (found w kind o) go) on)
+unfolding Twin
+found_alone R w kind (Some a) go on f = f a refl
+found_alone R w kind None go on f = tt
+
+-- two answers of which the first is part of a state
+made_alone : {A B C D : Type 0} (P : A → C → Type 0) (R : B → D → Type 0) (m : Tried A)
+    (r : Tried C) (state : A → B) (other : B → C → D) → Twin P m r
+    → ((a : A) (c : C) → m ≡ Ok a → r ≡ Ok c → P a c → R (state a) (other (state a) c))
+    → Twin R (next m (λ a. Ok (state a)))
+    (next (next m (λ a. Ok (state a))) (λ s. next r (λ c. Ok (other s c))))
+unfolding Twin
+made_alone P R (Ok a) (Ok c) state other h f = f a c refl refl h
+made_alone P R (Ok a) (Err e) state other h f = absurd h
+made_alone P R (Err e) r state other h f = tt
+
+-- a relation of what a body gives at compile time, and of its steps
+-- Gives
+
+abbrev pub Fits : ((start : ℕ) → Signals × World → Cast → Type 0) → Option Maker → Caster
+    → Type 0
+Fits G make cast =
+    (m : Maker) → make ≡ Some m → (w : Where) (n : ℕ) (ds : List Datum) (path : List ℕ)
+    (world : World) (start : ℕ)
+    → Twin (G start) (m w n ds path world) (cast w n ds path world start)
+
+-- a component with its cells
+abbrev created_state : Where → Creation → (place : ℕ) → Signals × World → State
+created_state w c place a =
+    in_frame (add_part c.component c.entry place record {
+      spot = w.spot;
+      template = c.template;
+      signals = opened a.0;
+    }) (record (c.state) { world = a.1 })
+
+abbrev pub cast_made : Emitting → Where → Creation → (place : ℕ) → Signals × World → Cast
+    → Emission → Emitted
+cast_made q w c place a o x =
+    let y : Emission = with_cast q.context w c o (created_state w c place a) x in record {
+      state = y;
+      steps = freed_at (Some (length x.bodies)) false y ++ [];
+    }
+
+-- what must be known of a relation to hold of whole bodies
+pub record Bodies (R : Emission → Emitted → Type 0)
+    (G : (start : ℕ) → Signals × World → Cast → Type 0) : Type 0 where
+  pub keeps : Keeps R
+  pub fresh : (x y : Emission) (step : Step) → IsFresh x y step → R x (one_step step y)
+  pub declared : (k : Context) (spot : Spot) (direction : Direction) (n : ℕ) (name dims : List ℕ)
+      (x : Emission) → entry_at (known_in x).frame.signals n ≡ None → R x record {
+        state = with_signal n (made_elements dims)
+            (with_state (declare_signal k spot direction n name dims (known_in x)) x);
+        steps = [];
+      }
+  pub wiring : (q : Emitting) (calls : CallKeeps q.context.call) (w : Where)
+      (written : Assign Meant) (m : Meant) (accessors : Accessors Meant) (a : Arrow)
+      (e : Expr Meant) (x : Emission) (b : SignalAssignment) (s : State) (y : Emitted)
+      → signal_assignment q.context w m accessors e (known_in x) ≡ Ok b
+      → set_signal q.context w written m accessors a e (known_in x) ≡ Ok s
+      → make_wiring q w written accessors e b s b.target.reach.places x ≡ Ok y → R x y
+  pub creating : (q : Emitting) (w : Where) (c : Creation) (place : ℕ) (a : Signals × World)
+      (o : Cast) (x : Emission) → Still (known_in x) c.state → G x.next a o
+      → R x (cast_made q w c place a o x)
+  pub ends : (k : Context) (t : Template) (ds : List Datum) (path : List ℕ) (world : World)
+      (start : ℕ) (y : Emitted) (z : Signals × World) → R (emit_begun t ds path world start) y
+      → ended k (known_in y.state) ≡ Ok z → G start z record {
+        own = y.state.cells.own;
+        inside = port_tables (known_in y.state).frame.parts y.state.cells.parts;
+        steps = y.steps;
+        next = y.state.next;
+      }
+
+module _ (R : Emission → Emitted → Type 0) (G : (start : ℕ) → Signals × World → Cast → Type 0)
+    (b : Bodies R G) where
+  module _ (q : Emitting) (calls : CallKeeps q.context.call)
+      (fits : Fits G q.context.make q.cast) (w : Where) where
+    abbrev Leaf : Emission → State → Emitted → Type 0
+    Leaf x s y = (known_in y.state ≡ s) × R x y × StaysClear (known_in x) s
+
+    wired_leaf : (written : Assign Meant) (m : Meant) (accessors : Accessors Meant) (a : Arrow)
+        (e : Expr Meant) (x : Emission)
+        → Twin (Leaf x) (set_signal q.context w written m accessors a e (known_in x))
+        (emit_set_signal q w written m accessors a e x)
+    wired_leaf written m accessors a e x =
+        twice (Leaf x) (signal_assignment q.context w m accessors e (known_in x)) _ _ (λ c is.
+        alone (StaysClear (known_in x)) (Leaf x) _ _ (next_of c is (set_signal_clear q.context w
+        calls written m accessors a e (known_in x)))
+        (λ s made clear. at c s is (made_of c s is made) clear c.target.reach.places refl))
+      where
+        next_of : (c : SignalAssignment)
+            → signal_assignment q.context w m accessors e (known_in x) ≡ Ok c
+            → OnGood (StaysClear (known_in x))
+            (set_signal q.context w written m accessors a e (known_in x))
+            → OnGood (StaysClear (known_in x)) (next (write_signal q.context w a c)
+            (wired q.context w (signal_cost q.context w written accessors e (known_in x))
+            c.target.reach.places))
+        next_of c is h =
+            subst (λ n. OnGood (StaysClear (known_in x)) (next n (λ c.
+            next (write_signal q.context w a c)
+            (wired q.context w (signal_cost q.context w written accessors e (known_in x))
+            c.target.reach.places)))) is h
+
+        made_of : (c : SignalAssignment) (s : State)
+            → signal_assignment q.context w m accessors e (known_in x) ≡ Ok c
+            → next (write_signal q.context w a c)
+            (wired q.context w (signal_cost q.context w written accessors e (known_in x))
+            c.target.reach.places) ≡ Ok s
+            → set_signal q.context w written m accessors a e (known_in x) ≡ Ok s
+        made_of c s is h =
+            ap (λ n. next n (λ c. next (write_signal q.context w a c)
+            (wired q.context w (signal_cost q.context w written accessors e (known_in x))
+            c.target.reach.places))) is ∙ h
+
+        at : (c : SignalAssignment) (s : State)
+            → signal_assignment q.context w m accessors e (known_in x) ≡ Ok c
+            → set_signal q.context w written m accessors a e (known_in x) ≡ Ok s
+            → StaysClear (known_in x) s → (places : List ℕ) → c.target.reach.places ≡ places
+            → Twin (Leaf x) (Ok s) (make_wiring q w written accessors e c s places x)
+        at c s is made clear [] same =
+            twin_is (Leaf x) s _ (
+              refl,
+              b.wiring q calls w written m accessors a e x c s _ is made
+                  (ap (λ ps. make_wiring q w written accessors e c s ps x) same),
+              clear,
+            )
+        at c s is made clear (place ∷ places) same =
+            twin_is (Leaf x) s _ (
+              refl,
+              b.wiring q calls w written m accessors a e x c s _ is made
+                  (ap (λ ps. make_wiring q w written accessors e c s ps x) same),
+              clear,
+            )
+
+    -- what is to be created, in a state with the same signals and components
+    call_still : {A : Type 0} (Q : A → Type 0) (e : Expr Meant) (go : ℕ → Exprs Meant → Tried A)
+        → ((t : ℕ) (arguments : Exprs Meant) → OnGood Q (go t arguments))
+        → OnGood Q (template_call w e go)
+    call_still Q (Parentheses e) go h = call_still Q e go h
+    call_still Q (Call parallel name (meant.Template t) arguments) go h = h t arguments
+    call_still Q (Call parallel name meant.Other arguments) go h = good_bad Q _
+    call_still Q (Call parallel name (meant.Variable n) arguments) go h = good_bad Q _
+    call_still Q (Call parallel name (meant.Signal direction n) arguments) go h = good_bad Q _
+    call_still Q (Call parallel name (meant.Component n) arguments) go h = good_bad Q _
+    call_still Q (Call parallel name (meant.Function n) arguments) go h = good_bad Q _
+    call_still Q (Number n) go h = good_bad Q _
+    call_still Q (Place name m accessors) go h = good_bad Q _
+    call_still Q (Anonymous parallel name m arguments inputs) go h = good_bad Q _
+    call_still Q (Array es) go h = good_bad Q _
+    call_still Q (Unary op e) go h = good_bad Q _
+    call_still Q (Binary op e g) go h = good_bad Q _
+    call_still Q (Choice c e g) go h = good_bad Q _
+
+    arguments_still : (f : State) (es : Exprs Meant) (s : State) → Still f s
+        → OnGood (λ x. Still f x.1) (arguments_in q.context w es s)
+    arguments_still f none s h = good_ok (λ x. Still f x.1) ([], s) h
+    arguments_still f (more e es) s h =
+        valued_still f q.context calls (λ x. Still f x.1) w false Whole e s _ h (λ x i.
+        good_needed (λ x. Still f x.1) (is_all_known x.0) w UnknownIndex _
+        (good_next (λ x. Still f x.1) (λ x. Still f x.1) (arguments_in q.context w es x.1) _
+        (arguments_still f es x.1 i) (λ y j. good_ok (λ x. Still f x.1) (x.0 ∷ y.0, y.1) j)))
+
+    creation_still : (f : State) (n : ℕ) (accessors : Accessors Meant) (e : Expr Meant)
+        → OnGood (λ c. Still f c.state) (creation q.context w n accessors e f)
+    creation_still f n accessors e =
+        call_still (λ c. Still f c.state) e _ (λ t arguments.
+        good_next (λ x. Still f x.1) (λ c. Still f c.state) (arguments_in q.context w arguments f) _
+        (arguments_still f arguments f (refl, refl)) (λ x i.
+        indices_still f q.context calls (λ c. Still f c.state) w false [] accessors x.1 _ i
+        (λ indices rest s j.
+        good_on (λ c. Still f c.state) (found w ReadBeforeWrite (entry_at s.frame.components n)) _
+        (λ d. good_on (λ c. Still f c.state) (found w UnknownIndex (all_known indices)) _ (λ ns.
+        good_on (λ c. Still f c.state) (reach w false Scalar d.dims indices) _
+        (λ r. good_ok (λ c. Still f c.state) _ j))))))
+
+    each_leaf : (c : Creation) (x : Emission) → Still (known_in x) c.state → (places : List ℕ)
+        → Twin (Leaf x) (create_each q.context w c places)
+        (next (create_each q.context w c places) (λ s. emit_created q w c places s x))
+    each_leaf c x h [] =
+        twin_is (Leaf x) c.state _ (
+          refl,
+          b.keeps.still x c.state h,
+          (λ ns p. still_clear ns (known_in x) c.state h p),
+        )
+    each_leaf c x h (place ∷ places) =
+        needed_alone (Leaf x) (is_none (entry_at c.entry.parts place)) w SecondWrite _ _
+        (found_alone (Leaf x) w TooDeep q.context.make _ _ (λ make there.
+        needed_alone (Leaf x)
+        (may_be c.template (template_of c.state.frame.parts c.entry.parts)) w
+        (NotInProfile MixedComponents) _ _
+        (made_alone (G x.next) (Leaf x)
+        (make w c.template c.arguments (path_of q.context c.entry c.indices) c.state.world)
+        (q.cast w c.template c.arguments (path_of q.context c.entry c.indices) c.state.world
+        x.next) (created_state w c place) (λ s o. record {
+          state = with_cast q.context w c o s x;
+          steps = freed_at (Some (length x.bodies)) false (with_cast q.context w c o s x) ++ [];
+        })
+        (fits make there w c.template c.arguments (path_of q.context c.entry c.indices)
+        c.state.world x.next) (λ a o am oc g. (
+          refl,
+          b.creating q w c place a o x h g,
+          (λ ns p. still_clear ns (known_in x) c.state h p),
+        )))))
+
+    created_leaf : (n : ℕ) (accessors : Accessors Meant) (e : Expr Meant) (x : Emission)
+        → Twin (Leaf x) (next (creation q.context w n accessors e (known_in x))
+        (create q.context w)) (emit_create q w n accessors e x)
+    created_leaf n accessors e x =
+        at (creation q.context w n accessors e (known_in x))
+        (creation_still (known_in x) n accessors e)
+      where
+        at : (m : Tried Creation) → OnGood (λ c. Still (known_in x) c.state) m
+            → Twin (Leaf x) (next m (create q.context w))
+            (next m (λ c. next (create q.context w c) (λ s. emit_created q w c c.places s x)))
+        at (Ok c) h = each_leaf c x (good_is (λ c. Still (known_in x) c.state) (Ok c) c refl h)
+            c.places
+        at (Err f) h = twin_bad (Leaf x) _ _
+
+  leaves : (q : Emitting) → CallKeeps q.context.call → Fits G q.context.make q.cast → Leaves q R
+  leaves q calls fits = record {
+    fresh = b.fresh;
+    declared = b.declared q.context;
+    wired = wired_leaf q calls fits;
+    created = created_leaf q calls fits;
+  }
+
+  ended_fits : (k : Context) (t : Template) (ds : List Datum) (path : List ℕ) (world : World)
+      (start : ℕ) (m : Tried Flow) (r : Tried Emitted)
+      → Twin (FollowsFlow R b.keeps (Clear []) (emit_begun t ds path world start)) m r
+      → Twin (G start) (next m (ended_flow k)) (next r (emit_ended k))
+  unfolding Twin
+  ended_fits k t ds path world start (Ok (Going s)) (Ok y) h =
+      subst (λ f. Twin (G start) (ended k f) (emit_ended k y)) h.0
+      (alone (λ z. ⊤) (G start) (ended k (known_in y.state)) _ (good_any _)
+      (λ z is u. twin_is (G start) z _ (b.ends k t ds path world start y z h.1 is)))
+  ended_fits k t ds path world start (Ok (Returned d v)) (Ok y) h = absurd h
+  ended_fits k t ds path world start (Ok (Going s)) (Err e) h = absurd h
+  ended_fits k t ds path world start (Ok (Returned d v)) (Err e) h = absurd h
+  ended_fits k t ds path world start (Err e) r h = tt
+
+  module _ (p : Program) (size : ℕ) (plain : AreTemplates p) where
+    pub body_fits : (call : Caller) (make : Option Maker) (group : Direction → List ℕ → Group)
+        (cast : Caster) → CallKeeps call → Fits G make cast → (w : Where) (n : ℕ)
+        (ds : List Datum) (path : List ℕ) (world : World) (start : ℕ)
+        → Twin (G start) (exec_template p size call make group w n ds path world)
+        (emit_body p size call make group cast w n ds path world start)
+    body_fits call make group cast calls fits w n ds path world start =
+        at (slice_get p.templates n) refl
+      where
+        k_of : Template → Context
+        k_of t = template_context p size call make group t path world
+
+        at : (o : Option Template) → slice_get p.templates n ≡ o
+            → Twin (G start) (next (found w WrongKind o) (λ t.
+            next (exec_all (k_of t) t.body (template_state t ds path world)) (ended_flow (k_of t))))
+            (next (found w WrongKind o) (λ t.
+            next (emit_all record { context = k_of t; cast = cast } t.body
+            (emit_begun t ds path world start)) (emit_ended (k_of t))))
+        at None e = twin_bad (G start) _ _
+        at (Some t) e =
+            let q : Emitting = record { context = k_of t; cast = cast } in
+            ended_fits (k_of t) t ds path world start
+            (exec_all (k_of t) t.body (template_state t ds path world))
+            (emit_all q t.body (emit_begun t ds path world start))
+            (all_follow q calls R b.keeps (leaves q calls fits) t.body (plain n t e).0 []
+            (emit_begun t ds path world start)
+            (blank_clear (all_declare t.body []) t.signals (plain n t e).1))
+
+    pub casts_fit : (room : ℕ) → Fits G (make_at p size room) (cast_at p size room)
+    casts_fit zero m e w n ds path world start = cc
+    casts_fit (suc room) m e w n ds path world start =
+        subst (λ f. Twin (G start) (f w n ds path world)
+        (cast_at p size (suc room) w n ds path world start)) (some_maker _ m e)
+        (body_fits (call_at p size most_open) (make_at p size room) numbered_others
+        (cast_at p size room) (calls_keep p size most_open) (casts_fit room) w n ds path world
+        start)
+      where
+        some_maker : (f m : Maker) → Some f ≡ Some m → f ≡ m
+        some_maker f m e = cc
+
+    abbrev pub MainGives : Signals × World → Cast → Type 0
+    MainGives z o = (v : World) × G 1 (z.0, v) o
+
+    settled_twin : (w : Where) (f : Frame) (m : Tried (Signals × World)) (r : Tried Cast)
+        → Twin (G 1) m r
+        → Twin MainGives
+        (next m (λ a. next (settle w record { frame = f; world = a.1 })
+        (λ s1. Ok (a.0, s1.world)))) r
+    unfolding Twin
+    settled_twin w f (Ok a) (Ok o) h = at (settle w record { frame = f; world = a.1 })
+      where
+        at : (n : Tried State) → Twin MainGives
+            (next n (λ s1. Ok (a.0, s1.world))) (Ok o)
+        at (Ok s1) = (a.1, h)
+        at (Err e) = tt
+    settled_twin w f (Ok a) (Err e) h = absurd h
+    settled_twin w f (Err e) r h = tt
+
+    -- main
+    pub main_fits : (m : Main) (t : Meant)
+        → Twin MainGives (exec_main p size m t) (emit_main p size m t)
+    main_fits m (meant.Template t) =
+        twin_same MainGives
+        (arguments_in (main_context p size m) (at (main_context p size m) m.spot) m.arguments
+        main_state) _ _ (λ a.
+        settled_twin (at (main_context p size m) m.spot) a.1.frame _ _
+        (body_fits (call_at p size most_open) (make_at p size 255) (main_group m.public_names)
+        (cast_at p size 255) (calls_keep p size most_open) (casts_fit 255)
+        (at (main_context p size m) m.spot) t a.0 (codes "main") a.1.world 1))
+    main_fits m meant.Other = twin_bad MainGives _ _
+    main_fits m (meant.Variable n) = twin_bad MainGives _ _
+    main_fits m (meant.Signal direction n) = twin_bad MainGives _ _
+    main_fits m (meant.Component n) = twin_bad MainGives _ _
+    main_fits m (meant.Function n) = twin_bad MainGives _ _

@@ -1,0 +1,9 @@
+pub mod Step
+pub mod RunSteps
+pub mod Emission
+pub mod Making
+pub mod Emit
+pub mod Statements
+pub mod Circuit
+pub mod Written
+pub mod Running
