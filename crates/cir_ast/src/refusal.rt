@@ -83,8 +83,6 @@ pub enum Form {
     RunArray,
     RunDimension,
     AnonymousPlace,
-    /// In the profile, and not built yet.
-    Unbuilt,
 }
 
 /// What a limit counts.

@@ -1,5 +1,5 @@
 -- What is counted is at least what is there: of signals, of constraints and of their terms.
-use Rattle.std.specs.Prelude.{nat_le, ◌^◌, ◌-◌}
+use Rattle.std.specs.Prelude.{nat_le}
 use Rattle.std.proofs.Common.{◌≡◌, ℕ, ◌+◌, ◌≤◌, Bool, false, not, List, [], ◌∷◌, ◌++◌, Option, Some}
 use Rattle.std.proofs.Common.{None, refl, sym, ap, subst, ◌∙◌, slice_get, arith}
 use Rattle.cir_ast.specs.declared.program.Spot.{Spot}
@@ -39,8 +39,8 @@ use Rattle.cir_meaning.proofs.Good.{OnGood, good_ok, good_bad, good_next, good_o
 use Rattle.cir_meaning.proofs.Good.{good_is, good_weaker, either, OnSome'}
 use Rattle.cir_meaning.proofs.Pairs.{good_both}
 use Rattle.cir_meaning.proofs.Likes.{CallKeeps}
-use Rattle.cir_meaning.proofs.ValueKeepings.{value_keeps, assignment_keeps, signal_assignment_keeps}
-use Rattle.cir_meaning.proofs.ValueKeepings.{creation_keeps}
+use Rattle.cir_meaning.proofs.ValueKeepings.{Valued, value_keeps, assignment_kept}
+use Rattle.cir_meaning.proofs.ValueKeepings.{signal_assignment_kept, creation_kept}
 use Rattle.cir_meaning.proofs.Keepings.{FlowIs, Keeping, exec_all_keeps}
 use Rattle.cir_meaning.proofs.Creating.{Created, create_at_is}
 
@@ -228,6 +228,9 @@ module _ (numbers : ℕ) (m : Measure numbers) where
     value_counts k body w shaded want e s g =
         value_keeps Kept k array_counts (calls_count k body) w shaded want e s g
 
+    pub known_counts : (k : Context) → BodyCounts k → Valued k Kept false
+    known_counts k body w want e s g = value_counts k body w false want e s g
+
     step_counts : (k : Context) (w : Where) (cost : Cost) (cells : ℕ) (s : State) → Kept s
         → OnGood Kept (stepped k w cost cells s)
     step_counts k w cost cells s g =
@@ -298,7 +301,7 @@ module _ (numbers : ℕ) (m : Measure numbers) where
           → OnGood Kept (simple.set_variable k w written n accessors e s)
       set_variable_counts w written n accessors e s g =
           good_next (λ a. Kept a.state) Kept (variable_assignment k w n accessors e s) _
-          (assignment_keeps Kept k array_counts (calls_count k body) w n accessors e s g) (λ a g1.
+          (assignment_kept k Kept (known_counts k body) w n accessors e s g) (λ a g1.
           either (OnGood Kept) (is_unknown n a) _ _
           (step_counts k w (variable_cost k w written n accessors e a s) (new_cells n a)
           (write_variable n a) g1)
@@ -314,7 +317,7 @@ module _ (numbers : ℕ) (m : Measure numbers) where
           → OnGood Kept (simple.set_signal k w written meaning accessors arrow e s)
       set_signal_counts w written meaning accessors arrow e s g =
           good_next (λ a. Kept a.state) Kept (signal_assignment k w meaning accessors e s) _
-          (signal_assignment_keeps Kept k array_counts (calls_count k body) w meaning accessors e
+          (signal_assignment_kept k Kept (known_counts k body) w meaning accessors e
           s g) (λ a g1.
           good_next Kept Kept (write_signal k w arrow a) _
           (elements_counts k body.same w arrow a.target a.target.reach.places a.value.items
@@ -373,7 +376,7 @@ module _ (numbers : ℕ) (m : Measure numbers) where
         equal = equal_counts;
         create = λ w n accessors e s g.
             good_next (λ c. Kept c.state) Kept (creation k w n accessors e s) (create k w)
-            (creation_keeps Kept k array_counts (calls_count k body) w n accessors e s g)
+            (creation_kept k Kept (known_counts k body) w n accessors e s g)
             (λ c g1. create_counts w c c.places g1);
         returns = λ w e s g.
             good_next (λ x. Kept x.1) (FlowIs Done Gone) (value_in k w false Whole e s) _

@@ -1,5 +1,5 @@
 -- In a program that compiles there are no more signals, constraints and terms than the limits.
-use Rattle.std.specs.Prelude.{⊤, nat_le, sum_by, ◌^◌, ◌-◌}
+use Rattle.std.specs.Prelude.{⊤, nat_le, sum_by, ◌-◌}
 use Rattle.std.proofs.Common.{◌≡◌, ℕ, zero, suc, ◌+◌, ◌*◌, ◌≤◌, Bool, true, false, cond, List, []}
 use Rattle.std.proofs.Common.{◌∷◌, ◌++◌, length, Option, Ok, refl, sym, subst, ◌∙◌, slice_get}
 use Rattle.std.proofs.Common.{codes, arith, length-append}
@@ -32,13 +32,13 @@ use Rattle.cir_meaning.specs.Compile.{main_group, main_context, main_state, empt
 use Rattle.cir_meaning.proofs.Good.{OnGood, good_ok, good_bad, good_next, good_on, good_is}
 use Rattle.cir_meaning.proofs.Good.{good_weaker, OnSome'}
 use Rattle.cir_meaning.proofs.KnownCalls.{calls_keep}
-use Rattle.cir_meaning.proofs.ValueKeepings.{arguments_keeps}
+use Rattle.cir_meaning.proofs.ValueKeepings.{arguments_kept}
 use Rattle.cir_meaning.proofs.Keepings.{FlowIs}
 use Rattle.cir_meaning.proofs.DependingValues.{either_as}
 use Rattle.cir_meaning.proofs.Counting.{Measure, signals_added, constraint_added, IsCounted, Kept}
 use Rattle.cir_meaning.proofs.Counting.{Done, Gone, Grows, CallsCount, MakeCounts, BodyCounts}
-use Rattle.cir_meaning.proofs.Counting.{exec_all_counts, array_counts, calls_count, settle_counts}
-use Rattle.cir_meaning.proofs.Counting.{gone, apart, together}
+use Rattle.cir_meaning.proofs.Counting.{exec_all_counts, known_counts, settle_counts, gone, apart}
+use Rattle.cir_meaning.proofs.Counting.{together}
 
 module _ (numbers : ℕ) (m : Measure numbers) where
   -- an amount that stays
@@ -209,8 +209,8 @@ module _ (numbers : ℕ) (m : Measure numbers) where
         let body : BodyCounts numbers m k = record { same = same; calls = c; makes = tt } in
         good_next (λ x. Kept numbers m 0 x.1) (λ x. m.amount x.1 ≤ most)
         (arguments_in k (at k main.spot) main.arguments main_state) _
-        (arguments_keeps (Kept numbers m 0) k (array_counts numbers m 0)
-        (calls_count numbers m 0 k body) (at k main.spot) main.arguments main_state begun_main)
+        (arguments_kept k (Kept numbers m 0) (known_counts numbers m 0 k body)
+        (at k main.spot) main.arguments main_state begun_main)
         (λ x g.
         let a : ℕ = m.count x.1.frame.added in
         good_next (λ y. Counted (0 + a) y.1) (λ y. m.amount y.1 ≤ most)

@@ -1,31 +1,28 @@
 -- The creation of a component in a run.
 use Rattle.std.proofs.Common.{◌≡◌, ◌≢◌, ◌⊎◌, inl, inr, ℕ, zero, suc, Bool, true, false, cond, List}
-use Rattle.std.proofs.Common.{[], ◌∷◌, ◌++◌, length, replicate, Option, Some, None, is_none, Ok}
-use Rattle.std.proofs.Common.{refl, sym, ap, subst, slice_get, arith}
+use Rattle.std.proofs.Common.{[], ◌∷◌, ◌++◌, length, replicate, Some, None, is_none, Ok, refl, sym}
+use Rattle.std.proofs.Common.{ap, subst, slice_get, arith}
 use Rattle.cir_ast.specs.declared.program.Meant.{Meant}
-use Rattle.cir_ast.specs.declared.program.Meant.TheVariants as meant
 use Rattle.cir_ast.specs.declared.refusal.Form.TheVariants.{MixedComponents}
 use Rattle.cir_ast.specs.declared.refusal.Kind.TheVariants.{UnknownIndex, ReadBeforeWrite}
 use Rattle.cir_ast.specs.declared.refusal.Kind.TheVariants.{SecondWrite, TooDeep, NotInProfile}
-use Rattle.cir_ast.specs.Tree.{Expr, Number, Place, Call, Anonymous, Parentheses, Array, Unary}
-use Rattle.cir_ast.specs.Tree.{Binary, Choice, Exprs, none, more, Accessors, done, index, member}
-use Rattle.cir_meaning.specs.Tried.{Where, Tried, found}
+use Rattle.cir_ast.specs.Tree.{Expr, Exprs, none, more, Accessors}
+use Rattle.cir_meaning.specs.Tried.{Where, found}
 use Rattle.cir_meaning.specs.Places.{all_known}
-use Rattle.cir_meaning.specs.Arrays.{Datum, Scalar, Whole, reach, is_known, is_all_known, the_item}
+use Rattle.cir_meaning.specs.Arrays.{Datum, Scalar, Whole, reach, is_known, is_all_known}
 use Rattle.cir_meaning.specs.Frame.{SignalEntry, Signals, World, State, Context, Maker, entry_at}
 use Rattle.cir_meaning.specs.Frame.{is_input, in_frame}
-use Rattle.cir_meaning.specs.Values.{known_number}
-use Rattle.cir_meaning.specs.Evaluate.{value_in, arguments_in, indices_in}
+use Rattle.cir_meaning.specs.Evaluate.{value_in, arguments_in}
 use Rattle.cir_meaning.specs.Declaring.{template_of, may_be, opened, add_part, path_of, Creation}
-use Rattle.cir_meaning.specs.Declaring.{template_call, creation, create_at}
-use Rattle.cir_meaning.proofs.Good.{OnGood, good_ok, good_bad, good_next, good_on, good_as}
-use Rattle.cir_meaning.proofs.Good.{good_needed, good_needed_as, good_found_as}
-use Rattle.cir_meaning.proofs.Likes.{CallKeeps, Like, value_like}
-use Rattle.cir_meaning.proofs.FineWriting.{template_call_good}
+use Rattle.cir_meaning.specs.Declaring.{creation, create_at}
+use Rattle.cir_meaning.proofs.Good.{OnGood, good_ok, good_next, good_on, good_as, good_needed}
+use Rattle.cir_meaning.proofs.Good.{good_needed_as, good_found_as}
+use Rattle.cir_meaning.proofs.Likes.{CallKeeps, Like, valued_like}
+use Rattle.cir_meaning.proofs.ValueKeepings.{arguments_kept, creation_kept, indices_any}
+use Rattle.cir_meaning.proofs.ValueKeepings.{template_call_good}
 use Rattle.cir_meaning.proofs.KnownValues.{KnownDatum, KnownStore, all_pass}
 use Rattle.cir_meaning.proofs.Marking.{MarksOf}
 use Rattle.cir_meaning.proofs.Standing.{SameEntry, SameShapes}
-use Rattle.cir_meaning.proofs.VariableRuns.{indices_like}
 
 -- lists that are one longer
 pub get_more : {A : Type 0} (xs ys : List A) (i : ℕ) (x : A) → slice_get xs i ≡ Some x
@@ -135,47 +132,11 @@ opened_marks xs n d h i k b at =
 module _ (k : Context) (keeps : CallKeeps k.call) (f : State) (w : Where) where
   pub arguments_like : (es : Exprs Meant) (s : State) → Like f s
       → OnGood (λ x. Like f x.1) (arguments_in k w es s)
-  arguments_like none s l = good_ok (λ x. Like f x.1) ([], s) l
-  arguments_like (more e es) s l =
-      good_next (λ x. Like f x.1) (λ x. Like f x.1) (value_in k w false Whole e s) _
-      (value_like f k keeps w false Whole e s l) (λ x p.
-      good_needed (λ y. Like f y.1) (is_all_known x.0) w UnknownIndex _
-      (good_next (λ y. Like f y.1) (λ y. Like f y.1) (arguments_in k w es x.1) _
-      (arguments_like es x.1 p) (λ y g. good_ok (λ z. Like f z.1) (x.0 ∷ y.0, y.1) g)))
-
-  abbrev CreationLike : Creation → Type 0
-  CreationLike c = Like f c.state
-
-  call_like : (e : Expr Meant) (go : ℕ → Exprs Meant → Tried Creation)
-      → ((t : ℕ) (arguments : Exprs Meant) → OnGood CreationLike (go t arguments))
-      → OnGood CreationLike (template_call w e go)
-  call_like (Parentheses e) go h = call_like e go h
-  call_like (Call parallel name (meant.Template t) arguments) go h = h t arguments
-  call_like (Call parallel name meant.Other arguments) go h = good_bad CreationLike _
-  call_like (Call parallel name (meant.Variable n) arguments) go h = good_bad CreationLike _
-  call_like (Call parallel name (meant.Signal direction n) arguments) go h =
-      good_bad CreationLike _
-  call_like (Call parallel name (meant.Component n) arguments) go h = good_bad CreationLike _
-  call_like (Call parallel name (meant.Function n) arguments) go h = good_bad CreationLike _
-  call_like (Number n) go h = good_bad CreationLike _
-  call_like (Place name m accessors) go h = good_bad CreationLike _
-  call_like (Anonymous parallel name m arguments inputs) go h = good_bad CreationLike _
-  call_like (Array elements) go h = good_bad CreationLike _
-  call_like (Unary op a) go h = good_bad CreationLike _
-  call_like (Binary op a b) go h = good_bad CreationLike _
-  call_like (Choice c a b) go h = good_bad CreationLike _
+  arguments_like = arguments_kept k (Like f) (valued_like f k keeps false) w
 
   pub creation_like : (n : ℕ) (accessors : Accessors Meant) (e : Expr Meant) (s : State)
-      → Like f s → OnGood CreationLike (creation k w n accessors e s)
-  creation_like n accessors e s l =
-      call_like e _ (λ t arguments.
-      good_next (λ x. Like f x.1) CreationLike (arguments_in k w arguments s) _
-      (arguments_like arguments s l) (λ x p.
-      indices_like k keeps f w CreationLike [] accessors x.1 _ p (λ os rest s2 l2.
-      good_on CreationLike (found w ReadBeforeWrite (entry_at s2.frame.components n)) _ (λ c.
-      good_on CreationLike (found w UnknownIndex (all_known os)) _ (λ ns.
-      good_on CreationLike (reach w false Scalar c.dims os) _
-      (λ r. good_ok CreationLike _ l2))))))
+      → Like f s → OnGood (λ c. Like f c.state) (creation k w n accessors e s)
+  creation_like = creation_kept k (Like f) (valued_like f k keeps false) w
 
 -- the arguments of a template are known
 known_of : (d : Datum) → is_all_known d ≡ true → KnownDatum d
@@ -198,23 +159,12 @@ creation_known k w n accessors e s =
     template_call_good (λ c. KnownStore c.arguments) w e _ (λ t arguments.
     good_next (λ x. KnownStore x.0) (λ c. KnownStore c.arguments) (arguments_in k w arguments s) _
     (arguments_known k w arguments s) (λ x g.
-    indices_any (λ c. KnownStore c.arguments) [] accessors x.1 _ (λ os rest s2.
+    indices_any (λ c. KnownStore c.arguments) k w false [] accessors x.1 _ (λ os rest s2.
     good_on (λ c. KnownStore c.arguments) (found w ReadBeforeWrite (entry_at s2.frame.components n))
     _ (λ c.
     good_on (λ c. KnownStore c.arguments) (found w UnknownIndex (all_known os)) _ (λ ns.
     good_on (λ c. KnownStore c.arguments) (reach w false Scalar c.dims os) _
     (λ r. good_ok (λ c. KnownStore c.arguments) _ g))))))
-  where
-    indices_any : {A : Type 0} (Q : A → Type 0) (os : List (Option ℕ))
-        (accessors : Accessors Meant) (s : State)
-        (go : List (Option ℕ) → Accessors Meant → State → Tried A)
-        → ((os : List (Option ℕ)) (rest : Accessors Meant) (s : State) → OnGood Q (go os rest s))
-        → OnGood Q (indices_in k w false os accessors s go)
-    indices_any Q os done s go h = h os done s
-    indices_any Q os (member name rest) s go h = h os (member name rest) s
-    indices_any Q os (index e rest) s go h =
-        good_on Q (value_in k w false Scalar e s) _
-        (λ x. indices_any Q (os ++ known_number (the_item x.0) ∷ []) rest x.1 go h)
 
 -- a component that is created
 pub record Created (k : Context) (w : Where) (c : Creation) (place : ℕ) (s : State) : Type 0 where

@@ -1,6 +1,5 @@
 -- The operators give values that depend on no other signals than their operands.
-use Rattle.std.proofs.Common.{◌≡◌, ℕ, ◌+◌, ◌-◌, ◌*◌, ◌%◌, Bool, true, false, cond, Option, Some}
-use Rattle.std.proofs.Common.{None, refl, subst}
+use Rattle.std.proofs.Common.{◌≡◌, ℕ, Bool, true, false, cond, Option, Some, None, refl, subst}
 use Rattle.std.specs.Prelude.{◌==◌, ⊤}
 use Rattle.gold_field.specs.declared.operators.Op1.{Op1}
 use Rattle.gold_field.specs.declared.operators.Op1.TheVariants.{Neg, Not, Compl}

@@ -1,8 +1,7 @@
 -- The equations of a program depend on declared signals alone, and the sizes of the groups are
 -- those of the rows.
-use Rattle.std.specs.Prelude.{⊤}
-use Rattle.std.proofs.Common.{◌≡◌, ℕ, zero, suc, ◌-◌, List, [], ◌∷◌, ◌++◌, length, replicate}
-use Rattle.std.proofs.Common.{Option, None, Ok, refl, slice_get, codes}
+use Rattle.std.proofs.Common.{◌≡◌, ℕ, zero, suc, ◌-◌, List, [], length, replicate, Option, None, Ok}
+use Rattle.std.proofs.Common.{refl, slice_get, codes}
 use Rattle.cir_ast.specs.declared.program.Meant.{Meant}
 use Rattle.cir_ast.specs.declared.program.Meant.TheVariants as meant
 use Rattle.cir_ast.specs.declared.operators.Direction.{Direction}
@@ -28,11 +27,11 @@ use Rattle.cir_meaning.proofs.Rows.{all_append, all_replicate}
 use Rattle.cir_meaning.proofs.Likes.{CallKeeps, Like, like_itself}
 use Rattle.cir_meaning.proofs.KnownValues.{KnownDatum, KnownStore, CallKnown}
 use Rattle.cir_meaning.proofs.KnownCalls.{both_known, calls_both, calls_keep}
-use Rattle.cir_meaning.proofs.Creating.{arguments_like}
+use Rattle.cir_meaning.proofs.Creating.{arguments_known, arguments_like}
 use Rattle.cir_meaning.proofs.DependingValues.{DatumOver, known_over}
 use Rattle.cir_meaning.proofs.DependingWriting.{AtRows, SizesAre, WorldOver, StateOver, MadeOver}
 use Rattle.cir_meaning.proofs.DependingWriting.{MakeOver, own_base, counts_over, like_over}
-use Rattle.cir_meaning.proofs.DependingWriting.{arguments_known, all_more}
+use Rattle.cir_meaning.proofs.DependingWriting.{all_more}
 use Rattle.cir_meaning.proofs.Keepings.{FlowIs}
 use Rattle.cir_meaning.proofs.DependingStatements.{exec_all_over}
 

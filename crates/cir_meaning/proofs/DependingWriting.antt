@@ -1,29 +1,27 @@
 -- What writes, declarations and creations leave depends on declared signals alone.
-use Rattle.std.specs.Prelude.{⊤, sum_by, ◌^◌, ◌-◌}
+use Rattle.std.specs.Prelude.{sum_by}
 use Rattle.std.proofs.lemmas.List.Sums.{sum_by-append}
-use Rattle.std.proofs.Common.{◌≡◌, ◌⊎◌, ℕ, zero, suc, ◌+◌, ◌<◌, ◌≤◌, Bool, true, false, not, cond}
-use Rattle.std.proofs.Common.{List, [], ◌∷◌, ◌++◌, length, replicate, Option, Some, None, refl, sym}
-use Rattle.std.proofs.Common.{ap, subst, ◌∙◌, is_some, slice_get, slice_set, unwrap_or, arith}
+use Rattle.std.proofs.Common.{◌≡◌, ℕ, zero, suc, ◌+◌, ◌<◌, ◌≤◌, Bool, true, false, not, cond, List}
+use Rattle.std.proofs.Common.{[], ◌∷◌, ◌++◌, length, replicate, Option, Some, None, refl, sym, ap}
+use Rattle.std.proofs.Common.{subst, ◌∙◌, is_some, slice_get, slice_set, unwrap_or, arith}
 use Rattle.std.specs.List.{AllByRecursion}
 use Rattle.cir_ast.specs.declared.program.Spot.{Spot}
 use Rattle.cir_ast.specs.declared.program.Meant.{Meant}
-use Rattle.cir_ast.specs.declared.program.Meant.TheVariants as meant
 use Rattle.cir_ast.specs.declared.operators.Arrow.{Arrow}
 use Rattle.cir_ast.specs.declared.operators.Arrow.TheVariants.{Assign as AssignArrow}
 use Rattle.cir_ast.specs.declared.operators.Arrow.TheVariants.{Constrain as ConstrainArrow}
 use Rattle.cir_ast.specs.declared.operators.Direction.{Direction}
 use Rattle.cir_ast.specs.declared.refusal.Kind.{Kind}
-use Rattle.cir_ast.specs.declared.refusal.Kind.TheVariants.{UnknownIndex, ReadBeforeWrite}
-use Rattle.cir_ast.specs.declared.refusal.Kind.TheVariants.{SecondWrite, ShapeDiffers}
-use Rattle.cir_ast.specs.Tree.{Expr, Parentheses, Call, Exprs, none, more, Accessors, done, index}
-use Rattle.cir_ast.specs.Tree.{member}
+use Rattle.cir_ast.specs.declared.refusal.Kind.TheVariants.{ReadBeforeWrite, SecondWrite}
+use Rattle.cir_ast.specs.declared.refusal.Kind.TheVariants.{ShapeDiffers}
+use Rattle.cir_ast.specs.Tree.{Expr, Accessors}
 use Rattle.cir_lc.specs.Number.{signal}
 use Rattle.cir_meaning.specs.Dependence.{declared_in, IsDeclared, IsOver}
-use Rattle.cir_meaning.specs.Tried.{Where, Tried, found}
-use Rattle.cir_meaning.specs.Places.{elements, all_known}
+use Rattle.cir_meaning.specs.Tried.{Where, Tried}
+use Rattle.cir_meaning.specs.Places.{elements}
 use Rattle.cir_meaning.specs.Limits.{Counts, nothing, limits, standing, tested, plus, is_too_large}
-use Rattle.cir_meaning.specs.Arrays.{Datum, Scalar, Whole, Reach, reach, same_dims, put_items}
-use Rattle.cir_meaning.specs.Arrays.{forgotten, filled, is_known, is_all_known}
+use Rattle.cir_meaning.specs.Arrays.{Datum, Whole, Reach, reach, same_dims, put_items, forgotten}
+use Rattle.cir_meaning.specs.Arrays.{filled}
 use Rattle.cir_meaning.specs.Values.{Value, Linear, Opaque, Parts, difference_of, parts_of}
 use Rattle.cir_meaning.specs.Frame.{SignalEntry, Signals, Part, Frame, Group, Outputs, PublicInputs}
 use Rattle.cir_meaning.specs.Frame.{PrivateInputs, Others, Sizes, Row, World, State, Context, Maker}
@@ -31,15 +29,14 @@ use Rattle.cir_meaning.specs.Frame.{is_input, is_written, entry_at, put_at, vari
 use Rattle.cir_meaning.specs.Frame.{settle, counted, one_statement, size_in, more_in, before_group}
 use Rattle.cir_meaning.specs.Frame.{next_number}
 use Rattle.cir_meaning.specs.Compile.{is_of, rows_of}
-use Rattle.cir_meaning.specs.Evaluate.{value_in, arguments_in, indices_in}
+use Rattle.cir_meaning.specs.Evaluate.{value_in}
 use Rattle.cir_meaning.specs.Writing.{put_variable, written_datum, VariableAssignment}
 use Rattle.cir_meaning.specs.Writing.{variable_assignment, write_variable, Target, part_signals}
 use Rattle.cir_meaning.specs.Writing.{signals_of, with_part_signals, with_signals, marked}
 use Rattle.cir_meaning.specs.Writing.{write_element, appended, constrained, constrained_by}
 use Rattle.cir_meaning.specs.Writing.{write_elements, signal_assignment, target_in}
 use Rattle.cir_meaning.specs.Declaring.{new_signal, with_row, declare_signal, declare_component}
-use Rattle.cir_meaning.specs.Declaring.{opened, Creation, creation, template_call, create_at}
-use Rattle.cir_meaning.specs.Declaring.{create_each}
+use Rattle.cir_meaning.specs.Declaring.{opened, Creation, creation, create_at, create_each}
 use Rattle.cir_meaning.specs.Costs.{Cost}
 use Rattle.cir_meaning.specs.Functions.{function_fault, function_elements}
 use Rattle.cir_meaning.specs.Steps.{unless_faulty, with_step, stepped}
@@ -54,10 +51,11 @@ use Rattle.cir_meaning.proofs.Good.{OnSome'}
 use Rattle.cir_meaning.proofs.Pairs.{good_both}
 use Rattle.cir_meaning.proofs.Rows.{all_append, all_map, all_put, all_set}
 use Rattle.cir_meaning.proofs.Likes.{Like, like_itself}
-use Rattle.cir_meaning.proofs.KnownValues.{KnownStore, all_pass}
+use Rattle.cir_meaning.proofs.KnownValues.{KnownStore}
 use Rattle.cir_meaning.proofs.VariableRuns.{assignment_like}
 use Rattle.cir_meaning.proofs.SignalTargets.{assignment_target}
-use Rattle.cir_meaning.proofs.Creating.{Created, create_at_is, creation_like}
+use Rattle.cir_meaning.proofs.Creating.{Created, create_at_is, creation_like, creation_known}
+use Rattle.cir_meaning.proofs.ValueKeepings.{indices_any}
 
 -- more signals
 pub entry_more : (D E : ℕ → Type 0) → ((n : ℕ) → D n → E n) → (o : Option SignalEntry)
@@ -607,50 +605,6 @@ module _ (size : ℕ) where
   }
 
 -- values of assignments, and arguments of creations
-indices_any : {A : Type 0} (Q : A → Type 0) (k : Context) (w : Where) (shaded : Bool)
-    (indices : List (Option ℕ)) (accessors : Accessors Meant) (s : State)
-    (go : List (Option ℕ) → Accessors Meant → State → Tried A)
-    → ((indices : List (Option ℕ)) (rest : Accessors Meant) (s : State)
-    → OnGood Q (go indices rest s))
-    → OnGood Q (indices_in k w shaded indices accessors s go)
-indices_any Q k w shaded indices done s go f = f indices done s
-indices_any Q k w shaded indices (member name rest) s go f = f indices (member name rest) s
-indices_any Q k w shaded indices (index e rest) s go f =
-    good_on Q (value_in k w shaded Scalar e s) _
-    (λ x. indices_any Q k w shaded _ rest x.1 go f)
-
-pub arguments_known : (k : Context) (w : Where) (es : Exprs Meant) (s : State)
-    → OnGood (λ x. KnownStore x.0) (arguments_in k w es s)
-arguments_known k w none s = good_ok (λ x. KnownStore x.0) _ tt
-arguments_known k w (more e es) s =
-    good_on (λ x. KnownStore x.0) (value_in k w false Whole e s) _ (λ x.
-    good_needed_as (λ y. KnownStore y.0) (is_all_known x.0) w UnknownIndex _ (λ t.
-    good_next (λ y. KnownStore y.0) (λ y. KnownStore y.0) (arguments_in k w es x.1) _
-    (arguments_known k w es x.1) (λ y q.
-    good_ok (λ z. KnownStore z.0) _ (all_pass is_known x.0.items t, q))))
-
-template_call_any : {A : Type 0} (Q : A → Type 0) (w : Where) (e : Expr Meant)
-    (go : ℕ → Exprs Meant → Tried A)
-    → ((t : ℕ) (arguments : Exprs Meant) → OnGood Q (go t arguments))
-    → OnGood Q (template_call w e go)
-template_call_any Q w (Parentheses e) go h = template_call_any Q w e go h
-template_call_any Q w (Call parallel name (meant.Template t) arguments) go h = h t arguments
-template_call_any Q w _ go h = good_bad Q _
-
-creation_known : (k : Context) (w : Where) (n : ℕ) (accessors : Accessors Meant)
-    (e : Expr Meant) (s : State)
-    → OnGood (λ c. KnownStore c.arguments) (creation k w n accessors e s)
-creation_known k w n accessors e s =
-    template_call_any (λ c. KnownStore c.arguments) w e _ (λ t arguments.
-    good_next (λ x. KnownStore x.0) (λ c. KnownStore c.arguments) (arguments_in k w arguments s) _
-    (arguments_known k w arguments s) (λ x p.
-    indices_any (λ c. KnownStore c.arguments) k w false [] accessors x.1 _ (λ indices rest s2.
-    good_on (λ c. KnownStore c.arguments)
-    (found w ReadBeforeWrite (entry_at s2.frame.components n)) _ (λ c.
-    good_on (λ c. KnownStore c.arguments) (found w UnknownIndex (all_known indices)) _ (λ ns.
-    good_on (λ c. KnownStore c.arguments) (reach w false Scalar c.dims indices) _ (λ r.
-    good_ok (λ c. KnownStore c.arguments) _ p))))))
-
 module _ (D : ℕ → Type 0) (k : Context) (calls : CallsOver k) (f : State)
     (over : FrameOver D f.frame) where
   pub assignment_over : (w : Where) (n : ℕ) (accessors : Accessors Meant) (e : Expr Meant)

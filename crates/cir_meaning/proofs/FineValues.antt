@@ -36,7 +36,8 @@ use Rattle.cir_meaning.specs.Evaluate.{arguments_in, indices_in}
 use Rattle.cir_meaning.proofs.ValueLaws.{result_value, unary_value}
 use Rattle.cir_meaning.proofs.LazyLaws.{and_value, or_value, chosen_value}
 use Rattle.cir_meaning.proofs.Good.{OnGood, good_ok, good_bad, good_next, good_on, good_needed}
-use Rattle.cir_meaning.proofs.Good.{either, OnSome'}
+use Rattle.cir_meaning.proofs.Good.{good_weaker, either, OnSome'}
+use Rattle.cir_meaning.proofs.ValueKeepings.{Valued, dims_kept, indices_kept}
 use Rattle.cir_meaning.proofs.Rows.{at_or, all_replicate, all_map, all_joined}
 
 abbrev pub IsDatum : Datum → Type 0
@@ -301,15 +302,14 @@ module _ (k : Context) (fine : FineContext k) where
         (inner_fine w shaded root indices name s.frame)
         (λ source p. read_fine w shaded want (Found source) [] rest s p g)
 
+  pub known_fine : (shaded : Bool) → Valued k Fine shaded
+  known_fine shaded w want e s g =
+      good_weaker FineAnswer (λ x. Fine x.1) (value_in k w shaded want e s)
+      (value_fine w shaded want e s g) (λ x p. p.1)
+
   pub dims_fine : (w : Where) (shaded : Bool) (es : Exprs Meant) (s : State) → Fine s
       → OnGood (λ x. Fine x.1) (dims_in k w shaded es s)
-  dims_fine w shaded none s g = good_ok (λ x. Fine x.1) _ g
-  dims_fine w shaded (more e es) s g =
-      scalar_fine (λ x. Fine x.1) (value_in k w shaded Scalar e s) _
-      (value_fine w shaded Scalar e s g) (λ x s1 h g1.
-      good_on (λ x. Fine x.1) (found w UnknownIndex (known_number x)) _ (λ n.
-      good_next (λ x. Fine x.1) (λ x. Fine x.1) (dims_in k w shaded es s1) _
-      (dims_fine w shaded es s1 g1) (λ y q. good_ok (λ x. Fine x.1) (n ∷ y.0, y.1) q)))
+  dims_fine w shaded = dims_kept k Fine shaded (known_fine shaded) w
 
   pub arguments_fine : (w : Where) (es : Exprs Meant) (s : State) → Fine s
       → OnGood FineAnswers (arguments_in k w es s)
@@ -327,8 +327,4 @@ module _ (k : Context) (fine : FineContext k) where
       → ((indices : List (Option ℕ)) (rest : Accessors Meant) (s : State) → Fine s → OnGood Q
       (go indices rest s))
       → OnGood Q (indices_in k w shaded indices accessors s go)
-  indices_fine Q w shaded indices done s go g f = f indices done s g
-  indices_fine Q w shaded indices (member name rest) s go g f = f indices (member name rest) s g
-  indices_fine Q w shaded indices (index e rest) s go g f =
-      scalar_fine Q (value_in k w shaded Scalar e s) _ (value_fine w shaded Scalar e s g)
-      (λ x s1 h g1. indices_fine Q w shaded (indices ++ known_number x ∷ []) rest s1 go g1 f)
+  indices_fine Q w shaded = indices_kept k Fine shaded (known_fine shaded) Q w

@@ -3,16 +3,15 @@ use Rattle.std.proofs.Common.{◌≡◌, ℕ, ◌+◌, false, not, is_none, List
 use Rattle.std.proofs.Common.{refl, slice_get}
 use Rattle.std.specs.List.{AllByRecursion}
 use Rattle.cir_ast.specs.declared.program.Meant.{Meant}
-use Rattle.cir_ast.specs.declared.program.Meant.TheVariants as meant
 use Rattle.cir_ast.specs.declared.operators.Arrow.{Arrow}
 use Rattle.cir_ast.specs.declared.operators.Arrow.TheVariants.{Assign as AssignArrow}
 use Rattle.cir_ast.specs.declared.operators.Arrow.TheVariants.{Constrain as ConstrainArrow}
 use Rattle.cir_ast.specs.declared.refusal.Kind.{Kind}
 use Rattle.cir_ast.specs.declared.refusal.Form.TheVariants.{MixedComponents}
-use Rattle.cir_ast.specs.declared.refusal.Kind.TheVariants.{WrongKind, UnknownIndex}
-use Rattle.cir_ast.specs.declared.refusal.Kind.TheVariants.{ReadBeforeWrite, SecondWrite}
-use Rattle.cir_ast.specs.declared.refusal.Kind.TheVariants.{ShapeDiffers, TooDeep, NotInProfile}
-use Rattle.cir_ast.specs.Tree.{Expr, Parentheses, Call, Exprs, Accessors, done, index, member}
+use Rattle.cir_ast.specs.declared.refusal.Kind.TheVariants.{UnknownIndex, ReadBeforeWrite}
+use Rattle.cir_ast.specs.declared.refusal.Kind.TheVariants.{SecondWrite, ShapeDiffers, TooDeep}
+use Rattle.cir_ast.specs.declared.refusal.Kind.TheVariants.{NotInProfile}
+use Rattle.cir_ast.specs.Tree.{Expr, Accessors}
 use Rattle.cir_lc.specs.Number.{signal}
 use Rattle.cir_meaning.specs.Tried.{Where, Tried, next, found}
 use Rattle.cir_meaning.specs.Limits.{limits, tested, plus}
@@ -21,19 +20,16 @@ use Rattle.cir_meaning.specs.Arrays.{Datum, Scalar, Whole, Reach, reach, same_di
 use Rattle.cir_meaning.specs.Arrays.{forgotten}
 use Rattle.cir_meaning.specs.Values.{Value, Linear, Opaque, IsValue, Parts, difference_of, parts_of}
 use Rattle.cir_meaning.specs.Source.{IsDifference}
-use Rattle.cir_meaning.specs.Frame.{Signals, Part, Frame, State, Context, Maker, is_input}
-use Rattle.cir_meaning.specs.Frame.{is_written, entry_at, variable_at, adding, settle, counted}
-use Rattle.cir_meaning.specs.Frame.{one_statement}
-use Rattle.cir_meaning.specs.Reading.{part_at, named_signal}
+use Rattle.cir_meaning.specs.Frame.{Signals, Part, Frame, State, Context, Maker, is_written}
+use Rattle.cir_meaning.specs.Frame.{entry_at, variable_at, adding, settle, counted, one_statement}
 use Rattle.cir_meaning.specs.Evaluate.{value_in, arguments_in}
 use Rattle.cir_meaning.specs.Writing.{put_variable, written_datum, VariableAssignment}
-use Rattle.cir_meaning.specs.Writing.{variable_assignment, write_variable, Target, signals_of}
-use Rattle.cir_meaning.specs.Writing.{with_part_signals, with_signals, targeted, target_at}
-use Rattle.cir_meaning.specs.Writing.{target_in, write_element, appended, constrained}
-use Rattle.cir_meaning.specs.Writing.{constrained_by, write_elements, SignalAssignment}
-use Rattle.cir_meaning.specs.Writing.{signal_assignment, write_signal}
-use Rattle.cir_meaning.specs.Declaring.{Creation, creation, template_call, may_be, template_of}
-use Rattle.cir_meaning.specs.Declaring.{path_of, create_at, create_each, create}
+use Rattle.cir_meaning.specs.Writing.{variable_assignment, write_variable, Target}
+use Rattle.cir_meaning.specs.Writing.{with_part_signals, with_signals, target_in, write_element}
+use Rattle.cir_meaning.specs.Writing.{appended, constrained, constrained_by, write_elements}
+use Rattle.cir_meaning.specs.Writing.{SignalAssignment, signal_assignment, write_signal}
+use Rattle.cir_meaning.specs.Declaring.{Creation, creation, may_be, template_of, path_of, create_at}
+use Rattle.cir_meaning.specs.Declaring.{create_each, create}
 use Rattle.cir_meaning.specs.Costs.{Cost}
 use Rattle.cir_meaning.specs.Functions.{function_fault, function_elements}
 use Rattle.cir_meaning.specs.Steps.{unless_faulty, with_step, stepped}
@@ -43,7 +39,9 @@ use Rattle.cir_meaning.proofs.Good.{either, OnSome'}
 use Rattle.cir_meaning.proofs.Rows.{all_map, all_set, all_append, all_put}
 use Rattle.cir_meaning.proofs.FineValues.{IsDatum, FineFrame, FineWorld, Fine, FineAnswer}
 use Rattle.cir_meaning.proofs.FineValues.{FineAnswers, FineMake, FineContext, variable_datum}
-use Rattle.cir_meaning.proofs.FineValues.{signal_value, value_fine, arguments_fine, indices_fine}
+use Rattle.cir_meaning.proofs.FineValues.{known_fine, signal_value, value_fine, arguments_fine}
+use Rattle.cir_meaning.proofs.FineValues.{indices_fine}
+use Rattle.cir_meaning.proofs.ValueKeepings.{target_kept, template_call_good}
 
 -- counting changes nothing else
 pub settle_fine : (w : Where) (s : State) → Fine s → OnGood Fine (settle w s)
@@ -154,14 +152,6 @@ pub write_signal_fine : (k : Context) (w : Where) (arrow : Arrow) (a : SignalAss
 write_signal_fine k w arrow a h =
     elements_fine k w arrow a.target a.target.reach.places a.value.items a.state h.0 h.1
 
-pub template_call_good : {A : Type 0} (Q : A → Type 0) (w : Where) (e : Expr Meant)
-    (go : ℕ → Exprs Meant → Tried A)
-    → ((t : ℕ) (arguments : Exprs Meant) → OnGood Q (go t arguments)) → OnGood Q
-    (template_call w e go)
-template_call_good Q w (Parentheses e) go h = template_call_good Q w e go h
-template_call_good Q w (Call parallel name (meant.Template t) arguments) go h = h t arguments
-template_call_good Q w _ go h = good_bad Q _
-
 module _ (k : Context) (fine : FineContext k) where
   pub assignment_fine : (w : Where) (n : ℕ) (accessors : Accessors Meant) (e : Expr Meant)
       (s : State)
@@ -174,34 +164,6 @@ module _ (k : Context) (fine : FineContext k) where
       good_needed FineAssignment (same_dims r.left x.0.dims) w ShapeDiffers _
       (good_ok FineAssignment record { value = x.0; reach = r; state = s2 } (p.0, g2)))))
 
-  target_at_fine : (w : Where) (n : ℕ) (indices : List (Option ℕ)) (rest : Accessors Meant)
-      (s : State)
-      → Fine s → OnGood (λ x. Fine x.1) (target_at k w n indices rest s)
-  target_at_fine w n indices (member name rest) s g =
-      good_on (λ x. Fine x.1) (part_at w false n indices s.frame) _ (λ j.
-      good_on (λ x. Fine x.1) (named_signal w name (signals_of j s.frame)) _ (λ x.
-      good_needed (λ x. Fine x.1) (is_input x.1.direction) w WrongKind _
-      (indices_fine k fine (λ x. Fine x.1) w false [] rest s _ g (λ inner more_rest s1 g1.
-      good_on (λ x. Fine x.1) (targeted w j x.0 x.1 inner) _
-      (λ t. good_ok (λ x. Fine x.1) (t, s1) g1)))))
-  target_at_fine w n indices done s g = good_bad (λ x. Fine x.1) _
-  target_at_fine w n indices (index e rest) s g = good_bad (λ x. Fine x.1) _
-
-  target_fine : (w : Where) (m : Meant) (accessors : Accessors Meant) (s : State) → Fine s
-      → OnGood (λ x. Fine x.1) (target_in k w m accessors s)
-  target_fine w (meant.Signal direction n) accessors s g =
-      indices_fine k fine (λ x. Fine x.1) w false [] accessors s _ g (λ indices rest s1 g1.
-      good_on (λ x. Fine x.1) (found w ReadBeforeWrite (entry_at s1.frame.signals n)) _ (λ e.
-      good_on (λ x. Fine x.1) (targeted w None n e indices) _
-      (λ t. good_ok (λ x. Fine x.1) (t, s1) g1)))
-  target_fine w (meant.Component n) accessors s g =
-      indices_fine k fine (λ x. Fine x.1) w false [] accessors s (target_at k w n) g
-      (target_at_fine w n)
-  target_fine w meant.Other accessors s g = good_bad (λ x. Fine x.1) _
-  target_fine w (meant.Variable n) accessors s g = good_bad (λ x. Fine x.1) _
-  target_fine w (meant.Template n) accessors s g = good_bad (λ x. Fine x.1) _
-  target_fine w (meant.Function n) accessors s g = good_bad (λ x. Fine x.1) _
-
   pub signal_assignment_fine : (w : Where) (m : Meant) (accessors : Accessors Meant)
       (e : Expr Meant) (s : State)
       → Fine s
@@ -210,7 +172,7 @@ module _ (k : Context) (fine : FineContext k) where
       good_next FineAnswer FineSignal (value_in k w false Whole e s) _
       (value_fine k fine w false Whole e s g) (λ x p.
       good_next (λ x. Fine x.1) FineSignal (target_in k w m accessors x.1) _
-      (target_fine w m accessors x.1 p.1) (λ t q.
+      (target_kept k Fine (known_fine k fine false) w m accessors x.1 p.1) (λ t q.
       good_needed FineSignal (same_dims t.0.reach.left x.0.dims) w ShapeDiffers _
       (good_ok FineSignal record { value = x.0; target = t.0; state = t.1 } (p.0, q))))
 

@@ -13,7 +13,7 @@ pub good_ok : {A : Type 0} (Q : A → Type 0) (a : A) → Q a → OnGood {E = Re
 unfolding OnGood
 good_ok Q a h = h
 
-pub good_bad : {A : Type 0} (Q : A → Type 0) (e : Refused) → OnGood Q (Err e)
+pub good_bad : {E A : Type 0} (Q : A → Type 0) (e : E) → OnGood Q (Err e)
 unfolding OnGood
 good_bad Q e = tt
 
@@ -66,7 +66,8 @@ good_found Q w kind None h = tt
 good_found Q w kind (Some a) h = h
 
 -- what holds of the answer that is given
-pub good_is : {A : Type 0} (Q : A → Type 0) (m : Tried A) (a : A) → m ≡ Ok a → OnGood Q m → Q a
+pub good_is : {E A : Type 0} (Q : A → Type 0) (m : Result A E) (a : A) → m ≡ Ok a → OnGood Q m
+    → Q a
 unfolding OnGood
 good_is Q (Ok b) a e h = let same : b ≡ a = cc in subst Q same h
 good_is Q (Err e) a h g = cc

@@ -1,5 +1,6 @@
 -- What statements keep, where it is kept by each thing that they do to a state.
-use Rattle.std.proofs.Common.{ℕ, zero, suc, false, List, [], ◌∷◌, length, Option, Some, None, Ok}
+use Rattle.std.proofs.Common.{ℕ, zero, suc, true, false, List, [], ◌∷◌, length, Option, Some, None}
+use Rattle.std.proofs.Common.{Ok}
 use Rattle.std.specs.Prelude.{⊤, ◌==◌}
 use Rattle.std.specs.List.{AllByRecursion}
 use Rattle.cir_ast.specs.declared.program.Spot.{Spot}
@@ -19,12 +20,13 @@ use Rattle.cir_meaning.specs.Unknown.{Fault, first_of, assign_fault, fault_of, o
 use Rattle.cir_meaning.specs.Unknown.{declares}
 use Rattle.cir_meaning.specs.Scan.{forget, scan, undecided}
 use Rattle.cir_meaning.specs.Simple as simple
-use Rattle.cir_meaning.specs.Statement.{Flow, Going, Returned, going, goes, decided, condition}
-use Rattle.cir_meaning.specs.Statement.{branch, turns, most_turns, loop_of, first_simple}
-use Rattle.cir_meaning.specs.Statement.{assert_value, logged, log_values, exec, exec_all}
+use Rattle.cir_meaning.specs.Statement.{Flow, Going, Returned, going, goes, condition, branch}
+use Rattle.cir_meaning.specs.Statement.{turns, most_turns, loop_of, first_simple, assert_value}
+use Rattle.cir_meaning.specs.Statement.{logged, log_values, exec, exec_all}
 use Rattle.cir_meaning.proofs.Good.{OnGood, good_ok, good_bad, good_next, good_weaker, either}
 use Rattle.cir_meaning.proofs.Likes.{CallKeeps, Like, like_itself, value_like}
-use Rattle.cir_meaning.proofs.Fading.{may_any, scan_keeps}
+use Rattle.cir_meaning.proofs.Scans.{may_any, like_valued, scan_kept}
+use Rattle.cir_meaning.proofs.Keepings.{decided_as}
 use Rattle.cir_meaning.proofs.VariableRuns.{IsAdded, stepped_adds}
 use Rattle.cir_meaning.proofs.StepRuns.{counted_like, settle_like}
 use Rattle.cir_meaning.proofs.EqualRuns.{each_stays}
@@ -113,8 +115,8 @@ module _ (k : Context) (keeps : CallKeeps k.call) (n : ℕ) (Q : State → Type 
   undecided_kept spot (Some x) a s h = good_bad Q _
   undecided_kept spot None a s h =
       good_next Q Q (scan k (at k spot) a (forget (outer_assigned a) s)) _
-      (scan_keeps Q closed.like (λ m. ⊤)
-      (λ m dims t i g. closed.array dims _ (closed.variable m _ t g)) k keeps (at k spot) a
+      (scan_kept k Q (like_valued k keeps Q closed.like true) (λ m. ⊤)
+      (λ m dims t i g. closed.array dims _ (closed.variable m _ t g)) (at k spot) a
       (may_any (declares a)) (forget (outer_assigned a) s) (forget_kept (outer_assigned a) s h))
       (λ s1 g.
       good_next Q Q (stepped k (at k spot) (undecided_cost k (at k spot) a s s1)
@@ -134,13 +136,6 @@ module _ (k : Context) (keeps : CallKeeps k.call) (n : ℕ) (Q : State → Type 
   abbrev Keeps : (State → Tried Flow) → Type 0
   Keeps go = (s : State) → Q s → OnGood FlowKept (go s)
 
-  decided_kept : (v : Value) (x y z : State → Tried Flow) → Keeps x → Keeps y → Keeps z
-      → Keeps (decided v x y z)
-  decided_kept (Known i) x y z h g f = either Keeps (i == 0) x y h g
-  decided_kept (Linear l) x y z h g f = f
-  decided_kept (Quadratic a b c) x y z h g f = f
-  decided_kept Opaque x y z h g f = f
-
   condition_kept : (spot : Spot) (c : Expr Meant) (s : State) → Q s
       → OnGood (λ x. Q x.1) (condition k spot c s)
   condition_kept spot c s h =
@@ -156,14 +151,14 @@ module _ (k : Context) (keeps : CallKeeps k.call) (n : ℕ) (Q : State → Type 
       good_next Q FlowKept (counted (at k spot) s) _ (counted_kept (at k spot) s e)
       (λ s1 e1.
       good_next (λ q. Q q.1) FlowKept (condition k spot c s1) _
-      (condition_kept spot c s1 e1) (λ q e2. decided_kept q.0 x y z h g f q.1 e2))
+      (condition_kept spot c s1 e1) (λ q e2. decided_as Keeps q.0 x y z h g f q.1 e2))
 
   turns_kept : (i : ℕ) (spot : Spot) (c : Expr Meant) (body unknown : State → Tried Flow)
       → Keeps body → Keeps unknown → Keeps (turns i k spot c body unknown)
   turns_kept zero spot c body unknown h f s e = good_bad FlowKept _
   turns_kept (suc i) spot c body unknown h f s e =
       good_next (λ q. Q q.1) FlowKept (condition k spot c s) _ (condition_kept spot c s e)
-      (λ q e1. decided_kept q.0 _ _ unknown (λ s2 e2. good_ok FlowKept (Going s2) e2)
+      (λ q e1. decided_as Keeps q.0 _ _ unknown (λ s2 e2. good_ok FlowKept (Going s2) e2)
       (λ s2 e2.
       good_next Q FlowKept (counted (at k spot) s2) _ (counted_kept (at k spot) s2 e2)
       (λ s3 e3. good_next FlowKept FlowKept (body s3) _ (h s3 e3)

@@ -1,29 +1,26 @@
 -- What each single step of a body keeps, its whole execution keeps; and what holds where a
 -- statement is counted holds at the end.
-use Rattle.std.proofs.Common.{◌≡◌, ℕ, zero, suc, ◌+◌, Bool, true, false, List, [], ◌∷◌, ◌++◌}
-use Rattle.std.proofs.Common.{length, Option, Some, None, Ok}
-use Rattle.std.specs.Prelude.{◌==◌}
+use Rattle.std.proofs.Common.{ℕ, zero, suc, Bool, true, false, List, [], ◌∷◌, length, Option, Some}
+use Rattle.std.proofs.Common.{None, Ok}
+use Rattle.std.specs.Prelude.{◌==◌, ⊤}
 use Rattle.cir_ast.specs.declared.program.Spot.{Spot}
 use Rattle.cir_ast.specs.declared.program.Meant.{Meant}
 use Rattle.cir_ast.specs.declared.program.Meant.TheVariants as meant
 use Rattle.cir_ast.specs.declared.operators.Arrow.{Arrow}
 use Rattle.cir_ast.specs.declared.operators.Direction.{Direction}
-use Rattle.cir_ast.specs.declared.refusal.Kind.TheVariants.{ShapeDiffers, UnknownIndex}
-use Rattle.cir_ast.specs.Tree.{Expr, Exprs, none, more, Accessors, done, index, member, Variable}
-use Rattle.cir_ast.specs.Tree.{SignalValue, Nothing, Given, Signal, Component, Assign, Set}
-use Rattle.cir_ast.specs.Tree.{Compound, Left, Increment, Decrement, First, FirstVars, FirstAssign}
+use Rattle.cir_ast.specs.Tree.{Expr, Accessors, done, Variable, SignalValue, Nothing, Given, Signal}
+use Rattle.cir_ast.specs.Tree.{Component, Assign, Set, Compound, Left, Increment, Decrement}
 use Rattle.cir_ast.specs.Tree.{LogArgument, Words, LogValue, Slot, SlotPlace, SlotDiscard, Target}
 use Rattle.cir_ast.specs.Tree.{Discard, Slots, Simple, Vars, Signals, Declared, Created, Assigned}
 use Rattle.cir_ast.specs.Tree.{Constrain, Right, TargetLeft, TargetRight, Alone, Statement, Block}
 use Rattle.cir_ast.specs.Tree.{If, IfElse, While, For, Return, Assert, Log, Ended, Statements}
 use Rattle.cir_ast.specs.Tree.{empty, then_more}
-use Rattle.cir_meaning.specs.Tried.{Where, Tried, next, found}
-use Rattle.cir_meaning.specs.Arrays.{Datum, Want, Scalar, Whole, reach, same_dims, forgotten}
-use Rattle.cir_meaning.specs.Arrays.{the_item}
-use Rattle.cir_meaning.specs.Values.{Value, Known, Linear, Quadratic, Opaque, known_number}
-use Rattle.cir_meaning.specs.Frame.{World, State, Context, at, variable_at, adding, settle, counted}
+use Rattle.cir_meaning.specs.Tried.{Where, Tried, next}
+use Rattle.cir_meaning.specs.Arrays.{Datum, Want, Whole}
+use Rattle.cir_meaning.specs.Values.{Value, Known, Linear, Quadratic, Opaque}
+use Rattle.cir_meaning.specs.Frame.{World, State, Context, at, adding, settle, counted}
 use Rattle.cir_meaning.specs.Frame.{one_statement}
-use Rattle.cir_meaning.specs.Evaluate.{scalar, value_in, dims_in, indices_in}
+use Rattle.cir_meaning.specs.Evaluate.{value_in, dims_in}
 use Rattle.cir_meaning.specs.Anonymous.{Lifted, lift_simple}
 use Rattle.cir_meaning.specs.Writing.{plain}
 use Rattle.cir_meaning.specs.Declaring.{declare_variable, declare_signal, declare_component}
@@ -32,15 +29,23 @@ use Rattle.cir_meaning.specs.Costs.{Cost}
 use Rattle.cir_meaning.specs.Steps.{stepped, undecided_cost, undecided_cells, assert_cost, log_cost}
 use Rattle.cir_meaning.specs.Steps.{logged_cells}
 use Rattle.cir_meaning.specs.Unknown.{Fault, first_of, assign_fault, fault_of, outer_assigned}
+use Rattle.cir_meaning.specs.Unknown.{declares}
 use Rattle.cir_meaning.specs.Simple as simple
-use Rattle.cir_meaning.specs.Scan.{forget_one, forget, scan_test, scan_set, scan_plain, scan_assign}
-use Rattle.cir_meaning.specs.Scan.{scan_value, scan_declared, scan_meant, scan_variable, scan_first}
-use Rattle.cir_meaning.specs.Scan.{scan_simple, scan, scan_all, allowed, undecided}
+use Rattle.cir_meaning.specs.Scan.{forget_one, forget, scan_declared, scan, allowed, undecided}
 use Rattle.cir_meaning.specs.Statement.{Flow, Going, Returned, going, goes, decided, condition}
 use Rattle.cir_meaning.specs.Statement.{branch, most_turns, turns, loop_of, first_simple}
 use Rattle.cir_meaning.specs.Statement.{assert_value, logged, log_values, exec, exec_all}
-use Rattle.cir_meaning.proofs.Good.{OnGood, good_ok, good_bad, good_next, good_on, good_needed}
-use Rattle.cir_meaning.proofs.Good.{good_weaker, either}
+use Rattle.cir_meaning.proofs.Good.{OnGood, good_ok, good_bad, good_next, good_weaker, either}
+use Rattle.cir_meaning.proofs.ValueKeepings.{Valued, scalar_kept, dims_kept}
+use Rattle.cir_meaning.proofs.Scans.{scan_kept, may_any}
+
+-- one of three
+pub decided_as : {A : Type 0} (Q : A → Type 0) (v : Value) (x y z : A) → Q x → Q y → Q z
+    → Q (decided v x y z)
+decided_as Q (Known n) x y z h i j = either Q (n == 0) x y h i
+decided_as Q (Linear f) x y z h i j = j
+decided_as Q (Quadratic a b c) x y z h i j = j
+decided_as Q Opaque x y z h i j = j
 
 -- of a flow: what holds at the end of a statement, and of what is returned
 abbrev pub FlowIs : (State → Type 0) → (Datum → World → Type 0) → Flow → Type 0
@@ -118,15 +123,6 @@ module _ (k : Context) (keeping : Keeping k) where
       → ((a : A) → P a → OnGood Kept (go a)) → OnGood Kept (next m go)
   dropping P m go h f = good_next P Kept m go h f
 
-  scan_meant_keeps : (w : Where) (m : Meant) (go : ℕ → Tried State) → ((n : ℕ) → OnGood Kept (go n))
-      → OnGood Kept (scan_meant w m go)
-  scan_meant_keeps w (meant.Variable n) go h = h n
-  scan_meant_keeps w meant.Other go h = good_bad Kept _
-  scan_meant_keeps w (meant.Signal direction n) go h = good_bad Kept _
-  scan_meant_keeps w (meant.Component n) go h = good_bad Kept _
-  scan_meant_keeps w (meant.Template n) go h = good_bad Kept _
-  scan_meant_keeps w (meant.Function n) go h = good_bad Kept _
-
   -- statements
   abbrev pub Flows : (State → Tried Flow) → Type 0
   Flows go = (s : State) → Done s → OnGood FlowKept (go s)
@@ -146,46 +142,11 @@ module _ (k : Context) (keeping : Keeping k) where
   going_keeps (Going s) go h f = f s h
   going_keeps (Returned d world) go h f = good_ok FlowKept (Returned d world) h
 
-  decided_as : {A : Type 0} (Q : A → Type 0) (v : Value) (x y z : A) → Q x → Q y → Q z
-      → Q (decided v x y z)
-  decided_as Q (Known n) x y z h i j = either Q (n == 0) x y h i
-  decided_as Q (Linear f) x y z h i j = j
-  decided_as Q (Quadratic a b c) x y z h i j = j
-  decided_as Q Opaque x y z h i j = j
-
   counted_keeps : (w : Where) (s : State) → Kept s → OnGood Done (counted w s)
   counted_keeps w s g = keeping.settle w (adding one_statement s) (keeping.statement s g)
 
-  scalared : {A : Type 0} (Q : A → Type 0) (w : Where) (shaded : Bool) (e : Expr Meant)
-      (s : State) (go : Value → State → Tried A) → Kept s
-      → ((v : Value) (s1 : State) → Kept s1 → OnGood Q (go v s1))
-      → OnGood Q (scalar (value_in k w shaded Scalar e s) go)
-  scalared Q w shaded e s go g h =
-      good_next (λ x. Kept x.1) Q (value_in k w shaded Scalar e s)
-      (λ (d, s1). go (the_item d) s1) (keeping.value w shaded Scalar e s g)
-      (λ x g1. h (the_item x.0) x.1 g1)
-
-  dims_keeps : (w : Where) (shaded : Bool) (es : Exprs Meant) (s : State) → Kept s
-      → OnGood (λ x. Kept x.1) (dims_in k w shaded es s)
-  dims_keeps w shaded none s g = good_ok (λ x. Kept x.1) _ g
-  dims_keeps w shaded (more e es) s g =
-      scalared (λ x. Kept x.1) w shaded e s _ g (λ x s1 g1.
-      good_on (λ x. Kept x.1) (found w UnknownIndex (known_number x)) _ (λ n.
-      good_next (λ x. Kept x.1) (λ x. Kept x.1) (dims_in k w shaded es s1) _
-      (dims_keeps w shaded es s1 g1) (λ y q. good_ok (λ x. Kept x.1) (n ∷ y.0, y.1) q)))
-
-  indices_keeps : {A : Type 0} (Q : A → Type 0) (w : Where) (shaded : Bool)
-      (indices : List (Option ℕ)) (accessors : Accessors Meant) (s : State)
-      (go : List (Option ℕ) → Accessors Meant → State → Tried A) → Kept s
-      → ((indices : List (Option ℕ)) (rest : Accessors Meant) (s : State) → Kept s
-      → OnGood Q (go indices rest s))
-      → OnGood Q (indices_in k w shaded indices accessors s go)
-  indices_keeps Q w shaded indices done s go g f = f indices done s g
-  indices_keeps Q w shaded indices (member name rest) s go g f = f indices (member name rest) s g
-  indices_keeps Q w shaded indices (index e rest) s go g f =
-      scalared Q w shaded e s _ g
-      (λ x s1 g1.
-      indices_keeps Q w shaded (indices ++ known_number x ∷ []) rest s1 go g1 f)
+  known : Valued k Kept false
+  known w = keeping.value w false
 
   pub set_place_keeps : (w : Where) (written : Assign Meant) (m : Meant)
       (accessors : Accessors Meant) (e : Expr Meant)
@@ -218,7 +179,7 @@ module _ (k : Context) (keeping : Keeping k) where
   variable_keeps w v s g =
       declared_keeps w v.meant _ (λ n.
       dropping (λ x. Kept x.1) (dims_in k w false v.dimensions s) _
-      (dims_keeps w false v.dimensions s g) (λ x g1.
+      (dims_kept k Kept false known w v.dimensions s g) (λ x g1.
       initial_keeps w v.meant v.value (declare_variable n x.0 x.1)
       (keeping.variable n x.0 x.1 g1)))
 
@@ -233,7 +194,7 @@ module _ (k : Context) (keeping : Keeping k) where
   signal_keeps spot direction d s g =
       declared_keeps (at k spot) d.meant _ (λ n.
       dropping (λ x. Kept x.1) (dims_in k (at k spot) false d.dimensions s) _
-      (dims_keeps (at k spot) false d.dimensions s g) (λ x g1.
+      (dims_kept k Kept false known (at k spot) d.dimensions s g) (λ x g1.
       initial_signal_keeps (at k spot) d.meant d.value (declare_signal k spot direction n d.name x.0
       x.1) (keeping.signal spot direction n d.name x.0 x.1 g1)))
 
@@ -242,7 +203,7 @@ module _ (k : Context) (keeping : Keeping k) where
   component_keeps w c s g =
       declared_keeps w c.meant _ (λ n.
       dropping (λ x. Kept x.1) (dims_in k w false c.dimensions s) _
-      (dims_keeps w false c.dimensions s g)
+      (dims_kept k Kept false known w c.dimensions s g)
       (λ x g1. good_ok Kept (declare_component n c.name x.0 x.1)
       (keeping.component n c.name x.0 x.1 g1)))
 
@@ -312,89 +273,6 @@ module _ (k : Context) (keeping : Keeping k) where
   forget_keeps [] s g = g
   forget_keeps (n ∷ ns) s g = forget_keeps ns (forget_one n s) (keeping.forgotten n s g)
 
-  test_keeps : (w : Where) (e : Expr Meant) → Keeps (scan_test k w e)
-  test_keeps w e s g = scalared Kept w true e s _ g (λ x s1 g1. good_ok Kept s1 g1)
-
-  scan_set_keeps : (w : Where) (m : Meant) (accessors : Accessors Meant) (e : Expr Meant)
-      → Keeps (scan_set k w m accessors e)
-  scan_set_keeps w (meant.Variable n) accessors e s g =
-      good_next (λ x. Kept x.1) Kept (value_in k w true Whole e s) _
-      (keeping.value w true Whole e s g) (λ x g1.
-      indices_keeps Kept w true [] accessors x.1 _ g1 (λ indices rest s2 g2.
-      good_on Kept (reach w true Whole (variable_at s2.frame n).dims indices) _ (λ r.
-      good_needed Kept (same_dims r.left x.0.dims) w ShapeDiffers _ (good_ok Kept s2 g2))))
-  scan_set_keeps w meant.Other accessors e s g = good_bad Kept _
-  scan_set_keeps w (meant.Signal direction n) accessors e s g = good_bad Kept _
-  scan_set_keeps w (meant.Component n) accessors e s g = good_bad Kept _
-  scan_set_keeps w (meant.Template n) accessors e s g = good_bad Kept _
-  scan_set_keeps w (meant.Function n) accessors e s g = good_bad Kept _
-
-  scan_plain_keeps : (w : Where) (a : Assign Meant) → Keeps (scan_plain k w a)
-  scan_plain_keeps w (Set name m accessors e) s g = scan_set_keeps w m accessors e s g
-  scan_plain_keeps w (Left name m accessors arrow e) s g = good_bad Kept _
-  scan_plain_keeps w (Compound name m accessors op e) s g = good_bad Kept _
-  scan_plain_keeps w (Increment name m accessors) s g = good_bad Kept _
-  scan_plain_keeps w (Decrement name m accessors) s g = good_bad Kept _
-
-  scan_value_keeps : (w : Where) (m : Meant) (value : Option (Expr Meant))
-      → Keeps (scan_value k w m value)
-  scan_value_keeps w m None s g = good_ok Kept s g
-  scan_value_keeps w m (Some e) s g = scan_set_keeps w m done e s g
-
-  scan_variable_keeps : (w : Where) (v : Variable Meant) → Keeps (scan_variable k w v)
-  scan_variable_keeps w v s g =
-      scan_meant_keeps w v.meant _ (λ n.
-      dropping (λ x. Kept x.1) (dims_in k w true v.dimensions s) _
-      (dims_keeps w true v.dimensions s g) (λ x g1.
-      scan_value_keeps w v.meant v.value (scan_declared n x.0 x.1)
-      (keeping.scanned n x.0 x.1 g1)))
-
-  scan_first_keeps : (w : Where) (f : First Meant) → Keeps (scan_first k w f)
-  scan_first_keeps w (FirstVars vs) s g =
-      each_keeps (scan_variable k w) vs (scan_variable_keeps w) s g
-  scan_first_keeps w (FirstAssign a) s g = scan_plain_keeps w (plain a) s g
-
-  scan_simple_keeps : (w : Where) (x : Simple Meant) → Keeps (scan_simple k w x)
-  scan_simple_keeps w (Vars vs) s g = each_keeps (scan_variable k w) vs (scan_variable_keeps w) s g
-  scan_simple_keeps w (Assigned a) s g = scan_plain_keeps w (plain a) s g
-  scan_simple_keeps w (Signals direction ds) s g = good_bad Kept _
-  scan_simple_keeps w (Declared cs) s g = good_bad Kept _
-  scan_simple_keeps w (Created name m e) s g = good_bad Kept _
-  scan_simple_keeps w (Constrain a b) s g = good_bad Kept _
-  scan_simple_keeps w (Right e arrow name m accessors) s g = good_bad Kept _
-  scan_simple_keeps w (TargetLeft target arrow source) s g = good_bad Kept _
-  scan_simple_keeps w (TargetRight source arrow target) s g = good_bad Kept _
-  scan_simple_keeps w (Alone parallel name m arguments inputs) s g = good_bad Kept _
-
-  mutual
-    pub scan_keeps : (w : Where) (a : Statement Spot Meant) → Keeps (scan k w a)
-    scan_keeps w (Block spot ss) s g = scan_all_keeps w ss s g
-    scan_keeps w (If spot c a) s g =
-        then_keeps (scan_test k w c s) (scan k w a) (test_keeps w c s g)
-        (λ s1 g1. scan_keeps w a s1 g1)
-    scan_keeps w (IfElse spot c a b) s g =
-        then_keeps (scan_test k w c s) _ (test_keeps w c s g)
-        (λ s1 g1. then_keeps (scan k w a s1) (scan k w b) (scan_keeps w a s1 g1)
-        (λ s2 g2. scan_keeps w b s2 g2))
-    scan_keeps w (While spot c a) s g =
-        then_keeps (scan_test k w c s) (scan k w a) (test_keeps w c s g)
-        (λ s1 g1. scan_keeps w a s1 g1)
-    scan_keeps w (For spot first_spot f c step_spot a body) s g =
-        then_keeps (scan_first k w f s) _ (scan_first_keeps w f s g) (λ s1 g1.
-        then_keeps (scan_test k w c s1) _ (test_keeps w c s1 g1) (λ s2 g2.
-        then_keeps (scan k w body s2) (scan_assign k w a) (scan_keeps w body s2 g2)
-        (λ s3 g3. scan_plain_keeps w (plain a) s3 g3)))
-    scan_keeps w (Return spot e) s g = good_bad Kept _
-    scan_keeps w (Assert spot e) s g = test_keeps w e s g
-    scan_keeps w (Log spot arguments) s g = good_bad Kept _
-    scan_keeps w (Ended spot x) s g = scan_simple_keeps w x s g
-
-    scan_all_keeps : (w : Where) (ss : Statements Spot Meant) → Keeps (scan_all k w ss)
-    scan_all_keeps w empty s g = good_ok Kept s g
-    scan_all_keeps w (then_more a rest) s g =
-        then_keeps (scan k w a s) (scan_all k w rest) (scan_keeps w a s g)
-        (λ s1 g1. scan_all_keeps w rest s1 g1)
-
   allowed_keeps : (o : Option Fault) (go : Tried State) → OnGood Done go
       → OnGood Done (allowed k o go)
   allowed_keeps None go h = h
@@ -405,7 +283,9 @@ module _ (k : Context) (keeping : Keeping k) where
   undecided_keeps spot fault a s g =
       allowed_keeps fault _ (good_next Kept Done
       (scan k (at k spot) a (forget (outer_assigned a) s)) _
-      (scan_keeps (at k spot) a (forget (outer_assigned a) s) (forget_keeps (outer_assigned a) s g))
+      (scan_kept k Kept (λ w. keeping.value w true) (λ n. ⊤)
+      (λ n dims t m. keeping.scanned n dims t) (at k spot) a (may_any (declares a))
+      (forget (outer_assigned a) s) (forget_keeps (outer_assigned a) s g))
       (λ s1 g1.
       good_next Kept Done (stepped k (at k spot) (undecided_cost k (at k spot) a s s1)
       (undecided_cells a s) s1) (settle (at k spot))
@@ -416,7 +296,8 @@ module _ (k : Context) (keeping : Keeping k) where
   pub condition_keeps : (spot : Spot) (c : Expr Meant) (s : State) → Done s
       → OnGood (λ x. Done x.1) (condition k spot c s)
   condition_keeps spot c s g =
-      scalared (λ x. Done x.1) (at k spot) false c s _ (keeping.done s g) (λ v s1 g1.
+      scalar_kept k Kept false known (λ x. Done x.1) (at k spot) c s _ (keeping.done s g)
+      (λ v s1 g1.
       good_next Done (λ x. Done x.1) (settle (at k spot) s1) _
       (keeping.settle (at k spot) s1 g1)
       (λ s2 g2. good_ok (λ x. Done x.1) (v, s2) g2))
@@ -455,7 +336,7 @@ module _ (k : Context) (keeping : Keeping k) where
   logged_keeps : (w : Where) (a : LogArgument Meant) → Keeps (logged k w a)
   logged_keeps w (Words text) s g = good_ok Kept s g
   logged_keeps w (LogValue e) s g =
-      scalared Kept w false e s _ g (λ v s1 g1. good_ok Kept s1 g1)
+      scalar_kept k Kept false known Kept w e s _ g (λ v s1 g1. good_ok Kept s1 g1)
 
   pub log_keeps : (w : Where) (arguments : List (LogArgument Meant))
       → Keeps (log_values k w arguments)
@@ -501,7 +382,7 @@ module _ (k : Context) (keeping : Keeping k) where
         (loop_of spot c body step_spot a)))))
     exec_keeps (Return spot e) s g = keeping.returns (at k spot) e s (keeping.done s g)
     exec_keeps (Assert spot e) s g =
-        scalared FlowKept (at k spot) false e s _ (keeping.done s g) (λ v s1 g1.
+        scalar_kept k Kept false known FlowKept (at k spot) e s _ (keeping.done s g) (λ v s1 g1.
         good_next Kept FlowKept (assert_value k (at k spot) e s v s1) _
         (assert_keeps (at k spot) e s v s1 g1)
         (λ s2 g2. goes_keeps (counted (at k spot) s2) (counted_keeps (at k spot) s2 g2)))

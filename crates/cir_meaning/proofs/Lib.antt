@@ -26,6 +26,7 @@ pub mod Holds
 pub mod Assigning
 pub mod Marking
 pub mod Writing
+pub mod Scans
 pub mod Fading
 pub mod Twins
 pub mod ValueTwins
@@ -35,6 +36,10 @@ pub mod KnownCalls
 pub mod RunFree
 pub mod SmallNumbers
 pub mod SmallSteps
+pub mod SmallWires
+pub mod SmallRuns
+pub mod SmallBodies
+pub mod SmallMains
 pub mod CallsTold
 pub mod Goes
 pub mod Standing

@@ -8,7 +8,7 @@ use Rattle.cir_meaning.specs.Arrays.{Datum, Want}
 use Rattle.cir_meaning.specs.Frame.{World, State, Context, Caller, adding}
 use Rattle.cir_meaning.specs.Evaluate.{value_in, all_in}
 use Rattle.cir_meaning.proofs.Good.{OnGood, good_weaker}
-use Rattle.cir_meaning.proofs.ValueKeepings.{value_keeps, all_keeps}
+use Rattle.cir_meaning.proofs.ValueKeepings.{Valued, value_keeps, all_keeps}
 
 -- the world behind a call
 abbrev pub CallKeeps : Caller → Type 0
@@ -49,3 +49,6 @@ module _ (f : State) where
     pub all_like : (w : Where) (shaded : Bool) (es : Exprs Meant) (s : State) → Like f s
         → OnGood Stays (all_in k w shaded es s)
     all_like w shaded es s l = all_keeps (Like f) k arrays_like calls_like w shaded es s l
+
+    pub valued_like : (shaded : Bool) → Valued k (Like f) shaded
+    valued_like shaded w want e s l = value_like w shaded want e s l

@@ -1,5 +1,5 @@
 -- A program that compiles has a name for each signal.
-use Rattle.std.proofs.Common.{◌≡◌, ℕ, ◌+◌, ◌≤◌, ◌<◌, length, Ok, refl, ap, subst, arith}
+use Rattle.std.proofs.Common.{◌≡◌, ℕ, ◌+◌, ◌≤◌, ◌<◌, length, Ok, refl, sym, ap, subst, arith}
 use Rattle.std.specs.Prelude.{codes}
 use Rattle.cir_ast.specs.declared.program.Meant.{Meant}
 use Rattle.cir_ast.specs.declared.program.Meant.TheVariants as meant
@@ -20,7 +20,8 @@ use Rattle.cir_meaning.proofs.KnownCalls.{calls_keep}
 use Rattle.cir_meaning.proofs.Creating.{arguments_like}
 use Rattle.cir_meaning.proofs.ScanPoints.{next_to}
 use Rattle.cir_meaning.proofs.DepthRuns.{makes_grow, bodies_run}
-use Rattle.cir_meaning.proofs.RowCounts.{Counted, sizes_counted}
+use Rattle.cir_meaning.proofs.CountingBodies.{all_few}
+use Rattle.cir_meaning.proofs.RowCounts.{Counted, names_all, sizes_counted}
 use Rattle.cir_meaning.proofs.MadeRows.{same_counted, template_counts, makes_count}
 use Rattle.cir_meaning.proofs.MainRuns.{Executed, executed}
 
@@ -79,6 +80,24 @@ counted p resolved size m x e = by_meant m.meant refl
         let no : exec_main p size m (meant.Function n) ≡ Ok x =
         subst (λ y. exec_main p size m y ≡ Ok x) same e in cc
 
+abbrev circuit : ℕ → Signals × World → Tried Circuit
+circuit size x = Ok (circuit_of size x.1)
+
+-- the limit of signals is one of names
+pub few_names : (p : Program) (size : ℕ) (c : Circuit) → compiled_with size p ≡ Ok c
+    → length c.names ≤ 1048575
+few_names p size c e =
+    let one : (m : Main) × (the_main p ≡ Ok m)
+    × (next (exec_main p size m m.meant) (circuit size) ≡ Ok c) =
+    next_to (the_main p) (λ m. next (exec_main p size m m.meant) (circuit size)) c e in
+    let two : (x : Signals × World) × (exec_main p size one.0 one.0.meant ≡ Ok x)
+    × (circuit size x ≡ Ok c) =
+    next_to (exec_main p size one.0 one.0.meant) (circuit size) c one.2 in
+    let is : circuit_of size two.0.1 ≡ c = cc in
+    subst (λ (d : Circuit). length d.names ≤ 1048575) is
+    (subst (λ (n : ℕ). n ≤ 1048575) (sym (names_all two.0.1.rows))
+    (all_few p size one.0 one.0.meant two.0.0 two.0.1 two.1).signals)
+
 -- few signals have few inputs among them
 less_of : (n a b c d k : ℕ) → n ≡ a + (b + (c + d)) → n < k → b + c < k
 less_of n a b c d k e h = omega arith
@@ -88,15 +107,13 @@ pub few_inputs : (p : Program) (resolved : IsResolved p) (size : ℕ) (c : Circu
     → c.public_inputs + c.private_inputs < size
 few_inputs p resolved size c e top few =
     let one : (m : Main) × (the_main p ≡ Ok m)
-    × (next (exec_main p size m m.meant) circuit ≡ Ok c) =
-    next_to (the_main p) (λ m. next (exec_main p size m m.meant) circuit) c e in
+    × (next (exec_main p size m m.meant) (circuit size) ≡ Ok c) =
+    next_to (the_main p) (λ m. next (exec_main p size m m.meant) (circuit size)) c e in
     let two : (x : Signals × World) × (exec_main p size one.0 one.0.meant ≡ Ok x)
-    × (circuit x ≡ Ok c) = next_to (exec_main p size one.0 one.0.meant) circuit c one.2 in
+    × (circuit size x ≡ Ok c) =
+    next_to (exec_main p size one.0 one.0.meant) (circuit size) c one.2 in
     let is : circuit_of size two.0.1 ≡ c = cc in
     subst (λ (d : Circuit). length d.names < size → d.public_inputs + d.private_inputs < size) is
     (λ less. less_of (length (circuit_of size two.0.1).names) two.0.1.sizes.outputs
     two.0.1.sizes.public_inputs two.0.1.sizes.private_inputs two.0.1.sizes.others size
     (sizes_counted two.0.1 size (counted p resolved size one.0 two.0 two.1) top less) less) few
-  where
-    circuit : Signals × World → Tried Circuit
-    circuit x = Ok (circuit_of size x.1)

@@ -1,7 +1,8 @@
 -- The sizes of the groups are those of the rows in the table of all signals.
 use Rattle.std.proofs.Common.{◌≡◌, ℕ, zero, suc, ◌+◌, ◌≤◌, ◌<◌, Bool, true, false, cond, List, []}
 use Rattle.std.proofs.Common.{◌∷◌, ◌++◌, length, refl, sym, ap, subst, ◌∙◌, arith}
-use Rattle.std.specs.Prelude.{◌^◌, ◌-◌, min, map, flat_map, filter}
+use Rattle.std.specs.Prelude.{◌^◌, ◌-◌, min, map, flat_map, filter, sum_by}
+use Rattle.std.proofs.lemmas.List.Sums.{sum_by-append}
 use Rattle.cir_meaning.specs.Limits.{count_sum}
 use Rattle.cir_meaning.specs.Places.{elements, numbers_from}
 use Rattle.cir_meaning.specs.Frame.{Group, Outputs, PublicInputs, PrivateInputs, Others, Sizes, Row}
@@ -137,6 +138,43 @@ names_count rows =
   where
     both : {a b c d : ℕ} → a ≡ b → c ≡ d → a + c ≡ b + d
     both e f = omega arith
+
+-- each row is of one group
+total_groups : (rows : List Row) → total rows
+    ≡ row_count Outputs rows + (row_count PublicInputs rows + (row_count PrivateInputs rows
+    + row_count Others rows))
+unfolding total
+total_groups [] = refl
+total_groups (row ∷ rows) =
+    one row row.group (total rows) (row_count Outputs rows) (row_count PublicInputs rows)
+    (row_count PrivateInputs rows) (row_count Others rows) (total_groups rows)
+  where
+    one : (row : Row) (g : Group) (n a b c d : ℕ) → n ≡ a + (b + (c + d))
+        → elements row.dims + n
+        ≡ (cond (is_of Outputs (record row { group = g })) (elements row.dims) 0 + a)
+        + ((cond (is_of PublicInputs (record row { group = g })) (elements row.dims) 0 + b)
+        + ((cond (is_of PrivateInputs (record row { group = g })) (elements row.dims) 0 + c)
+        + (cond (is_of Others (record row { group = g })) (elements row.dims) 0 + d)))
+    one row Outputs n a b c d e = omega arith
+    one row PublicInputs n a b c d e = omega arith
+    one row PrivateInputs n a b c d e = omega arith
+    one row Others n a b c d e = omega arith
+
+total_sum : (rows : List Row) → total rows ≡ sum_by (λ r. elements r.dims) rows
+unfolding total
+total_sum [] = refl
+total_sum (row ∷ rows) =
+    let one : sum_by (λ (r : Row). elements r.dims) (row ∷ []) ≡ elements row.dims = omega arith in
+    let all : sum_by (λ (r : Row). elements r.dims) (row ∷ rows)
+    ≡ sum_by (λ (r : Row). elements r.dims) (row ∷ [])
+    + sum_by (λ (r : Row). elements r.dims) rows =
+    sum_by-append (λ (r : Row). elements r.dims) (row ∷ []) rows in
+    let rest : total rows ≡ sum_by (λ (r : Row). elements r.dims) rows = total_sum rows in
+    omega arith
+
+pub names_all : (rows : List Row) → length (flat_map names_of_row (in_order rows))
+    ≡ sum_by (λ r. elements r.dims) rows
+names_all rows = names_count rows ∙ sym (total_groups rows) ∙ total_sum rows
 
 -- few signals are counted as they are
 exact : (a r n k : ℕ) → a ≡ min r (2 ^ 64 - 1) → r ≤ n → n < k → k ≤ 1048576 → a ≡ r

@@ -11,7 +11,7 @@ use Rattle.cir_meaning.specs.Scoped.{IsResolved}
 use Rattle.cir_meaning.specs.Tried.{Where, Refused}
 use Rattle.cir_meaning.specs.Compile.{Circuit, Satisfies, compiled, group_size}
 use Rattle.cir_meaning.specs.Run.{RunTried, Rejected, Stopped}
-use Rattle.cir_meaning.specs.RunBodies.{Ending, run_with}
+use Rattle.cir_meaning.specs.RunBodies.{Ending, ran}
 use Rattle.cir_meaning.specs.Arrays.{Datum, is_known, is_all_known}
 use Rattle.cir_meaning.specs.Frame.{World}
 use Rattle.cir_meaning.specs.Bodies.{call_at}
@@ -28,7 +28,7 @@ use Rattle.std.proofs.ByRecursion.{all_from_every}
 use Rattle.gold_field.specs.declared.gold.TheConstants.{P}
 use Rattle.cir_meaning.proofs.SmallNumbers.{SmallAll, SmallAnswer, gives_is}
 use Rattle.cir_meaning.proofs.SmallSteps.{calls_small}
-use Rattle.cir_meaning.proofs.MainNames.{counted, few_inputs}
+use Rattle.cir_meaning.proofs.MainNames.{counted, few_names, few_inputs}
 use Rattle.cir_meaning.proofs.RunFree.{NoMiss, IsNumber', run_calls}
 
 pub call_known : (p : Program) (size room n : ℕ) (w : Where) (arguments : List Datum)
@@ -58,6 +58,27 @@ room_small : group_size ≤ 2 ^ 64 - 1
 unfolding group_size
 room_small = omega arith
 
+room_top : group_size ≤ 1048576
+unfolding group_size
+room_top = omega arith
+
+-- the limit of signals leaves each group room
+pub names_few : (p : Program) (c : Circuit) → compiled p ≡ Ok c → length c.names ≤ 1048575
+names_few p c made = few_names p group_size c made
+
+names_fit : (p : Program) (c : Circuit) → compiled p ≡ Ok c → length c.names < group_size
+unfolding group_size
+names_fit p c made = let few : length c.names ≤ 1048575 = names_few p c made in omega arith
+
+inputs_fit : (p : Program) (c : Circuit) (inputs : List ℕ) → IsResolved p → compiled p ≡ Ok c
+    → length inputs ≡ c.public_inputs + c.private_inputs → length inputs < group_size
+inputs_fit p c inputs resolved made count =
+    few_of (length inputs) (c.public_inputs + c.private_inputs) count
+    (few_inputs p resolved group_size c made room_top (names_fit p c made))
+  where
+    few_of : (n k : ℕ) → n ≡ k → k < group_size → n < group_size
+    few_of n k e h = omega arith
+
 not_rejected : {A : Type 0} (Q : A → Type 0) (m : RunTried A) (e : Refused) → Ends Q m
     → m ≢ Err (Rejected e)
 unfolding Ends
@@ -76,19 +97,21 @@ not_missing Q (Err (Stopped s v l)) stop w log h e =
 
 pub run_accepted : (p : Program) (c : Circuit) (fuel : ℕ) (inputs : List ℕ) (e : Refused)
     → IsResolved p → compiled p ≡ Ok c → length inputs ≡ c.public_inputs + c.private_inputs
-    → length inputs < group_size → run_with group_size p fuel inputs ≢ Err (Rejected e)
-run_accepted p c fuel inputs e resolved made count few =
-    not_rejected (Fitting group_size c) (run_with group_size p fuel inputs) e
-    (runs p resolved group_size fuel c inputs room_small made count few
+    → ran p fuel inputs ≢ Err (Rejected e)
+run_accepted p c fuel inputs e resolved made count =
+    not_rejected (Fitting group_size c) (ran p fuel inputs) e
+    (runs p resolved group_size fuel c inputs room_small made count
+    (inputs_fit p c inputs resolved made count)
     (counted p resolved group_size))
 
 pub run_never_misses : (p : Program) (c : Circuit) (fuel : ℕ) (inputs : List ℕ) (stop : ℕ)
     (w : Where) (log : List (List ℕ)) → IsResolved p → compiled p ≡ Ok c
-    → length inputs ≡ c.public_inputs + c.private_inputs → length inputs < group_size
-    → run_with group_size p fuel inputs ≡ Err (Stopped stop w log) → stop ≢ missing
-run_never_misses p c fuel inputs stop w log resolved made count few =
-    not_missing (Fitting group_size c) (run_with group_size p fuel inputs) stop w log
-    (runs p resolved group_size fuel c inputs room_small made count few
+    → length inputs ≡ c.public_inputs + c.private_inputs
+    → ran p fuel inputs ≡ Err (Stopped stop w log) → stop ≢ missing
+run_never_misses p c fuel inputs stop w log resolved made count =
+    not_missing (Fitting group_size c) (ran p fuel inputs) stop w log
+    (runs p resolved group_size fuel c inputs room_small made count
+    (inputs_fit p c inputs resolved made count)
     (counted p resolved group_size))
 
 -- what a run ends with
@@ -98,51 +121,43 @@ ended Q (Ok b) a h e = let same : b ≡ a = cc in subst Q same h
 ended Q (Err (Rejected x)) a h e = absurd h
 ended Q (Err (Stopped stop w log)) a h e = cc
 
-room_top : group_size ≤ 1048576
-unfolding group_size
-room_top = omega arith
-
-few_of : (n k : ℕ) → n ≡ k → k < group_size → n < group_size
-few_of n k e h = omega arith
-
 pub run_fits : (p : Program) (c : Circuit) (fuel : ℕ) (inputs : List ℕ) (e : Ending)
-    → IsResolved p → compiled p ≡ Ok c → length c.names < group_size
+    → IsResolved p → compiled p ≡ Ok c
     → length inputs ≡ c.public_inputs + c.private_inputs
-    → run_with group_size p fuel inputs ≡ Ok e
+    → ran p fuel inputs ≡ Ok e
     → (length e.values ≡ 1 + length c.names) × AllByRecursion (λ o. is_some o ≡ true) e.values
     × ((s : Assignment) → HasValues s e.values → AllByRecursion (IsEqualAt s) c.equations)
-run_fits p c fuel inputs e resolved made few count ends =
-    ended (Fitting group_size c) (run_with group_size p fuel inputs) e
+run_fits p c fuel inputs e resolved made count ends =
+    ended (Fitting group_size c) (ran p fuel inputs) e
     (runs p resolved group_size fuel c inputs room_small made count
-    (few_of (length inputs) (c.public_inputs + c.private_inputs) count
-    (few_inputs p resolved group_size c made room_top few)) (counted p resolved group_size)) ends
-    room_top few
+    (inputs_fit p c inputs resolved made count) (counted p resolved group_size)) ends
+    room_top (names_fit p c made)
 
 pub run_counts : (p : Program) (c : Circuit) (fuel : ℕ) (inputs : List ℕ) (e : Ending)
-    → IsResolved p → compiled p ≡ Ok c → length c.names < group_size
+    → IsResolved p → compiled p ≡ Ok c
     → length inputs ≡ c.public_inputs + c.private_inputs
-    → run_with group_size p fuel inputs ≡ Ok e → length e.values ≡ 1 + length c.names
-run_counts p c fuel inputs e resolved made few count ends =
-    (run_fits p c fuel inputs e resolved made few count ends).0
+    → ran p fuel inputs ≡ Ok e → length e.values ≡ 1 + length c.names
+run_counts p c fuel inputs e resolved made count ends =
+    (run_fits p c fuel inputs e resolved made count ends).0
 
 pub run_has_values : (p : Program) (c : Circuit) (fuel : ℕ) (inputs : List ℕ) (e : Ending)
-    → IsResolved p → compiled p ≡ Ok c → length c.names < group_size
+    → IsResolved p → compiled p ≡ Ok c
     → length inputs ≡ c.public_inputs + c.private_inputs
-    → run_with group_size p fuel inputs ≡ Ok e → All (λ o. is_some o ≡ true) e.values
-run_has_values p c fuel inputs e resolved made few count ends =
+    → ran p fuel inputs ≡ Ok e → All (λ o. is_some o ≡ true) e.values
+run_has_values p c fuel inputs e resolved made count ends =
     all_of (λ o. is_some o ≡ true) e.values
-    (run_fits p c fuel inputs e resolved made few count ends).1
+    (run_fits p c fuel inputs e resolved made count ends).1
 
 pub run_satisfies : (p : Program) (c : Circuit) (fuel : ℕ) (inputs : List ℕ) (e : Ending)
-    (s : Assignment) → IsResolved p → compiled p ≡ Ok c → length c.names < group_size
+    (s : Assignment) → IsResolved p → compiled p ≡ Ok c
     → length inputs ≡ c.public_inputs + c.private_inputs
-    → run_with group_size p fuel inputs ≡ Ok e
+    → ran p fuel inputs ≡ Ok e
     → ((i x : ℕ) → slice_get e.values i ≡ Some (Some x) → s.at i ≡ x) → Satisfies p s
-run_satisfies p c fuel inputs e s resolved made few count ends has = (
+run_satisfies p c fuel inputs e s resolved made count ends has = (
   c,
   made,
   all_of (IsEqualAt s) c.equations
-      ((run_fits p c fuel inputs e resolved made few count ends).2 s has),
+      ((run_fits p c fuel inputs e resolved made count ends).2 s has),
 )
 
 -- numbers of the field

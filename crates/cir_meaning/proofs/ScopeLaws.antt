@@ -17,7 +17,7 @@ use Rattle.cir_meaning.specs.Scoped.{with_signals, IsSimpleScoped, behind_simple
 use Rattle.cir_meaning.specs.Scoped.{behind_first, closed, behind, behind_all, IsScoped, AreScoped}
 use Rattle.cir_meaning.specs.Unknown.{variable_of, vars_declare, first_declares, simple_declares}
 use Rattle.cir_meaning.specs.Unknown.{declares, all_declares}
-use Rattle.cir_meaning.proofs.Fading.{AllMay}
+use Rattle.cir_meaning.proofs.Scans.{AllMay}
 
 -- a scope that grows
 pub record Grows (s t : Scope) : Type 0 where

@@ -5,17 +5,16 @@ use Rattle.std.specs.List.{AllByRecursion}
 use Rattle.cir_ast.specs.declared.program.Meant.{Meant}
 use Rattle.cir_ast.specs.declared.program.Meant.TheVariants as meant
 use Rattle.cir_ast.specs.declared.operators.Arrow.{Arrow}
-use Rattle.cir_ast.specs.declared.refusal.Kind.TheVariants.{UnknownIndex}
-use Rattle.cir_ast.specs.Tree.{Expr, Exprs, none, more, Accessors, done, Variable, Assign, Set}
-use Rattle.cir_ast.specs.Tree.{Compound, Left, Increment, Decrement, Slot, SlotPlace, SlotDiscard}
-use Rattle.cir_ast.specs.Tree.{Target, Discard, Slots}
+use Rattle.cir_ast.specs.Tree.{Expr, Exprs, Accessors, done, Variable, Assign, Set, Compound, Left}
+use Rattle.cir_ast.specs.Tree.{Increment, Decrement, Slot, SlotPlace, SlotDiscard, Target, Discard}
+use Rattle.cir_ast.specs.Tree.{Slots}
 use Rattle.cir_meaning.specs.Scoped.{Scope, AreCallsMeant, IsSetMeant, IsAssignMeant}
-use Rattle.cir_meaning.specs.Tried.{Where, Tried, next, found}
+use Rattle.cir_meaning.specs.Tried.{Where, Tried, next}
 use Rattle.cir_meaning.specs.Limits.{with_array}
-use Rattle.cir_meaning.specs.Arrays.{Scalar, filled, the_item}
-use Rattle.cir_meaning.specs.Values.{Known, known_number}
+use Rattle.cir_meaning.specs.Arrays.{filled}
+use Rattle.cir_meaning.specs.Values.{Known}
 use Rattle.cir_meaning.specs.Frame.{State, Context}
-use Rattle.cir_meaning.specs.Evaluate.{value_in, dims_in}
+use Rattle.cir_meaning.specs.Evaluate.{dims_in}
 use Rattle.cir_meaning.specs.Writing.{plain}
 use Rattle.cir_meaning.specs.Declaring.{declare_variable}
 use Rattle.cir_meaning.specs.Simple as simple
@@ -23,8 +22,9 @@ use Rattle.cir_meaning.specs.Run.{Wires, Run, RunTried}
 use Rattle.cir_meaning.specs.RunSimple.{Running, with_known, run_known, run_each, run_set_place}
 use Rattle.cir_meaning.specs.RunSimple.{run_assigned, run_initial, run_number, run_variable}
 use Rattle.cir_meaning.specs.RunSimple.{run_slots, run_tuple}
-use Rattle.cir_meaning.proofs.Good.{OnGood, good_ok, good_next, good_on, good_is}
-use Rattle.cir_meaning.proofs.Likes.{CallKeeps, Like, like_itself, value_like}
+use Rattle.cir_meaning.proofs.Good.{OnGood, good_is}
+use Rattle.cir_meaning.proofs.ValueKeepings.{dims_kept}
+use Rattle.cir_meaning.proofs.Likes.{valued_like, CallKeeps, Like, like_itself}
 use Rattle.cir_meaning.proofs.FineValues.{Fine, filled_datum, zero_value, dims_fine}
 use Rattle.cir_meaning.proofs.FineWriting.{set_fine}
 use Rattle.cir_meaning.proofs.Holds.{Extends}
@@ -42,13 +42,7 @@ use Rattle.cir_meaning.proofs.CreateRuns.{create_goes}
 pub dims_like : (k : Context) (keeps : CallKeeps k.call) (f : State) (w : Where)
     (es : Exprs Meant) (s : State) → Like f s
     → OnGood (λ x. Like f x.1) (dims_in k w false es s)
-dims_like k keeps f w none s l = good_ok (λ x. Like f x.1) ([], s) l
-dims_like k keeps f w (more e es) s l =
-    good_next (λ x. Like f x.1) (λ x. Like f x.1) (value_in k w false Scalar e s) _
-    (value_like f k keeps w false Scalar e s l) (λ x p.
-    good_on (λ y. Like f y.1) (found w UnknownIndex (known_number (the_item x.0))) _ (λ n.
-    good_next (λ y. Like f y.1) (λ y. Like f y.1) (dims_in k w false es x.1) _
-    (dims_like k keeps f w es x.1 p) (λ y g. good_ok (λ z. Like f z.1) (n ∷ y.0, y.1) g)))
+dims_like k keeps f = dims_kept k (Like f) false (valued_like f k keeps false)
 
 module _ (given : Wires) (start : Start) (scope : Scope) (q : Running)
     (sound : Soundly scope q) (bodies : BodiesRun start.size q.context.make q.body) where

@@ -25,6 +25,7 @@ use Rattle.cir_meaning.specs.RunValues.{read_wired, read_stored, read_option, in
 use Rattle.cir_meaning.specs.RunValues.{option_at, gathered_numbers, call_function, unless_known}
 use Rattle.cir_meaning.specs.RunValues.{needs_right, result_number, unless_zero_divisor, when}
 use Rattle.cir_meaning.specs.RunValues.{index_out}
+use Rattle.cir_meaning.proofs.Good.{OnSome'}
 use Rattle.cir_meaning.proofs.Rows.{all_replicate, all_map, all_joined}
 
 abbrev pub Small : Numbers → Type 0
@@ -34,8 +35,7 @@ abbrev pub SmallAll : List Numbers → Type 0
 SmallAll ds = AllByRecursion Small ds
 
 abbrev pub SmallOption : Option ℕ → Type 0
-SmallOption None = ⊤
-SmallOption (Some n) = n < P
+SmallOption = OnSome' (λ n. n < P)
 
 abbrev pub SmallWires : Shaped (Option ℕ) → Type 0
 SmallWires d = AllByRecursion SmallOption d.items

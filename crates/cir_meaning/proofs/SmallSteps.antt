@@ -45,7 +45,7 @@ spend_gives Q zero go h = gives_stop (λ x. Q x.0) 5
 spend_gives Q (suc u) go h = h u
 
 module _ (env : Environment) (small : SmallEnvironment env) where
-  set_small : (m : Meant) (accessors : Accessors Meant) (e : Expr Meant) (store : Store) (u : ℕ)
+  pub set_small : (m : Meant) (accessors : Accessors Meant) (e : Expr Meant) (store : Store) (u : ℕ)
       → SmallAll store → Gives SmallStore (step_set env m accessors e store u)
   set_small (meant.Variable n) accessors e store u h =
       gives_next SmallAnswer SmallStore (number_in env store e u) _

@@ -37,8 +37,9 @@ use Rattle.cir_meaning.proofs.Same.{Same}
 use Rattle.cir_meaning.proofs.Sound.{Fitting}
 use Rattle.cir_meaning.proofs.KnownCalls.{CallBoth}
 use Rattle.cir_meaning.proofs.RunFree.{NoMiss, Any, no_ok, no_stop, no_next, no_if, no_weaker}
-use Rattle.cir_meaning.proofs.Fading.{may_one, test_faded, plain_faded, variable_faded}
-use Rattle.cir_meaning.proofs.Fading.{variables_faded, first_faded, scan_keeps, scan_all_keeps}
+use Rattle.cir_meaning.proofs.ValueKeepings.{Valued}
+use Rattle.cir_meaning.proofs.Scans.{may_one, like_valued, test_kept, plain_kept, variable_kept}
+use Rattle.cir_meaning.proofs.Scans.{variables_kept, first_kept, scan_kept, scan_all_kept}
 use Rattle.cir_meaning.proofs.ScopeLaws.{Grows, grows_itself, grows_variable, grows_variables}
 use Rattle.cir_meaning.proofs.ScopeLaws.{IsSound, sound_variable, set_meant, later_one}
 use Rattle.cir_meaning.proofs.ScopeLaws.{later_variables, later_first, later, later_all}
@@ -96,42 +97,45 @@ module _ (E : Assignment → Type 0) (k : Context) (fine : FineContext k) (both 
       part_final E k fine both keeps w functions s finely env fit base scan_part scope.variables
       part scope after t t1 ex (omega arith) g.variables h
 
+  valued : (Q : State → Type 0) → ((f s : State) → Like f s → Q f → Q s) → Valued k Q true
+  valued Q like = like_valued k keeps Q like true
+
   variable_part : (scope : Scope) (v : Variable Meant) → IsVariableScoped scope v
       → Part (scan_variable k w v) scope.variables
   variable_part scope v is Q like declare u h =
-      variable_faded Q like (λ n. scope.variables ≤ n) declare k keeps w v
+      variable_kept k Q (valued Q like) (λ n. scope.variables ≤ n) declare w v
       (later_one scope v.meant is.0) u h
 
   pub variables_part : (scope : Scope) (vs : List (Variable Meant)) → AreVariablesScoped scope vs
       → Part (simple.each (scan_variable k w) vs) scope.variables
   variables_part scope vs is Q like declare u h =
-      variables_faded Q like (λ n. scope.variables ≤ n) declare k keeps w vs
+      variables_kept k Q (valued Q like) (λ n. scope.variables ≤ n) declare w vs
       (later_variables scope vs is) u h
 
   pub assign_part : (scope : Scope) (a : Assign Meant) → Part (scan_assign k w a) scope.variables
   assign_part scope a Q like declare u h =
-      plain_faded Q like (λ n. scope.variables ≤ n) declare k keeps w (plain a) u h
+      plain_kept k Q (valued Q like) (λ n. scope.variables ≤ n) declare w (plain a) u h
 
   pub test_part : (scope : Scope) (c : Expr Meant) → Part (scan_test k w c) scope.variables
   test_part scope c Q like declare u h =
-      test_faded Q like (λ n. scope.variables ≤ n) declare k keeps w c u h
+      test_kept k Q (valued Q like) (λ n. scope.variables ≤ n) declare w c u h
 
   pub first_part : (scope : Scope) (f : First Meant) → IsFirstScoped scope f
       → Part (scan_first k w f) scope.variables
   first_part scope f is Q like declare u h =
-      first_faded Q like (λ n. scope.variables ≤ n) declare k keeps w f (later_first scope f is) u
-      h
+      first_kept k Q (valued Q like) (λ n. scope.variables ≤ n) declare w f
+      (later_first scope f is) u h
 
   pub statement_part : (scope : Scope) (a : Statement Spot Meant) → IsScoped scope a
       → Part (scan k w a) scope.variables
   statement_part scope a is Q like declare u h =
-      scan_keeps Q like (λ n. scope.variables ≤ n) declare k keeps w a (later scope a is) u h
+      scan_kept k Q (valued Q like) (λ n. scope.variables ≤ n) declare w a (later scope a is) u h
 
   pub statements_part : (scope : Scope) (ss : Statements Spot Meant) → AreScoped scope ss
       → Part (scan_all k w ss) scope.variables
   statements_part scope ss is Q like declare u h =
-      scan_all_keeps Q like (λ n. scope.variables ≤ n) declare k keeps w ss (later_all scope ss is)
-      u h
+      scan_all_kept k Q (valued Q like) (λ n. scope.variables ≤ n) declare w ss
+      (later_all scope ss is) u h
 
   -- declarations of variables
   variable_real : (scope : Scope) (v : Variable Meant) (t t1 : State) → IsSound functions scope

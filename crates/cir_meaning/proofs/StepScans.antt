@@ -26,7 +26,8 @@ use Rattle.cir_meaning.proofs.Same.{Rows, Same}
 use Rattle.cir_meaning.proofs.Sound.{Fitting}
 use Rattle.cir_meaning.proofs.KnownCalls.{CallBoth}
 use Rattle.cir_meaning.proofs.RunFree.{NoMiss, Any, no_ok, no_stop, no_weaker}
-use Rattle.cir_meaning.proofs.Fading.{IsOpaque, opaque_filled, AllMay, value_faded}
+use Rattle.cir_meaning.proofs.Fading.{IsOpaque, opaque_filled}
+use Rattle.cir_meaning.proofs.Scans.{AllMay, like_valued, value_kept}
 use Rattle.cir_meaning.proofs.PartWrites.{get_other, set_count}
 use Rattle.cir_meaning.proofs.Writing.{get_set}
 use Rattle.cir_meaning.proofs.ScopeLaws.{IsSound, sound_variable}
@@ -179,7 +180,7 @@ module _ (E : Assignment → Type 0) (k : Context) (fine : FineContext k) (both 
     value_keeps : (Q : State → Type 0) → ((f s : State) → Like f s → Q f → Q s) → (u : State) → Q u
         → OnGood Q (scan_value k w (meant.Variable new) value u)
     value_keeps Q like u h =
-        value_faded Q like (λ n. ⊥) (λ n dims v no g. absurd no) k keeps w
+        value_kept k Q (like_valued k keeps Q like true) (λ n. ⊥) (λ n dims v no g. absurd no) w
         (meant.Variable new) value
         u h
 

@@ -22,7 +22,7 @@ use Rattle.cir_meaning.proofs.Same.{Same}
 use Rattle.cir_meaning.proofs.Sound.{Fitting}
 use Rattle.cir_meaning.proofs.KnownCalls.{CallBoth}
 use Rattle.cir_meaning.proofs.RunFree.{NoMiss, Any, no_ok, no_stop, no_next, no_if}
-use Rattle.cir_meaning.proofs.Fading.{may_left, may_right}
+use Rattle.cir_meaning.proofs.Scans.{may_left, may_right}
 use Rattle.cir_meaning.proofs.ScopeLaws.{Grows, grows_itself, grows_first, grows, grows_all}
 use Rattle.cir_meaning.proofs.ScopeLaws.{IsSound, sound_first, sound_closed, sound}
 use Rattle.cir_meaning.proofs.ScanPoints.{next_to, Stay, Final, Point, Has}
@@ -234,7 +234,8 @@ module _ (E : Assignment → Type 0) (k : Context) (fine : FineContext k) (both 
         two.0 three.0 three.1 test.0.stay in
         let step : (store : Store) (u : ℕ) → Numbered after store
         → NoMiss (λ y. Numbered after y.0) (step_assign env a store u) =
-        assign_real E k fine both keeps w functions s finely env fit base after a three.0 t1 record {
+        assign_real E k fine both keeps w functions s finely env fit base after a three.0 t1
+        record {
           sound = sound functions inside body sounds_one;
           stay = stays_three;
           final = ends_three;

@@ -29,7 +29,8 @@ use Rattle.cir_meaning.proofs.Sound.{Fitting}
 use Rattle.cir_meaning.proofs.KnownCalls.{CallBoth}
 use Rattle.cir_meaning.proofs.CallsTold.{call_told}
 use Rattle.cir_meaning.proofs.RunFree.{NoMiss, Any, Calls, no_weaker}
-use Rattle.cir_meaning.proofs.Fading.{IsOpaque, Rest, scan_rest, scan_keeps, may_any}
+use Rattle.cir_meaning.proofs.Fading.{IsOpaque, Rest, scan_rest}
+use Rattle.cir_meaning.proofs.Scans.{may_any, like_valued, scan_kept}
 use Rattle.cir_meaning.proofs.Holds.{Extends, Holds, own_fit, part_fit}
 use Rattle.cir_meaning.proofs.Standing.{Stands, holds_of, changed, Start}
 use Rattle.cir_meaning.proofs.PartWrites.{set_count}
@@ -82,9 +83,10 @@ scan_count : (k : Context) (keeps : CallKeeps k.call) (w : Where) (a : Statement
     → length t1.frame.variables ≡ length t.frame.variables
 scan_count k keeps w a t t1 e =
     good_is (λ u. length u.frame.variables ≡ length t.frame.variables) (scan k w a t) t1 e
-    (scan_keeps (λ u. length u.frame.variables ≡ length t.frame.variables)
-    (λ f u l h. ap (λ (vs : List Datum). length vs) l.0 ∙ h) (λ n. ⊤)
-    (λ n dims u m h. set_count u.frame.variables n (filled dims Opaque) ∙ h) k keeps w a
+    (scan_kept k (λ u. length u.frame.variables ≡ length t.frame.variables)
+    (like_valued k keeps (λ u. length u.frame.variables ≡ length t.frame.variables)
+    (λ f u l h. ap (λ (vs : List Datum). length vs) l.0 ∙ h) true) (λ n. ⊤)
+    (λ n dims u m h. set_count u.frame.variables n (filled dims Opaque) ∙ h) w a
     (may_any (declares a)) t refl)
 
 same_variable : (f s : State) (n : ℕ) → Like f s → variable_at s.frame n ≡ variable_at f.frame n

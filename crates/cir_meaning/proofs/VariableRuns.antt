@@ -1,5 +1,5 @@
 -- Assignments to variables in a run.
-use Rattle.std.proofs.Common.{◌≡◌, ℕ, zero, suc, Bool, true, false, not, cond, List, [], ◌∷◌, ◌++◌}
+use Rattle.std.proofs.Common.{◌≡◌, ℕ, zero, suc, Bool, true, false, not, cond, List, [], ◌∷◌}
 use Rattle.std.proofs.Common.{Option, Some, None, Ok, refl, sym, ap, subst, ◌∙◌, slice_get}
 use Rattle.std.proofs.Common.{slice_set}
 use Rattle.cir_meaning.proofs.GroupSizes.{IsGrowing}
@@ -7,19 +7,17 @@ use Rattle.std.specs.Prelude.{◌==◌, unwrap_or}
 use Rattle.cir_ast.specs.declared.program.Meant.{Meant}
 use Rattle.cir_ast.specs.declared.program.Meant.TheVariants as meant
 use Rattle.cir_ast.specs.declared.refusal.Kind.{Kind}
-use Rattle.cir_ast.specs.declared.refusal.Kind.TheVariants.{ShapeDiffers}
-use Rattle.cir_ast.specs.Tree.{Expr, Accessors, done, index, member, Assign}
+use Rattle.cir_ast.specs.Tree.{Expr, Accessors, Assign}
 use Rattle.cir_lc.specs.Number.{Assignment}
 use Rattle.cir_meaning.specs.Scoped.{Scope, IsSetMeant}
 use Rattle.cir_meaning.specs.Tried.{Where, Tried, next}
 use Rattle.cir_meaning.specs.Places.{elements}
 use Rattle.cir_meaning.specs.Limits.{Counts}
-use Rattle.cir_meaning.specs.Arrays.{Datum, Scalar, Whole, reach, single, forgotten, is_known}
-use Rattle.cir_meaning.specs.Arrays.{is_all_known, same_dims, put_items, the_item}
-use Rattle.cir_meaning.specs.Values.{Known, Opaque, known_number}
+use Rattle.cir_meaning.specs.Arrays.{Datum, single, forgotten, is_known, is_all_known, put_items}
+use Rattle.cir_meaning.specs.Values.{Known, Opaque}
 use Rattle.cir_meaning.specs.Frame.{Signals, Part, ComponentEntry, World, State, Context, Maker}
 use Rattle.cir_meaning.specs.Frame.{variable_at}
-use Rattle.cir_meaning.specs.Evaluate.{value_in, indices_in}
+use Rattle.cir_meaning.specs.Evaluate.{indices_in}
 use Rattle.cir_meaning.specs.Writing.{put_variable, written_datum, VariableAssignment}
 use Rattle.cir_meaning.specs.Writing.{variable_assignment, write_variable, is_unknown}
 use Rattle.cir_meaning.specs.Costs.{Cost}
@@ -31,9 +29,9 @@ use Rattle.cir_meaning.specs.RunStatements.{step_set}
 use Rattle.cir_meaning.specs.Run.{Wires, Run, refusing, settled_store, store_of, environment}
 use Rattle.cir_meaning.specs.Run.{put_numbers}
 use Rattle.cir_meaning.specs.RunSimple.{Running, with_known, variable_step, run_set_variable}
-use Rattle.cir_meaning.proofs.Good.{OnGood, good_ok, good_bad, good_next, good_on, good_needed}
-use Rattle.cir_meaning.proofs.Good.{good_is, OnSome'}
-use Rattle.cir_meaning.proofs.Likes.{CallKeeps, Like, like_itself, value_like}
+use Rattle.cir_meaning.proofs.Good.{OnGood, good_ok, good_bad, good_is, OnSome'}
+use Rattle.cir_meaning.proofs.Likes.{CallKeeps, Like, like_itself, valued_like}
+use Rattle.cir_meaning.proofs.ValueKeepings.{indices_kept, assignment_kept}
 use Rattle.cir_meaning.proofs.FineValues.{FineContext, Fine}
 use Rattle.cir_meaning.proofs.FineStatements.{set_variable_fine}
 use Rattle.cir_meaning.proofs.Same.{Same}
@@ -122,22 +120,11 @@ module _ (k : Context) (keeps : CallKeeps k.call) (f : State) (w : Where) where
       (go : List (Option ℕ) → Accessors Meant → State → Tried A) → Like f s
       → ((os : List (Option ℕ)) (rest : Accessors Meant) (s : State) → Like f s
       → OnGood Q (go os rest s)) → OnGood Q (indices_in k w false os accessors s go)
-  indices_like Q os done s go l h = h os done s l
-  indices_like Q os (member name rest) s go l h = h os (member name rest) s l
-  indices_like Q os (index e rest) s go l h =
-      good_next (λ x. Like f x.1) Q (value_in k w false Scalar e s) _
-      (value_like f k keeps w false Scalar e s l)
-      (λ x p. indices_like Q (os ++ known_number (the_item x.0) ∷ []) rest x.1 go p h)
+  indices_like Q = indices_kept k (Like f) false (valued_like f k keeps false) Q w
 
   pub assignment_like : (n : ℕ) (accessors : Accessors Meant) (e : Expr Meant) (s : State)
       → Like f s → OnGood (λ a. Like f a.state) (variable_assignment k w n accessors e s)
-  assignment_like n accessors e s l =
-      good_next (λ x. Like f x.1) (λ a. Like f a.state) (value_in k w false Whole e s) _
-      (value_like f k keeps w false Whole e s l) (λ x p.
-      indices_like (λ a. Like f a.state) [] accessors x.1 _ p (λ os rest s2 l2.
-      good_on (λ a. Like f a.state) (reach w false Whole (variable_at s2.frame n).dims os) _ (λ r.
-      good_needed (λ a. Like f a.state) (same_dims r.left x.0.dims) w ShapeDiffers _
-      (good_ok (λ a. Like f a.state) _ l2))))
+  assignment_like = assignment_kept k (Like f) (valued_like f k keeps false) w
 
 -- the state behind an assignment
 abbrev new_datum : State → ℕ → VariableAssignment → Datum

@@ -27,7 +27,7 @@ use Rattle.cir_meaning.specs.Statement.{assert_value, log_values}
 use Rattle.cir_meaning.specs.Bodies.{template_context, template_state, ended, call_at, make_at}
 use Rattle.cir_meaning.specs.Bodies.{most_open, numbered_others}
 use Rattle.cir_meaning.specs.Compile.{main_group, main_context, main_state, the_main, exec_main}
-use Rattle.cir_meaning.specs.Compile.{final_number}
+use Rattle.cir_meaning.specs.Compile.{final_number, group_size}
 use Rattle.cir_meaning.specs.RunValues.{Ran, Environment, Store, gives, number, number_in}
 use Rattle.cir_meaning.specs.RunValues.{assert_fails, stored}
 use Rattle.cir_meaning.specs.RunStatements.{StepFlow, StepGoing, StepReturned, step_statement}
@@ -253,3 +253,6 @@ run_with size p fuel inputs =
           o.inside);
       log = o.log;
     })))
+
+abbrev pub ran : Program → (fuel : ℕ) → List ℕ → RunTried Ending
+ran p fuel inputs = run_with group_size p fuel inputs

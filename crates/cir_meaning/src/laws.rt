@@ -1,8 +1,8 @@
 //! Laws over the values of expressions and the constraints of a source, each the contract of a
 //! function that does nothing.
 
-ghost use Rattle.std.specs.Prelude.{◌≡◌, ◌≢◌, ◌↔◌, ◌+◌, ◌<◌, ℕ, true, Some, is_some, Ok, Err, List};
-ghost use Rattle.std.specs.Prelude.{All, length, slice_get, sum_by};
+ghost use Rattle.std.specs.Prelude.{◌≡◌, ◌≢◌, ◌↔◌, ◌+◌, ◌<◌, ◌≤◌, ℕ, true, Some, is_some, Ok, Err};
+ghost use Rattle.std.specs.Prelude.{List, All, length, slice_get, sum_by};
 ghost use Rattle.std.specs.List.{list_all};
 ghost use Rattle.gold_field.specs.declared.form.Constraint.{Constraint};
 ghost use Rattle.gold_field.specs.declared.operators.Op1.{Op1};
@@ -18,7 +18,7 @@ ghost use Rattle.cir_meaning.specs.Values.{known_number, number_of, parts_of, re
 ghost use Rattle.cir_meaning.specs.Values.{unary_result, Known as KnownValue, Decided, Shaded};
 ghost use Rattle.cir_meaning.specs.Values.{Both, and_left, or_left, lazy_result, side_of, chosen};
 ghost use Rattle.cir_meaning.specs.Values.{and_number, or_number, choice_number};
-ghost use Rattle.cir_meaning.specs.Compile.{Circuit, Satisfies, compiled, group_size, exec_main};
+ghost use Rattle.cir_meaning.specs.Compile.{Circuit, Satisfies, compiled, exec_main};
 ghost use Rattle.cir_ast.specs.Program.{Main, Program};
 ghost use Rattle.cir_ast.specs.declared.program.Meant.{Meant};
 ghost use Rattle.cir_meaning.specs.Dependence.{IsAllDeclared, IsFew};
@@ -31,7 +31,7 @@ ghost use Rattle.cir_meaning.specs.Bodies.{call_at};
 ghost use Rattle.cir_meaning.specs.RunValues.{Numbers, missing};
 ghost use Rattle.cir_meaning.specs.RunStatements.{run_call};
 ghost use Rattle.cir_meaning.specs.Run.{Rejected, Stopped};
-ghost use Rattle.cir_meaning.specs.RunBodies.{Ending, run_with};
+ghost use Rattle.cir_meaning.specs.RunBodies.{Ending, ran};
 ghost use Rattle.cir_meaning.specs.Source.{Equation, IsDifference, IsEqualAt, IsSource, all_terms};
 
 /// The class of an operator's result is the table's, whatever the numbers are.
@@ -136,7 +136,8 @@ pub fn equations_are_differences()
 
 /// The assignments that satisfy a program that compiles are those at which its source list holds.
 pub fn list_is_satisfied()
-    ensures { (p : Program) (c : Circuit) (n : ℕ) (ks : List Constraint) (s : Assignment) → compiled p ≡ Ok c →
+    ensures { (p : Program) (c : Circuit) (n : ℕ) (ks : List Constraint) (s : Assignment)
+        → compiled p ≡ Ok c →
         IsSource n c.equations ks → Satisfies p s ↔ All (Holds s.at) ks }
 {}
 
@@ -165,35 +166,47 @@ pub fn functions_give_numbers()
         → run_call p room f arguments units ≡ Ok (d, left) → All (λ n. n < P) d.items }
 {}
 
+/// Where a program that is run on numbers of the field ends, each value is a number of the field;
+/// so there is an assignment with these values.
+pub fn runs_give_numbers()
+    ensures below { (p : Program) (fuel : ℕ) (inputs : List ℕ) (e : Ending) (i x : ℕ)
+        → All (λ n. n < P) inputs → ran p fuel inputs ≡ Ok e
+        → slice_get e.values i ≡ Some (Some x) → x < P }
+    ensures assignment { (p : Program) (fuel : ℕ) (inputs : List ℕ) (e : Ending)
+        → All (λ n. n < P) inputs → ran p fuel inputs ≡ Ok e
+        → (s : Assignment)
+        × ((i x : ℕ) → slice_get e.values i ≡ Some (Some x) → s.at i ≡ x) }
+{}
+
 /// A program that compiles, on as many inputs as its main component has, runs to its end or stops
 /// as a program may: the run refuses nothing, and asks for no value that isn't there.
 pub fn runs_never_miss()
     ensures accepted { (p : Program) (c : Circuit) (fuel : ℕ) (inputs : List ℕ) (e : Refused)
         → IsResolved p → compiled p ≡ Ok c
-        → length inputs ≡ c.public_inputs + c.private_inputs → length inputs < group_size
-        → run_with group_size p fuel inputs ≢ Err (Rejected e) }
+        → length inputs ≡ c.public_inputs + c.private_inputs
+        → ran p fuel inputs ≢ Err (Rejected e) }
     ensures missed { (p : Program) (c : Circuit) (fuel : ℕ) (inputs : List ℕ) (stop : ℕ)
         (w : Where) (log : List (List ℕ)) → IsResolved p → compiled p ≡ Ok c
-        → length inputs ≡ c.public_inputs + c.private_inputs → length inputs < group_size
-        → run_with group_size p fuel inputs ≡ Err (Stopped stop w log) → stop ≢ missing }
+        → length inputs ≡ c.public_inputs + c.private_inputs
+        → ran p fuel inputs ≡ Err (Stopped stop w log) → stop ≢ missing }
 {}
 
-/// Where a program compiles with fewer than 2^20 signals, and runs to its end on as many inputs as
-/// its main component has, there is a value for signal 0 and for each signal, by their numbers, and
-/// the assignments with these values satisfy the program: the two sides of each equation are equal.
+/// Where a program that compiles runs to its end, on as many inputs as its main component has,
+/// there is a value for signal 0 and for each signal, by their numbers, and the assignments with
+/// these values satisfy the program: the two sides of each equation are equal.
 pub fn runs_satisfy()
     ensures counted { (p : Program) (c : Circuit) (fuel : ℕ) (inputs : List ℕ) (e : Ending)
-        → IsResolved p → compiled p ≡ Ok c → length c.names < group_size
+        → IsResolved p → compiled p ≡ Ok c
         → length inputs ≡ c.public_inputs + c.private_inputs
-        → run_with group_size p fuel inputs ≡ Ok e → length e.values ≡ 1 + length c.names }
+        → ran p fuel inputs ≡ Ok e → length e.values ≡ 1 + length c.names }
     ensures values { (p : Program) (c : Circuit) (fuel : ℕ) (inputs : List ℕ) (e : Ending)
-        → IsResolved p → compiled p ≡ Ok c → length c.names < group_size
+        → IsResolved p → compiled p ≡ Ok c
         → length inputs ≡ c.public_inputs + c.private_inputs
-        → run_with group_size p fuel inputs ≡ Ok e → All (λ o. is_some o ≡ true) e.values }
+        → ran p fuel inputs ≡ Ok e → All (λ o. is_some o ≡ true) e.values }
     ensures satisfied { (p : Program) (c : Circuit) (fuel : ℕ) (inputs : List ℕ) (e : Ending)
-        (s : Assignment) → IsResolved p → compiled p ≡ Ok c → length c.names < group_size
+        (s : Assignment) → IsResolved p → compiled p ≡ Ok c
         → length inputs ≡ c.public_inputs + c.private_inputs
-        → run_with group_size p fuel inputs ≡ Ok e
+        → ran p fuel inputs ≡ Ok e
         → ((i x : ℕ) → slice_get e.values i ≡ Some (Some x) → s.at i ≡ x) → Satisfies p s }
 {}
 
@@ -205,8 +218,10 @@ pub fn equations_are_over_declared_signals()
         IsAllDeclared size world }
 {}
 
-/// The execution of main leaves no more signals, equations and terms than the limits.
+/// The execution of main leaves no more signals, equations and terms than the limits; so a program
+/// that compiles has no more names of signals than the limit.
 pub fn limits_hold()
-    ensures { (p : Program) (size : ℕ) (m : Main) (t : Meant) (signals : Signals) (world : World) →
-        exec_main p size m t ≡ Ok (signals, world) → IsFew size world }
+    ensures world { (p : Program) (size : ℕ) (m : Main) (t : Meant) (signals : Signals)
+        (world : World) → exec_main p size m t ≡ Ok (signals, world) → IsFew size world }
+    ensures names { (p : Program) (c : Circuit) → compiled p ≡ Ok c → length c.names ≤ 1048575 }
 {}

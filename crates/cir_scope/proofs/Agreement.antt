@@ -1,7 +1,7 @@
 -- Where the names of a definition are resolved, its scope has the same numbers, and each name that
 -- means a variable means one that is in scope.
-use Rattle.std.proofs.Common.{◌≡◌, ℕ, ◌+◌, ◌<◌, Bool, true, List, length}
-use Rattle.std.proofs.Common.{Option, Some, None, ap, sym, subst, arith}
+use Rattle.std.proofs.Common.{◌≡◌, ℕ, ◌+◌, ◌<◌, Bool, true, List, length, Option, Some, None, ap}
+use Rattle.std.proofs.Common.{sym, subst, arith}
 use Rattle.std.specs.Prelude.{◌==◌, ⊤}
 use Rattle.std.specs.Option.{option_or}
 use Rattle.std.specs.Map.{update}
@@ -68,7 +68,8 @@ wider_covered seen wider so (Some (meant.Variable n)) h = so n h
 wider_covered seen wider so (Some _) h = tt
 
 pub covers_more : (seen : ℕ → Bool) (names : Lookup) (name : List ℕ) (m : Meant)
-    → IsCovered seen (Some m) → Covers seen names → Covers seen (update bytes_eq names name (Some m))
+    → IsCovered seen (Some m) → Covers seen names
+    → Covers seen (update bytes_eq names name (Some m))
 covers_more seen names name m h k = of_more (IsCovered seen) names name m h k
 
 pub with_seen : (s : Scope) (names : Lookup) → Covers s.seen names

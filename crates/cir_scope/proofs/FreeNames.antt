@@ -32,7 +32,8 @@ pub free_read : (st : State) → IsFreeState st → (name : List ℕ)
 free_read st f name =
     free_meaning (option_or (in_scope st name) (st.defined name))
     (of_first IsFreeName (in_scope st name) (st.defined name)
-    (of_first IsFreeName (st.inner name) (st.outer name) (f.inner name) (f.outer name)) (f.defined name))
+    (of_first IsFreeName (st.inner name) (st.outer name) (f.inner name) (f.outer name))
+    (f.defined name))
 
 pub free_variable : (st : State) (n : ℕ) (name : List ℕ) → IsFreeState st
     → IsFreeState (with_name (counted st (meant.Variable n)) name (meant.Variable n))
@@ -47,7 +48,8 @@ pub free_entered : (st : State) → IsFreeState st → IsFreeState (entered st)
 free_entered st f =
     record {
       defined = f.defined;
-      outer = λ name. of_first IsFreeName (st.inner name) (st.outer name) (f.inner name) (f.outer name);
+      outer = λ name. of_first IsFreeName (st.inner name) (st.outer name) (f.inner name)
+          (f.outer name);
       inner = λ name. tt;
     }
 

@@ -4,8 +4,8 @@ use Rattle.std.specs.Prelude.{is_some, ⊤}
 use Rattle.cir_ast.specs.declared.program.Spot.{Spot}
 use Rattle.cir_ast.specs.declared.program.Meant.{Meant}
 use Rattle.cir_resolve.specs.Steps.{Step, behind, made}
-use Rattle.cir_resolve.specs.Scope.{State, Naming, entered, left, closed, within, declared}
-use Rattle.cir_resolve.specs.Scope.{counted, with_name}
+use Rattle.cir_resolve.specs.Scope.{State, Naming, entered, left, closed, within, declared, counted}
+use Rattle.cir_resolve.specs.Scope.{with_name}
 
 abbrev pub OnGiven : {X E A : Type 0} → (A → X → Type 0) → Step X E A → Type 0
 OnGiven P (Ok given) = P given.0 given.1

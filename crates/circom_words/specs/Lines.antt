@@ -1,7 +1,11 @@
 -- The printed lines, and the exit status of a verdict.
 use Rattle.std.specs.Prelude.{ℕ, List, [], ◌∷◌, ◌++◌, codes, decimal}
 use Rattle.iden_files.specs.declared.fault.FileCause.{FileCause}
-use Rattle.iden_files.specs.declared.fault.FileCause.TheVariants.{Magic, Version, Truncated, SectionMissing, SectionTwice, WrongPrime, ValueTooLarge, WireOutOfRange, BadCount, CustomGates, Limit}
+use Rattle.iden_files.specs.declared.fault.FileCause.TheVariants.{Magic, Version, Truncated}
+use Rattle.iden_files.specs.declared.fault.FileCause.TheVariants.{SectionMissing, SectionTwice}
+use Rattle.iden_files.specs.declared.fault.FileCause.TheVariants.{WrongPrime, ValueTooLarge}
+use Rattle.iden_files.specs.declared.fault.FileCause.TheVariants.{WireOutOfRange, BadCount}
+use Rattle.iden_files.specs.declared.fault.FileCause.TheVariants.{CustomGates, Limit}
 use Rattle.cir_token.specs.declared.token.LexCause.{LexCause}
 use Rattle.cir_token.specs.declared.token.LexCause.TheVariants as lex
 use Rattle.cir_ast.specs.declared.refusal.Kind.{Kind}
@@ -12,11 +16,14 @@ use Rattle.cir_ast.specs.declared.refusal.Form.{Form}
 use Rattle.cir_ast.specs.declared.refusal.Form.TheVariants as form
 use Rattle.cir_ast.specs.declared.refusal.Refusal.{Refusal as SourceRefusal}
 use Rattle.circom_words.specs.declared.answer.Refusal.{Refusal}
-use Rattle.circom_words.specs.declared.answer.Refusal.TheVariants.{NoSuchFile, BadFile, BadSource, BadInput as BadInputs}
+use Rattle.circom_words.specs.declared.answer.Refusal.TheVariants.{NoSuchFile, BadFile, BadSource}
+use Rattle.circom_words.specs.declared.answer.Refusal.TheVariants.{BadInput as BadInputs}
 use Rattle.circom_words.specs.declared.answer.BadInput.{BadInput}
-use Rattle.circom_words.specs.declared.answer.BadInput.TheVariants.{NotJson, Missing, UnknownSignal, WrongCount, BadNumber}
+use Rattle.circom_words.specs.declared.answer.BadInput.TheVariants.{NotJson, Missing, UnknownSignal}
+use Rattle.circom_words.specs.declared.answer.BadInput.TheVariants.{WrongCount, BadNumber}
 use Rattle.circom_words.specs.declared.answer.Verdict.{Verdict}
-use Rattle.circom_words.specs.declared.answer.Verdict.TheVariants.{CountsDiffer, WireZero, ConstraintFails, Satisfied}
+use Rattle.circom_words.specs.declared.answer.Verdict.TheVariants.{CountsDiffer, WireZero}
+use Rattle.circom_words.specs.declared.answer.Verdict.TheVariants.{ConstraintFails, Satisfied}
 
 -- 0 for success, 1 for a refusal, 2 for values that fail
 abbrev pub verdict_status : Verdict → ℕ
@@ -79,7 +86,6 @@ form_text form.LogPlace = codes " LogPlace"
 form_text form.RunArray = codes " RunArray"
 form_text form.RunDimension = codes " RunDimension"
 form_text form.AnonymousPlace = codes " AnonymousPlace"
-form_text form.Unbuilt = codes " Unbuilt"
 
 abbrev pub kind_text : Kind → List ℕ
 kind_text (kind.Lexical cause) = codes "E1 Lexical"

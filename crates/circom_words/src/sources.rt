@@ -1,7 +1,8 @@
 //! The line of a source's refusal.
 
 ghost use Rattle.std.specs.Prelude.{◌≡◌, IfOk, decimal, string_bytes};
-ghost use Rattle.circom_words.specs.Lines.{line, source_line, kind_text, detail_text, count_text, lex_text, which_text, form_text};
+ghost use Rattle.circom_words.specs.Lines.{line, source_line, kind_text, detail_text, count_text};
+ghost use Rattle.circom_words.specs.Lines.{lex_text, which_text, form_text};
 
 use crate::lines::line;
 use cir_ast::{Form, Kind, Refusal, Which};
@@ -160,6 +161,5 @@ fn form_text(form: Form) -> &'static str
         Form::RunArray => " RunArray",
         Form::RunDimension => " RunDimension",
         Form::AnonymousPlace => " AnonymousPlace",
-        Form::Unbuilt => " Unbuilt",
     }
 }
