@@ -15,7 +15,7 @@ use Rattle.cir_meaning.proofs.Twins.{Twin, twin_bad, twin_weaker}
 use Rattle.cir_steps.specs.Emission.{Emission, Emitted, quiet, behind, then_emit, known_in}
 use Rattle.cir_steps.specs.Emission.{with_state, emit_known}
 use Rattle.cir_steps.specs.Emit.{emit_each, emit_number}
-use Rattle.cir_steps.proofs.Still.{Still}
+use Rattle.cir_steps.proofs.Moving.{Moves, moves_itself}
 
 abbrev pub still_at : State → Emission → Emitted
 still_at s x = record { state = with_state s x; steps = [] }
@@ -25,7 +25,7 @@ joined y z = record { state = z.state; steps = y.steps ++ z.steps }
 
 -- a relation that holds of what leaves signals and components as they are, and of a sequence
 pub record Keeps (R : Emission → Emitted → Type 0) : Type 0 where
-  pub still : (x : Emission) (s : State) → Still (known_in x) s → R x (still_at s x)
+  pub still : (x : Emission) (s : State) → Moves (known_in x) s → R x (still_at s x)
   pub joins : (x : Emission) (y z : Emitted) → R x y → R y.state z → R x (joined y z)
 
 module _ (R : Emission → Emitted → Type 0) (keeps : Keeps R) where
@@ -78,13 +78,13 @@ module _ (R : Emission → Emitted → Type 0) (keeps : Keeps R) where
 
     -- from a state in which signals and components are as before
     pub from_still : (x : Emission) (s : State) (m : Tried B) (r : Tried Emitted)
-        → Still (known_in x) s → Twin (T (with_state s x)) m r → Twin (T x) m r
+        → Moves (known_in x) s → Twin (T (with_state s x)) m r → Twin (T x) m r
     from_still x s m r h g = from_quiet x (with_state s x) m r (keeps.still x s h) g
 
     pub valued_twin : {C : Type 0} (x : Emission) (m : Tried C) (state : C → State)
         (go : C → Tried B) (on : C → Tried Emitted)
-        → OnGood (λ a. Still (known_in x) (state a)) m
-        → ((a : C) → Still (known_in x) (state a)
+        → OnGood (λ a. Moves (known_in x) (state a)) m
+        → ((a : C) → Moves (known_in x) (state a)
         → Twin (T (with_state (state a) x)) (go a) (on a))
         → Twin (T x) (next m go) (next m on)
     unfolding Twin OnGood
@@ -114,21 +114,21 @@ module _ (R : Emission → Emitted → Type 0) (keeps : Keeps R) where
     pub quiet_follows : (x : Emission) → P (known_in x)
         → Twin (Follows P x) (Ok (known_in x)) (quiet x)
     unfolding Twin
-    quiet_follows x p = (refl, keeps.still x (known_in x) (refl, refl), p)
+    quiet_follows x p = (refl, keeps.still x (known_in x) (moves_itself (known_in x)), p)
 
     pub quiet_flow : (x : Emission) → P (known_in x)
         → Twin (FollowsFlow P x) (Ok (Going (known_in x))) (quiet x)
     unfolding Twin
-    quiet_flow x p = (refl, keeps.still x (known_in x) (refl, refl), p)
+    quiet_flow x p = (refl, keeps.still x (known_in x) (moves_itself (known_in x)), p)
 
     pub known_follows : (x : Emission) (go : State → Tried State)
-        → ((s : State) → Still (known_in x) s → P s)
-        → OnGood (Still (known_in x)) (go (known_in x))
+        → ((s : State) → Moves (known_in x) s → P s)
+        → OnGood (Moves (known_in x)) (go (known_in x))
         → Twin (Follows P x) (go (known_in x)) (emit_known go x)
     unfolding Twin OnGood
     known_follows x go p h = at (go (known_in x)) h
       where
-        at : (m : Tried State) → OnGood (Still (known_in x)) m
+        at : (m : Tried State) → OnGood (Moves (known_in x)) m
             → Twin (Follows P x) m (next m (λ s. quiet (with_state s x)))
         at (Ok s) h = (refl, keeps.still x s h, p s h)
         at (Err e) h = tt
@@ -151,9 +151,10 @@ module _ (R : Emission → Emitted → Type 0) (keeps : Keeps R) where
     follows_made Q x (Err e) on h f = tt
 
     pub follows_either : (x : Emission) (s : State) (b : Bool) (y z : Emitted)
-        → Follows P x s y → Follows P x s z → Twin (Follows P x) (Ok s) (cond b (Ok y) (Ok z))
+        → (b ≡ true → Follows P x s y) → Follows P x s z
+        → Twin (Follows P x) (Ok s) (cond b (Ok y) (Ok z))
     unfolding Twin
-    follows_either x s true y z h g = h
+    follows_either x s true y z h g = h refl
     follows_either x s false y z h g = g
 
     pub follows_ok : (x : Emission) (s : State) (y : Emitted) → Follows P x s y

@@ -1,8 +1,7 @@
 -- Steps that write each cell once, from cells of which none has a number yet.
-use Rattle.std.proofs.Common.{◌≡◌, ◌≢◌, ◌⊎◌, ℕ, ◌+◌, ◌≤◌, ◌<◌, Bool, cond, List, [], ◌∷◌, ◌++◌}
-use Rattle.std.proofs.Common.{None, refl, sym, ap, ◌∙◌, arith}
+use Rattle.std.proofs.Common.{◌≡◌, ℕ, ◌+◌, ◌≤◌, Bool, cond, List, [], ◌∷◌, ◌++◌, None, refl, sym}
+use Rattle.std.proofs.Common.{ap, ◌∙◌, arith}
 use Rattle.std.proofs.lemmas.Bool.{eq-eqb}
-use Rattle.std.specs.Prelude.{⊤}
 use Rattle.cir_steps.specs.Step.{Step}
 use Rattle.cir_steps.specs.Written.{times, targets_of}
 use Rattle.cir_steps.specs.RunSteps.{Cells, put_cells}
@@ -24,7 +23,7 @@ none_apart c (x ∷ xs) h = (
 pub here_once : (x : ℕ) (xs : List ℕ) → times x (x ∷ xs) ≡ 1 + times x xs
 here_once x xs = ap (λ (f : Bool). cond {A = ℕ} f 1 0 + times x xs) (eq-eqb x x refl)
 
-once_apart : (xs : List ℕ) → ((c : ℕ) → times c xs ≤ 1) → AreApart xs
+pub once_apart : (xs : List ℕ) → ((c : ℕ) → times c xs ≤ 1) → AreApart xs
 once_apart [] h = tt
 once_apart (x ∷ xs) h =
     let first : times x (x ∷ xs) ≡ 1 + times x xs = here_once x xs in

@@ -1,8 +1,8 @@
 -- What is known at compile time has its number in a run, whatever numbers its signals have.
-use Rattle.std.proofs.Common.{◌≡◌, ◌⊎◌, inl, inr, ℕ, zero, suc, ◌+◌, Bool, true, false, ◌||◌, not}
-use Rattle.std.proofs.Common.{cond, List, [], ◌∷◌, map, length, Option, Some, None, is_some}
-use Rattle.std.proofs.Common.{slice_get, slice_index, Result, Ok, Err, refl, sym, ap, subst, ◌∙◌}
-use Rattle.std.specs.Prelude.{⊤, unwrap_or}
+use Rattle.std.proofs.Common.{◌≡◌, inl, inr, ℕ, zero, suc, ◌+◌, Bool, true, false, ◌||◌, not, cond}
+use Rattle.std.proofs.Common.{List, [], ◌∷◌, map, length, Option, Some, None, is_some, slice_get}
+use Rattle.std.proofs.Common.{slice_index, Result, Ok, Err, refl, sym, ap, subst, ◌∙◌}
+use Rattle.std.specs.Prelude.{unwrap_or}
 use Rattle.cir_lc.specs.Number.{Assignment, signal}
 use Rattle.cir_ast.specs.declared.program.Meant.{Meant}
 use Rattle.cir_ast.specs.declared.program.Meant.TheVariants as meant

@@ -1,10 +1,9 @@
 -- The statements for anonymous components declare no signals, and what is left of a declaration of
 -- signals declares the same.
-use Rattle.std.proofs.Common.{◌≡◌, ℕ, ◌+◌, ◌-◌, Bool, List, [], ◌∷◌, ◌++◌, refl, ap}
+use Rattle.std.proofs.Common.{◌≡◌, ℕ, ◌-◌, Bool, List, [], ◌∷◌, refl, ap}
 use Rattle.std.specs.Prelude.{⊤}
 use Rattle.std.specs.List.{AllByRecursion}
 use Rattle.cir_ast.specs.declared.program.Meant.{Meant}
-use Rattle.cir_ast.specs.declared.program.Meant.TheVariants as meant
 use Rattle.cir_ast.specs.declared.operators.Arrow.TheVariants as arrows
 use Rattle.cir_ast.specs.declared.operators.Direction.TheVariants.{Input}
 use Rattle.cir_ast.specs.Program.{Program}
@@ -19,10 +18,16 @@ use Rattle.cir_meaning.specs.Anonymous.{named_writes, input_writes, created, lif
 use Rattle.cir_meaning.specs.Anonymous.{lift_inputs, lift_named, lift_values, lift_each}
 use Rattle.cir_meaning.specs.Anonymous.{lift_source, lift_value, lift_simple}
 use Rattle.cir_meaning.proofs.Rows.{all_append}
+use Rattle.cir_steps.specs.Places.{IsAssignPlace, IsTargetPlace}
 use Rattle.cir_steps.proofs.Templates.{told, told_all, simple_told}
 
+-- no declaration of signals, and what is assigned is a place
 abbrev pub IsOther : Simple Meant → Type 0
 IsOther (Signals direction ds) = ⊥
+IsOther (Assigned a) = IsAssignPlace a
+IsOther (TargetLeft target arrow source) = IsTargetPlace target
+IsOther (Right e arrow name m accessors) = ⊥
+IsOther (TargetRight source arrow target) = ⊥
 IsOther _ = ⊤
 
 abbrev Others : {A : Type 0} → Lifted A → Type 0

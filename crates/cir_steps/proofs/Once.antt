@@ -1,9 +1,9 @@
 -- An account of cells: what is written of a cell and what is to be written of it yet stay the same
 -- in sum, where signals and components stay as they are.
-use Rattle.std.proofs.Common.{◌≡◌, ℕ, ◌+◌, true, [], ◌∷◌, ◌++◌, length, Some, None, refl, sym, ap}
-use Rattle.std.proofs.Common.{◌∙◌, arith}
+use Rattle.std.proofs.Common.{◌≡◌, ℕ, ◌+◌, true, ◌++◌, length, Some, None, refl, sym, ap, ◌∙◌}
+use Rattle.std.proofs.Common.{arith}
 use Rattle.cir_meaning.specs.Places.{numbers_from}
-use Rattle.cir_meaning.specs.Frame.{SignalEntry, entry_at, is_input, is_all_written}
+use Rattle.cir_meaning.specs.Frame.{SignalEntry, State, entry_at, is_input, is_all_written}
 use Rattle.cir_steps.specs.Step.{Step}
 use Rattle.cir_steps.specs.Written.{times}
 use Rattle.cir_steps.specs.Emission.{Emission, Emitted, known_in}
@@ -56,16 +56,20 @@ fresh_accounts x y step f h = (
       omega arith),
 )
 
+pub accounts_still : (x : Emission) (s : State) → Still (known_in x) s
+    → Accounts x (still_at s x)
+accounts_still x s h laid = (
+  laid_same x (still_at s x).state h refl refl refl laid,
+  (λ c.
+      let moved : weight c (still_at s x).state ≡ weight_of c x.cells.own
+      (known_in x).frame.signals (known_in x).frame.parts x.cells.parts x.bodies x.next =
+      weight_same x (still_at s x).state h refl refl refl c in
+      omega arith),
+)
+
 pub accounts_keep : Keeps Accounts
 accounts_keep = record {
-  still = λ x s h laid. (
-    laid_same x (still_at s x).state h refl refl refl laid,
-    (λ c.
-        let moved : weight c (still_at s x).state ≡ weight_of c x.cells.own
-        (known_in x).frame.signals (known_in x).frame.parts x.cells.parts x.bodies x.next =
-        weight_same x (still_at s x).state h refl refl refl c in
-        omega arith),
-  );
+  still = λ x s h. accounts_still x s h.0;
   joins = λ x y z h g laid. (
     (g (h laid).0).0,
     (λ c.

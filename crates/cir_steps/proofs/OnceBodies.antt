@@ -3,7 +3,7 @@
 use Rattle.std.proofs.Common.{◌≡◌, ℕ, zero, suc, ◌+◌, Bool, true, false, cond, List, [], ◌∷◌, ◌++◌}
 use Rattle.std.proofs.Common.{length, replicate, Some, None, Ok, Err, refl, sym, ap, subst, ◌∙◌}
 use Rattle.std.proofs.Common.{slice_get, arith}
-use Rattle.std.specs.Prelude.{◌&&◌, ◌||◌, ⊤}
+use Rattle.std.specs.Prelude.{◌||◌}
 use Rattle.std.proofs.lemmas.List.{append-nil}
 use Rattle.cir_ast.specs.declared.refusal.Kind.TheVariants.{NeverWritten, InputsMissing}
 use Rattle.cir_ast.specs.Program.{Template}
@@ -88,6 +88,26 @@ parts_more c (x ∷ ps) (y ∷ rs) (z ∷ bs) p r b h g =
     (let same : suc (length rs) ≡ suc (length bs) = g in omega arith) in
     omega arith
 
+pub created_steps : (q : Emitting) (w : Where) (d : Creation) (place : ℕ)
+    (a : Signals × World) (o : Cast) (x : Emission)
+    → length d.state.frame.parts ≡ length x.bodies
+    → (cast_made q w d place a o x).steps ≡ cond (is_fed (opened a.0)) o.steps []
+created_steps q w d place a o x same =
+    append-nil (freed_at (Some (length x.bodies)) false y)
+    ∙ ap (λ p. freed (length x.bodies) false p y) its_part
+    ∙ ap (λ b. cond (is_fed (opened a.0)) (steps_in b) []) (get_last x.bodies o.steps)
+  where
+    y : Emission
+    y = (cast_made q w d place a o x).state
+
+    part : Part
+    part = record { spot = w.spot; template = d.template; signals = opened a.0 }
+
+    its_part : slice_get (d.state.frame.parts ++ part ∷ []) (length x.bodies) ≡ Some part
+    its_part =
+        ap (λ (n : ℕ). slice_get (d.state.frame.parts ++ part ∷ []) n) (sym same)
+        ∙ get_last d.state.frame.parts part
+
 pub creating_accounts : (q : Emitting) (w : Where) (c : Creation) (place : ℕ)
     (a : Signals × World) (o : Cast) (x : Emission) → Still (known_in x) c.state
     → Counted x.next a o → Accounts x (cast_made q w c place a o x)
@@ -117,15 +137,7 @@ creating_accounts q w d place a o x still counted h = (
 
     steps : freed_at (Some (length x.bodies)) false y ++ []
         ≡ cond (is_fed (opened a.0)) o.steps []
-    steps =
-        append-nil (freed_at (Some (length x.bodies)) false y)
-        ∙ ap (λ p. freed (length x.bodies) false p y) its_part
-        ∙ ap (λ b. cond (is_fed (opened a.0)) (steps_in b) []) (get_last x.bodies o.steps)
-      where
-        its_part : slice_get (d.state.frame.parts ++ part ∷ []) (length x.bodies) ≡ Some part
-        its_part =
-            ap (λ (n : ℕ). slice_get (d.state.frame.parts ++ part ∷ []) n)
-            (sym (ap length still.1 ∙ h.parts ∙ h.bodies)) ∙ get_last d.state.frame.parts part
+    steps = created_steps q w d place a o x (ap length still.1 ∙ h.parts ∙ h.bodies)
 
     sum : (c : ℕ) → writes c (freed_at (Some (length x.bodies)) false y ++ []) + weight c y
         ≡ weight c x
@@ -281,12 +293,15 @@ ends_accounts k t ds path world start y z accounts e c =
     at (Ok u) (Err f) written fed out = cc
     at (Err f) r written fed out = cc
 
-pub accounts : Bodies Accounts Counted
-accounts = record {
+pub accounts : (size : ℕ) → Bodies size Accounts (λ start world. Counted start)
+accounts size = record {
   keeps = accounts_keep;
   fresh = fresh_accounts;
-  declared = declared_accounts;
-  wiring = wiring_accounts;
-  creating = creating_accounts;
-  ends = ends_accounts;
+  declared = λ k sized spot direction n name dims x clear.
+      declared_accounts k spot direction n name dims x (clear n (omega arith));
+  wiring = λ q calls. wiring_accounts q calls.keeps;
+  creating = λ q w c place a o x moves given.
+      creating_accounts q w c place a o x moves.0 given;
+  ends = λ k t ds path world start y z h sized empty is.
+      ends_accounts k t ds path world start y z h is;
 }

@@ -1,28 +1,25 @@
 -- In a circuit each cell is a start cell or is written once.
 use Rattle.std.proofs.Common.{◌≡◌, ℕ, suc, ◌+◌, ◌<◌, ◌≤◌, Bool, true, false, cond, nat_eq, nat_le}
-use Rattle.std.proofs.Common.{List, [], ◌∷◌, ◌++◌, map, length, Some, None, Ok, Err, refl, ap}
-use Rattle.std.proofs.Common.{subst, arith}
+use Rattle.std.proofs.Common.{List, [], ◌∷◌, ◌++◌, map, length, Some, None, Ok, refl, ap, arith}
 use Rattle.std.specs.Prelude.{not, ◌&&◌, nat_lt}
 use Rattle.std.proofs.lemmas.Bool.{leb-true, le-leb, ltb-true, ltb-false}
 use Rattle.cir_ast.specs.Program.{Program, Main}
-use Rattle.cir_meaning.specs.Tried.{Tried, next}
 use Rattle.cir_meaning.specs.Places.{numbers_from}
 use Rattle.cir_meaning.specs.Frame.{SignalEntry, Signals, World, is_input}
-use Rattle.cir_meaning.specs.Compile.{the_main, exec_main}
 use Rattle.cir_meaning.specs.Run.{Wires}
-use Rattle.cir_meaning.proofs.Twins.{Twin}
 use Rattle.cir_steps.specs.Step.{Step}
 use Rattle.cir_steps.specs.Written.{times, targets_of, EachCellOnce}
 use Rattle.cir_steps.specs.Emission.{wire_cell}
 use Rattle.cir_steps.specs.Making.{Cast}
 use Rattle.cir_steps.specs.Circuit.{Circuit, entry_cells, input_cells, is_public, start_cells}
-use Rattle.cir_steps.specs.Circuit.{all_homes, emit_main, circuit_with}
+use Rattle.cir_steps.specs.Circuit.{circuit_with}
 use Rattle.cir_steps.proofs.Templates.{AreTemplates}
 use Rattle.cir_steps.proofs.Counting.{one, writes, past, past_one, whole, over, inputs_entry}
 use Rattle.cir_steps.proofs.Counting.{times_more}
 use Rattle.cir_steps.proofs.Once.{Accounts}
 use Rattle.cir_steps.proofs.OnceBodies.{Counted, accounts}
-use Rattle.cir_steps.proofs.Casting.{MainGives, main_fits}
+use Rattle.cir_steps.proofs.Mains.{the_circuit}
+use Rattle.cir_steps.proofs.CircuitGives.{circuit_has}
 
 written_times : (c : ℕ) (steps : List Step) → times c (targets_of steps) ≡ writes c steps
 written_times c [] = refl
@@ -93,17 +90,10 @@ past_or n c = at (nat_le n c) (nat_lt c n) refl refl
         let above : n ≤ c = ltb-false c n f in
         let is : nat_le n c ≡ true = le-leb n c above in cc
 
-module _ (size : ℕ) (p : Program) (plain : AreTemplates p) (m : Main) where
-  abbrev circuit_at : Signals × World → Cast → Circuit
-  circuit_at z o = record {
-    steps = o.steps;
-    cells = o.next;
-    starts = start_cells m o.own z.0;
-    homes = all_homes size z.1.sizes (record { signals = z.0; wires = o.own } ∷ o.inside);
-  }
-
-  main_once : (z : Signals × World) (o : Cast) → Counted 1 z o → EachCellOnce (circuit_at z o)
-  main_once z o counted c =
+module _ (size : ℕ) (p : Program) (plain : AreTemplates p) where
+  main_once : (m : Main) (z : Signals × World) (o : Cast) → Counted 1 z o
+      → EachCellOnce (the_circuit size m z o)
+  main_once m z o counted c =
       let sum : writes c o.steps + (over (inputs_entry c o.own) 0 z.0 + past o.next c) ≡ past 1 c =
       counted c in
       let all : times c (start_cells m o.own z.0 ++ targets_of o.steps)
@@ -122,23 +112,7 @@ module _ (size : ℕ) (p : Program) (plain : AreTemplates p) (m : Main) where
       let made : past o.next c + cond (nat_lt c o.next) 1 0 ≡ 1 = past_or o.next c in
       omega arith
 
-  given_once : (e : Tried (Signals × World)) (r : Tried Cast) (b : Circuit)
-      → Twin (MainGives Accounts Counted accounts p size plain) e r
-      → next e (λ z. next r (λ o. Ok (circuit_at z o))) ≡ Ok b → EachCellOnce b
-  unfolding Twin
-  given_once (Ok z) (Ok o) b h is =
-      let same : circuit_at z o ≡ b = cc in subst EachCellOnce same (main_once z o h.1)
-  given_once (Ok z) (Err f) b h is = cc
-  given_once (Err f) r b h is = cc
-
-pub circuit_once : (size : ℕ) (p : Program) → AreTemplates p → (b : Circuit)
-    → circuit_with size p ≡ Ok b → EachCellOnce b
-circuit_once size p plain b is = at (the_main p) is
-  where
-    at : (m : Tried Main)
-        → next m (λ m. next (exec_main p size m m.meant) (λ z. next (emit_main p size m m.meant)
-        (λ o. Ok (circuit_at size p plain m z o)))) ≡ Ok b → EachCellOnce b
-    at (Ok m) e =
-        given_once size p plain m (exec_main p size m m.meant) (emit_main p size m m.meant) b
-        (main_fits Accounts Counted accounts p size plain m m.meant) e
-    at (Err f) e = cc
+  pub circuit_once : (b : Circuit) → circuit_with size p ≡ Ok b → EachCellOnce b
+  circuit_once =
+      circuit_has size Accounts (λ start world. Counted start) (accounts size) p plain EachCellOnce
+      (λ m z o h. main_once m z o h.gives)

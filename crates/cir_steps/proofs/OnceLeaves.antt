@@ -1,8 +1,8 @@
 -- Declarations of signals, creations and the ends of bodies keep the account of cells.
-use Rattle.std.proofs.Common.{◌≡◌, ◌≢◌, ◌⊎◌, inl, inr, ℕ, zero, suc, ◌+◌, ◌<◌, ◌≤◌, Bool, true}
-use Rattle.std.proofs.Common.{false, cond, nat_eq, List, [], ◌∷◌, ◌++◌, replicate, Option, Some}
-use Rattle.std.proofs.Common.{None, Ok, refl, sym, ap, subst, ◌∙◌, arith}
-use Rattle.std.specs.Prelude.{◌&&◌, ◌||◌, nat_lt, unwrap_or, ⊤}
+use Rattle.std.proofs.Common.{◌≡◌, ◌≢◌, ◌⊎◌, inl, inr, ℕ, zero, suc, ◌+◌, ◌<◌, Bool, true, false}
+use Rattle.std.proofs.Common.{cond, nat_eq, List, [], ◌∷◌, replicate, Option, Some, None, Ok, refl}
+use Rattle.std.proofs.Common.{sym, ap, subst, ◌∙◌, arith}
+use Rattle.std.specs.Prelude.{◌&&◌, nat_lt, unwrap_or}
 use Rattle.std.specs.List.{list_all}
 use Rattle.std.proofs.lemmas.Bool.{eq-eqb, ne_eqb, lt-ltb}
 use Rattle.cir_ast.specs.declared.program.Spot.{Spot}
@@ -27,6 +27,7 @@ use Rattle.cir_meaning.proofs.Good.{good_is}
 use Rattle.cir_meaning.proofs.Likes.{CallKeeps, like_itself}
 use Rattle.cir_meaning.proofs.Marking.{put_entry}
 use Rattle.cir_meaning.proofs.SignalWrites.{put_here}
+use Rattle.cir_meaning.proofs.Entries.{put_else}
 use Rattle.cir_meaning.proofs.PartWrites.{same_or_not}
 use Rattle.cir_meaning.proofs.SignalTargets.{SignalLike, assignment_target}
 use Rattle.cir_steps.specs.Written.{times}
@@ -36,10 +37,9 @@ use Rattle.cir_steps.specs.Making.{Emitting}
 use Rattle.cir_steps.specs.Emit.{make_wiring}
 use Rattle.cir_steps.proofs.Still.{Still, still_like, still_itself}
 use Rattle.cir_steps.proofs.Following.{still_at}
-use Rattle.cir_steps.proofs.Walk.{put_else}
 use Rattle.cir_steps.proofs.Counting.{one, past, unwritten, whole, over, own_entry, weight}
 use Rattle.cir_steps.proofs.Counting.{past_more}
-use Rattle.cir_steps.proofs.Once.{Accounts, accounts_keep}
+use Rattle.cir_steps.proofs.Once.{Accounts, accounts_still}
 use Rattle.cir_steps.proofs.Spending.{AreGiven}
 use Rattle.cir_steps.proofs.Wiring.{wired_to, own_wired, part_wired}
 
@@ -84,7 +84,7 @@ wiring_accounts q calls w written m accessors a e x b s y is made emitted =
         (wired q.context w cost ps)) same) ∙ done in
         let is_s : b.state ≡ s = cc in
         let is_y : still_at s x ≡ y = cc in
-        subst (Accounts x) is_y (accounts_keep.still x s (subst (Still (known_in x)) is_s
+        subst (Accounts x) is_y (accounts_still x s (subst (Still (known_in x)) is_s
         (still_like (known_in x) (known_in x) b.state (still_itself (known_in x)) its.0)))
     at (place ∷ places) same out =
         let is_y : wired_to q w written accessors e x b s ≡ y = cc in

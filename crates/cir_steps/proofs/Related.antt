@@ -1,8 +1,8 @@
 -- A run and the cells that its steps have written: where the run has a number, the cell has it.
-use Rattle.std.proofs.Common.{◌≡◌, ◌≢◌, ◌⊎◌, inl, inr, ℕ, zero, suc, ◌+◌, ◌<◌, Bool, true, false}
-use Rattle.std.proofs.Common.{cond, List, [], ◌∷◌, ◌++◌, map, length, Option, Some, None, Err, refl}
-use Rattle.std.proofs.Common.{sym, ap, subst, ◌∙◌, slice_get, unwrap_or, arith}
-use Rattle.std.specs.Prelude.{⊤, not, slice_index, slice_index_or}
+use Rattle.std.proofs.Common.{◌≡◌, inl, inr, ℕ, zero, suc, ◌+◌, ◌<◌, Bool, true, false, cond, List}
+use Rattle.std.proofs.Common.{[], ◌∷◌, ◌++◌, map, length, Option, Some, None, Err, refl, sym, ap}
+use Rattle.std.proofs.Common.{subst, ◌∙◌, slice_get, unwrap_or, arith}
+use Rattle.std.specs.Prelude.{not, slice_index, slice_index_or}
 use Rattle.cir_lc.specs.Number.{Assignment}
 use Rattle.cir_meaning.specs.Tried.{Where}
 use Rattle.cir_meaning.specs.Places.{numbers_from, is_inside, places_of}

@@ -1,5 +1,5 @@
--- Where names mean what is in scope, the signals of a template are declared once each and not in a
--- loop, and nothing in it returns.
+-- Where names mean what is in scope, the signals of a template are declared in the order of their
+-- numbers and not in a loop, and nothing in it returns.
 use Rattle.std.proofs.Common.{◌≡◌, ℕ, zero, suc, ◌+◌, ◌<◌, List, [], ◌∷◌, ◌++◌, refl, sym, ap}
 use Rattle.std.proofs.Common.{subst, ◌∙◌, length, arith}
 use Rattle.cir_ast.specs.declared.operators.Direction.{Direction}
@@ -18,8 +18,8 @@ use Rattle.cir_meaning.specs.Scoped.{IsTemplateScoped, IsResolved}
 use Rattle.cir_meaning.proofs.KnownCalls.{all_get}
 use Rattle.cir_meaning.proofs.ScopedQuiet.{first_signals}
 use Rattle.cir_steps.proofs.Templates.{told, told_all, simple_told, declares, all_declare}
-use Rattle.cir_steps.proofs.Templates.{DeclaresNone, IsPlain, ArePlain, Apart, AreApart, IsTemplate}
-use Rattle.cir_steps.proofs.Templates.{AreTemplates}
+use Rattle.cir_steps.proofs.Templates.{DeclaresNone, IsPlain, ArePlain, Below, AreRising}
+use Rattle.cir_steps.proofs.Templates.{IsTemplate, AreTemplates}
 
 -- signals that are declared in turn
 abbrev InTurn : (first last : ℕ) → (List ℕ → List ℕ) → Type 0
@@ -138,23 +138,20 @@ mutual
   all_plain s empty h = tt
   all_plain s (then_more a rest) h = (plain s a h.0, all_plain (behind s a) rest h.1)
 
--- numbers in turn are apart
-apart_from : (n first count : ℕ) → n < first → Apart n (numbers_from first count ++ [])
-apart_from n first zero h = tt
-apart_from n first (suc count) h = (
-  (λ e. let no : n ≡ first = e in absurd (omega arith)),
-  apart_from n (first + 1) count (omega arith),
-)
+-- numbers in turn rise
+below_from : (n first count : ℕ) → n < first → Below n (numbers_from first count ++ [])
+below_from n first zero h = tt
+below_from n first (suc count) h = (h, below_from n (first + 1) count (omega arith))
 
-are_apart : (first count : ℕ) → AreApart (numbers_from first count ++ [])
-are_apart first zero = tt
-are_apart first (suc count) =
-    (apart_from first (first + 1) count (omega arith), are_apart (first + 1) count)
+are_rising : (first count : ℕ) → AreRising (numbers_from first count ++ [])
+are_rising first zero = tt
+are_rising first (suc count) =
+    (below_from first (first + 1) count (omega arith), are_rising (first + 1) count)
 
 scoped_template : (functions : ℕ) (t : Template) → IsTemplateScoped functions t → IsTemplate t
 scoped_template functions t h =
     let turn : InTurn 0 _ (all_declare t.body) = all_in_turn _ t.body h in
-    (all_plain _ t.body h, subst AreApart (sym (turn.2 [])) (are_apart 0 turn.0))
+    (all_plain _ t.body h, subst AreRising (sym (turn.2 [])) (are_rising 0 turn.0))
 
 pub templates : (p : Program) → IsResolved p → AreTemplates p
 templates p h n t there =

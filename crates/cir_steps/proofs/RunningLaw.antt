@@ -1,6 +1,5 @@
 -- The steps of a template's body do what the body does.
 use Rattle.std.proofs.Common.{◌≡◌, ℕ, true, List, [], ◌∷◌, All, Ok, Err, refl, subst}
-use Rattle.std.specs.Prelude.{⊤}
 use Rattle.std.specs.List.{AllByRecursion}
 use Rattle.std.proofs.ByRecursion.{all_from_every}
 use Rattle.cir_ast.specs.Program.{Program}

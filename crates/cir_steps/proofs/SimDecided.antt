@@ -39,6 +39,8 @@ use Rattle.cir_steps.specs.Emission.{Emission, with_state, step_of}
 use Rattle.cir_steps.specs.Making.{Caster, wanted_of, new_variables, count_of, with_variables}
 use Rattle.cir_steps.specs.Making.{make_decision}
 use Rattle.cir_steps.specs.Statements as emit'
+use Rattle.cir_meaning.proofs.Reaching.{map_count}
+use Rattle.cir_steps.proofs.InTurn.{range_count}
 use Rattle.cir_steps.proofs.Templates.{IsPlain, Apart, AreApart}
 use Rattle.cir_steps.proofs.Unless.{Unless, unless_next}
 use Rattle.cir_steps.proofs.UnlessSteps.{statement_unless}
@@ -177,14 +179,6 @@ placed_split first (suc a) b (x ∷ xs) ys cells e h =
     (let less : suc (length xs) ≡ suc a = e in omega arith) all.1 in
     let place : first + 1 + a ≡ first + suc a = omega arith in
     ((all.0, rest.0), subst (λ (m : ℕ). Placed (numbers_from m b) ys cells) place rest.1)
-
-map_count : {A B : Type 0} (f : A → B) (xs : List A) → length (map f xs) ≡ length xs
-map_count f [] = refl
-map_count f (x ∷ xs) = ap (λ (n : ℕ). suc n) (map_count f xs)
-
-range_count : (first count : ℕ) → length (numbers_from first count) ≡ count
-range_count first zero = refl
-range_count first (suc count) = ap (λ (n : ℕ). suc n) (range_count (first + 1) count)
 
 wanted_stored : (cells : Cells) (new : Store) (s : State) (ns : List ℕ) (first : ℕ)
     (numbers : Store) (sources : List (List Source)) → Stored cells numbers sources

@@ -1,5 +1,5 @@
 -- All statements of a body run beside their steps, where their names are in scope.
-use Rattle.std.proofs.Common.{◌≡◌, ℕ}
+use Rattle.std.proofs.Common.{ℕ}
 use Rattle.cir_ast.specs.declared.program.Spot.{Spot}
 use Rattle.cir_ast.specs.declared.program.Meant.{Meant}
 use Rattle.cir_ast.specs.Tree.{Assigned, Statement, Block, If, IfElse, While, For, Return, Assert}

@@ -1,7 +1,7 @@
 -- Log lines of a run beside their steps.
-use Rattle.std.proofs.Common.{◌≡◌, ◌⊎◌, inr, ℕ, zero, suc, ◌+◌, cond, List, [], ◌∷◌, ◌++◌, map}
-use Rattle.std.proofs.Common.{length, Some, Ok, Err, refl, sym, ap, subst, ◌∙◌, unwrap_or, arith}
-use Rattle.std.specs.Prelude.{⊤, fold}
+use Rattle.std.proofs.Common.{◌≡◌, inr, ℕ, suc, ◌+◌, cond, List, [], ◌∷◌, ◌++◌, map, length, Some}
+use Rattle.std.proofs.Common.{Ok, Err, refl, sym, ap, subst, ◌∙◌, unwrap_or, arith}
+use Rattle.std.specs.Prelude.{fold}
 use Rattle.std.specs.Fmt.{decimal}
 use Rattle.cir_ast.specs.declared.program.Meant.{Meant}
 use Rattle.cir_ast.specs.Tree.{LogArgument, Words, LogValue}

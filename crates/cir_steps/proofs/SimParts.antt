@@ -1,9 +1,9 @@
 -- Declarations of signals and creations of components in a run beside their steps; and a component
 -- whose body begins.
 use Rattle.std.proofs.Common.{◌≡◌, ◌≢◌, ◌⊎◌, inl, inr, ℕ, zero, suc, ◌+◌, ◌<◌, Bool, true, false}
-use Rattle.std.proofs.Common.{cond, nat_eq, List, [], ◌∷◌, ◌++◌, length, replicate, Option, Some}
-use Rattle.std.proofs.Common.{None, Ok, refl, sym, ap, subst, ◌∙◌, slice_get, slice_set, arith}
-use Rattle.std.specs.Prelude.{⊤, not, ◌&&◌, nat_lt}
+use Rattle.std.proofs.Common.{cond, nat_eq, List, [], ◌++◌, length, replicate, Option, Some, None}
+use Rattle.std.proofs.Common.{Ok, refl, sym, ap, subst, ◌∙◌, slice_get, slice_set, arith}
+use Rattle.std.specs.Prelude.{not, ◌&&◌, nat_lt}
 use Rattle.std.proofs.lemmas.List.{append-nil}
 use Rattle.std.proofs.lemmas.Bool.{eq-eqb, ne_eqb, lt-ltb}
 use Rattle.cir_ast.specs.declared.program.Spot.{Spot}
@@ -15,7 +15,6 @@ use Rattle.cir_meaning.specs.Frame.{SignalEntry, Signals, Part, World, State, Co
 use Rattle.cir_meaning.specs.Frame.{put_at, is_input, is_fed}
 use Rattle.cir_meaning.specs.Declaring.{declare_signal, new_signal}
 use Rattle.cir_meaning.specs.Run.{RunTried, Wires, RunPart, Run}
-use Rattle.cir_meaning.specs.RunSimple as run
 use Rattle.cir_meaning.specs.RunSimple.{Outcome, Runner, with_known, with_outcome, run_part}
 use Rattle.cir_meaning.specs.RunSimple.{started}
 use Rattle.cir_meaning.specs.RunBodies.{or_else}
@@ -28,7 +27,6 @@ use Rattle.cir_steps.specs.RunSteps.{Cells, Calling, Progress, run_steps}
 use Rattle.cir_steps.specs.Emission.{Emission, Emitted, with_state, made_elements, put_signal}
 use Rattle.cir_steps.specs.Emission.{with_signal, steps_in}
 use Rattle.cir_steps.specs.Making.{Caster, freed}
-use Rattle.cir_steps.specs.Emit as emit
 use Rattle.cir_steps.proofs.Alike.{Alike, alike_ok, alike_ends, Fresh, Grows, steps_grow}
 use Rattle.cir_steps.proofs.Related.{OwnGrows, HasCells, Ran, Found, BesideAt, Beside}
 use Rattle.cir_steps.proofs.Simulation.{Calm, running, Sim}

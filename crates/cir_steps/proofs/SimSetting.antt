@@ -1,7 +1,6 @@
 -- An assignment to a variable in a run beside its step, or beside none.
-use Rattle.std.proofs.Common.{◌≡◌, ◌⊎◌, inr, ℕ, Bool, true, false, not, cond, List, [], ◌∷◌, map}
-use Rattle.std.proofs.Common.{length, Option, None, Ok, refl, sym, ap, subst, ◌∙◌, slice_get}
-use Rattle.std.proofs.Common.{slice_index}
+use Rattle.std.proofs.Common.{◌≡◌, inr, ℕ, Bool, true, false, not, cond, List, map, length, Option}
+use Rattle.std.proofs.Common.{None, Ok, refl, sym, ap, subst, ◌∙◌, slice_get, slice_index}
 use Rattle.std.specs.Prelude.{unwrap_or, ◌==◌}
 use Rattle.cir_ast.specs.declared.program.Meant.{Meant}
 use Rattle.cir_ast.specs.declared.program.Meant.TheVariants as meant

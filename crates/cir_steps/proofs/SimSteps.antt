@@ -1,6 +1,6 @@
 -- Comparisons, assertions and log lines of a run beside their steps.
-use Rattle.std.proofs.Common.{◌≡◌, ◌≢◌, ◌⊎◌, inr, ℕ, zero, ◌+◌, Bool, true, false, cond, List, []}
-use Rattle.std.proofs.Common.{◌∷◌, ◌++◌, Some, None, Ok, Err, refl, sym, subst, ◌∙◌}
+use Rattle.std.proofs.Common.{◌≡◌, inr, ℕ, Bool, true, false, cond, List, [], ◌∷◌, Some, None, Ok}
+use Rattle.std.proofs.Common.{Err, refl, sym, subst, ◌∙◌}
 use Rattle.std.specs.Prelude.{⊤, ◌==◌}
 use Rattle.cir_ast.specs.declared.program.Meant.{Meant}
 use Rattle.cir_ast.specs.Tree.{Expr}
@@ -21,7 +21,7 @@ use Rattle.cir_meaning.proofs.Likes.{CallKeeps}
 use Rattle.cir_meaning.proofs.FineValues.{FineContext}
 use Rattle.cir_steps.specs.Step.{Comparing, Asserting}
 use Rattle.cir_steps.specs.RunSteps.{Cells, Calling, environment_at, work_numbers, put_cell}
-use Rattle.cir_steps.specs.RunSteps.{put_cells, Progress, written}
+use Rattle.cir_steps.specs.RunSteps.{put_cells, Progress}
 use Rattle.cir_steps.specs.Emission.{Emission, quiet, with_state, step_of}
 use Rattle.cir_steps.specs.Making.{Caster, make_assertion}
 use Rattle.cir_steps.specs.Emit as emit

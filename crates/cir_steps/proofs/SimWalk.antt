@@ -2,7 +2,7 @@
 -- of signals, of a creation, of a declaration of signals, of a log line and under a condition that
 -- isn't known are right.
 use Rattle.std.proofs.Common.{◌≡◌, ℕ, zero, suc, false, List, [], ◌∷◌, length, Option, Some, None}
-use Rattle.std.proofs.Common.{Ok, refl, ◌∙◌}
+use Rattle.std.proofs.Common.{Ok, refl}
 use Rattle.cir_ast.specs.declared.program.Spot.{Spot}
 use Rattle.cir_ast.specs.declared.program.Meant.{Meant}
 use Rattle.cir_ast.specs.declared.program.Meant.TheVariants as meant

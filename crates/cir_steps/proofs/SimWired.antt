@@ -1,8 +1,8 @@
 -- A write of signals in a run beside its step, where the value has as many numbers as it has items.
-use Rattle.std.proofs.Common.{◌≡◌, ◌≢◌, ◌⊎◌, inl, inr, ℕ, zero, suc, ◌<◌, Bool, true, false, cond}
-use Rattle.std.proofs.Common.{nat_eq, List, [], ◌∷◌, ◌++◌, map, length, Option, Some, None, Ok}
-use Rattle.std.proofs.Common.{refl, sym, ap, subst, ◌∙◌, slice_get, slice_set, unwrap_or, arith}
-use Rattle.std.specs.Prelude.{⊤, ◌&&◌}
+use Rattle.std.proofs.Common.{◌≡◌, ◌≢◌, ◌⊎◌, inl, inr, ℕ, suc, ◌<◌, Bool, true, false, cond, nat_eq}
+use Rattle.std.proofs.Common.{List, [], ◌∷◌, ◌++◌, map, length, Option, Some, None, Ok, refl, sym}
+use Rattle.std.proofs.Common.{ap, subst, ◌∙◌, slice_get, slice_set, unwrap_or, arith}
+use Rattle.std.specs.Prelude.{◌&&◌}
 use Rattle.std.proofs.lemmas.Bool.{eqb-true, eq-eqb, ne_eqb}
 use Rattle.cir_ast.specs.declared.program.Meant.{Meant}
 use Rattle.cir_ast.specs.declared.operators.Arrow.{Arrow}

@@ -1,7 +1,7 @@
 -- Pieces of a run beside pieces of the making of its steps.
-use Rattle.std.proofs.Common.{◌≡◌, ◌≢◌, ◌⊎◌, ℕ, zero, Bool, true, false, cond, List, [], ◌∷◌, ◌++◌}
-use Rattle.std.proofs.Common.{length, Ok, Err, refl, sym, ap, subst, ◌∙◌, slice_get}
-use Rattle.std.specs.Prelude.{⊤, ◌==◌}
+use Rattle.std.proofs.Common.{◌≡◌, ℕ, Bool, true, false, cond, List, [], ◌∷◌, ◌++◌, length, Ok, Err}
+use Rattle.std.proofs.Common.{refl, sym, ap, subst, ◌∙◌, slice_get}
+use Rattle.std.specs.Prelude.{◌==◌}
 use Rattle.cir_ast.specs.declared.program.Meant.{Meant}
 use Rattle.cir_ast.specs.declared.program.Meant.TheVariants as meant
 use Rattle.cir_meaning.specs.Tried.{Where, Tried, next}

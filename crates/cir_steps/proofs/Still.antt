@@ -1,6 +1,6 @@
--- What the compile meaning does without touching signals and components.
-use Rattle.std.proofs.Common.{◌≡◌, ℕ, Bool, true, false, cond, List, [], ◌∷◌, ◌++◌, Option, Some}
-use Rattle.std.proofs.Common.{None, Ok, Err, refl, ◌∙◌}
+-- What the compile meaning does without touching signals, their sizes and components.
+use Rattle.std.proofs.Common.{◌≡◌, ℕ, Bool, true, false, cond, List, [], ◌∷◌, Option, Some, None}
+use Rattle.std.proofs.Common.{Ok, Err, refl, ap, ◌∙◌}
 use Rattle.cir_ast.specs.declared.program.Spot.{Spot}
 use Rattle.cir_ast.specs.declared.program.Meant.{Meant}
 use Rattle.cir_ast.specs.declared.program.Meant.TheVariants as meant
@@ -17,8 +17,8 @@ use Rattle.cir_meaning.specs.Limits.{limits, plus, tested}
 use Rattle.cir_meaning.specs.Arrays.{Datum, Want, Scalar, Whole, reach, same_dims, the_item}
 use Rattle.cir_meaning.specs.Values.{Value, Known, Linear, Quadratic, Opaque, Parts, known_number}
 use Rattle.cir_meaning.specs.Values.{parts_of, difference_of}
-use Rattle.cir_meaning.specs.Frame.{State, Context, at, variable_at, adding, settle, one_statement}
-use Rattle.cir_meaning.specs.Frame.{counted}
+use Rattle.cir_meaning.specs.Frame.{World, State, Context, at, variable_at, adding, settle}
+use Rattle.cir_meaning.specs.Frame.{one_statement, counted}
 use Rattle.cir_meaning.specs.Evaluate.{value_in, dims_in, indices_in}
 use Rattle.cir_meaning.specs.Writing.{plain, variable_assignment, VariableAssignment}
 use Rattle.cir_meaning.specs.Writing.{write_variable, appended, constrained}
@@ -40,13 +40,15 @@ use Rattle.cir_meaning.proofs.Likes.{CallKeeps, Like, value_like, like_itself}
 use Rattle.cir_meaning.proofs.VariableRuns.{assignment_like}
 
 abbrev pub Still : State → State → Type 0
-Still f s = (s.frame.signals ≡ f.frame.signals) × (s.frame.parts ≡ f.frame.parts)
+Still f s =
+    (s.frame.signals ≡ f.frame.signals) × (s.frame.parts ≡ f.frame.parts)
+    × (s.world.sizes ≡ f.world.sizes)
 
 pub still_itself : (s : State) → Still s s
-still_itself s = (refl, refl)
+still_itself s = (refl, refl, refl)
 
 pub still_like : (f s t : State) → Still f s → Like s t → Still f t
-still_like f s t h l = (l.1 ∙ h.0, l.3 ∙ h.1)
+still_like f s t h l = (l.1 ∙ h.0, l.3 ∙ h.1, ap (λ (v : World). v.sizes) l.4 ∙ h.2)
 
 module _ (f : State) where
   pub settle_still : (w : Where) (s : State) → Still f s → OnGood (Still f) (settle w s)

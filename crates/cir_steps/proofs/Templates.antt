@@ -1,6 +1,6 @@
--- Templates whose signals are declared once each, and not in a loop, and in which nothing returns:
--- of other ones nothing is told here.
-use Rattle.std.specs.Prelude.{ℕ, List, [], ◌∷◌, Some, slice_get, ◌≡◌, ◌≢◌, ⊤}
+-- Templates whose signals are declared in the order of their numbers, and not in a loop, and in
+-- which nothing returns: of other ones nothing is told here.
+use Rattle.std.specs.Prelude.{ℕ, ◌<◌, List, [], ◌∷◌, Some, slice_get, ◌≡◌, ◌≢◌, ⊤}
 use Rattle.cir_ast.specs.declared.program.Spot.{Spot}
 use Rattle.cir_ast.specs.declared.program.Meant.{Meant}
 use Rattle.cir_ast.specs.declared.program.Meant.TheVariants as meant
@@ -68,9 +68,19 @@ abbrev pub AreApart : List ℕ → Type 0
 AreApart [] = ⊤
 AreApart (n ∷ ns) = Apart n ns × AreApart ns
 
--- a template whose signals are declared once each, and not in a loop, and in which nothing returns
+-- numbers of which each is above those before it
+abbrev pub Below : ℕ → List ℕ → Type 0
+Below n [] = ⊤
+Below n (m ∷ ms) = (n < m) × Below n ms
+
+abbrev pub AreRising : List ℕ → Type 0
+AreRising [] = ⊤
+AreRising (n ∷ ns) = Below n ns × AreRising ns
+
+-- a template whose signals are declared in the order of their numbers, and not in a loop, and in
+-- which nothing returns
 abbrev pub IsTemplate : Template → Type 0
-IsTemplate t = ArePlain t.body × AreApart (all_declare t.body [])
+IsTemplate t = ArePlain t.body × AreRising (all_declare t.body [])
 
 abbrev pub AreTemplates : Program → Type 0
 AreTemplates p = (n : ℕ) (t : Template) → slice_get p.templates n ≡ Some t → IsTemplate t

@@ -1,8 +1,8 @@
 -- The steps of statements, where those of an assignment to signals and of a creation are right.
-use Rattle.std.proofs.Common.{◌≡◌, ◌≢◌, ℕ, zero, suc, ◌+◌, Bool, true, false, cond, List, [], ◌∷◌}
-use Rattle.std.proofs.Common.{◌++◌, length, Option, Some, None, Ok, Err, refl, sym, ap, subst, ◌∙◌}
+use Rattle.std.proofs.Common.{◌≡◌, ℕ, zero, suc, ◌+◌, ◌<◌, ◌≤◌, Bool, true, false, cond, List, []}
+use Rattle.std.proofs.Common.{◌∷◌, length, Option, Some, None, Ok, Err, refl, sym, subst, ◌∙◌}
 use Rattle.std.proofs.Common.{arith}
-use Rattle.std.specs.Prelude.{⊤, not, ◌==◌}
+use Rattle.std.specs.Prelude.{⊤, ◌==◌}
 use Rattle.std.specs.List.{AllByRecursion}
 use Rattle.cir_ast.specs.declared.program.Spot.{Spot}
 use Rattle.cir_ast.specs.declared.program.Meant.{Meant}
@@ -27,7 +27,7 @@ use Rattle.cir_meaning.specs.Anonymous.{Lifted, lift_simple}
 use Rattle.cir_meaning.specs.Writing.{plain, variable_assignment, is_unknown}
 use Rattle.cir_meaning.specs.Declaring.{declare_variable, declare_signal, declare_component}
 use Rattle.cir_meaning.specs.Declaring.{creation, create}
-use Rattle.cir_meaning.specs.Steps.{variable_cost, new_cells, logged_cells}
+use Rattle.cir_meaning.specs.Steps.{variable_cost, logged_cells}
 use Rattle.cir_meaning.specs.Simple as simple
 use Rattle.cir_meaning.specs.Simple.{declared_number}
 use Rattle.cir_meaning.specs.Unknown.{Fault, first_of, assign_fault, fault_of, outer_assigned}
@@ -35,12 +35,13 @@ use Rattle.cir_meaning.specs.Scan.{undecided}
 use Rattle.cir_meaning.specs.Statement as statement
 use Rattle.cir_meaning.specs.Statement.{Flow, goes, decided, condition, most_turns, loop_of}
 use Rattle.cir_meaning.specs.Statement.{first_simple, assert_value, log_values, exec, exec_all}
-use Rattle.cir_meaning.proofs.Good.{OnGood, good_is}
-use Rattle.cir_meaning.proofs.Likes.{CallKeeps}
+use Rattle.cir_meaning.proofs.Entries.{put_else}
+use Rattle.cir_meaning.proofs.Good.{OnGood, good_weaker}
 use Rattle.cir_meaning.proofs.Twins.{Twin, twin_bad, twin_weaker}
 use Rattle.cir_steps.specs.Step.{Step}
 use Rattle.cir_steps.specs.Emission.{Emission, Emitted, quiet, then_emit, known_in, with_state}
 use Rattle.cir_steps.specs.Emission.{emit_known, made_elements, with_signal}
+use Rattle.cir_steps.specs.Lines.{LineOf}
 use Rattle.cir_steps.specs.Making.{Emitting, new_places, make_assertion, wanted_of, count_of}
 use Rattle.cir_steps.specs.Emit.{emit_set_variable, emit_set_signal, emit_create, emit_set_place}
 use Rattle.cir_steps.specs.Emit.{emit_assigned, emit_initial, emit_variable, emit_initial_signal}
@@ -49,12 +50,16 @@ use Rattle.cir_steps.specs.Emit.{emit_tuple, emit_equal, emit_execute, emit_coun
 use Rattle.cir_steps.specs.Emit.{emit_execute_counted, emit_simple}
 use Rattle.cir_steps.specs.Statements.{emit_undecided, emit_branch, emit_turns, emit_assert_value}
 use Rattle.cir_steps.specs.Statements.{emit, emit_all}
-use Rattle.cir_steps.proofs.Templates.{told, told_all, simple_told, Apart, declares, all_declare}
+use Rattle.cir_steps.proofs.Templates.{told, told_all, simple_told, Below, declares, all_declare}
 use Rattle.cir_steps.proofs.Templates.{IsPlain, ArePlain}
-use Rattle.cir_steps.proofs.Still.{Still, still_itself, counted_still, condition_still}
-use Rattle.cir_steps.proofs.Still.{dropped_still, dims_still, component_still, log_still}
-use Rattle.cir_steps.proofs.Still.{equal_still, assert_still, value_still, undecided_still}
-use Rattle.cir_steps.proofs.Still.{assignment_still, behind_still}
+use Rattle.cir_steps.proofs.Still.{Still, still_itself}
+use Rattle.cir_steps.proofs.Rising.{AreSized, Grows, Calls, rises_itself, array_grows}
+use Rattle.cir_steps.proofs.Rising.{declared_grows, Asserted}
+use Rattle.cir_steps.proofs.LogLines.{log_numbers}
+use Rattle.cir_steps.proofs.Moving.{Moves, Steps, steps_of, counted_moves, condition_moves}
+use Rattle.cir_steps.proofs.Moving.{dropped_moves, dims_moves, component_moves, value_moves}
+use Rattle.cir_steps.proofs.Moving.{log_steps, equal_steps, undecided_steps, assert_moves, Written}
+use Rattle.cir_steps.proofs.Moving.{written_moves}
 use Rattle.cir_steps.proofs.Following.{Keeps, Follows, FollowsFlow, Joins, follows_joins}
 use Rattle.cir_steps.proofs.Following.{flow_joins, twin_then, from_quiet, from_still, valued_twin}
 use Rattle.cir_steps.proofs.Following.{twin_goes, twin_going, quiet_follows, quiet_flow}
@@ -66,8 +71,10 @@ use Rattle.cir_steps.proofs.Lifting.{IsOther, lifts_simple, other_told, lifted_t
 pub record IsFresh (x y : Emission) (step : Step) : Type 0 where
   pub count : ℕ
   pub targets : step.targets ≡ numbers_from x.next count
+  pub line : LineOf step.targets step.line
   pub next : y.next ≡ x.next + count
   pub still : Still (known_in x) (known_in y)
+  pub grown : AreSized (known_in x) → Grows count 1 (known_in x) (known_in y)
   pub own : y.cells.own ≡ x.cells.own
   pub parts : y.cells.parts ≡ x.cells.parts
   pub bodies : y.bodies ≡ x.bodies
@@ -75,10 +82,13 @@ pub record IsFresh (x y : Emission) (step : Step) : Type 0 where
 abbrev pub one_step : Step → Emission → Emitted
 one_step step y = record { state = y; steps = step ∷ [] }
 
--- signals that are to be declared yet, each once
+-- signals that are to be declared yet, in the order of their numbers
+abbrev pub ClearFrom : ℕ → Entries → Type 0
+ClearFrom n signals = (m : ℕ) → n ≤ m → entry_at signals m ≡ None
+
 abbrev pub ClearIn : List ℕ → Entries → Type 0
 ClearIn [] signals = ⊤
-ClearIn (n ∷ ns) signals = (entry_at signals n ≡ None) × Apart n ns × ClearIn ns signals
+ClearIn (n ∷ ns) signals = ClearFrom n signals × Below n ns × ClearIn ns signals
 
 abbrev pub Clear : List ℕ → State → Type 0
 Clear ns s = ClearIn ns s.frame.signals
@@ -89,31 +99,22 @@ still_clear ns f s h p = subst (ClearIn ns) (sym h.0) p
 abbrev pub StaysClear : State → State → Type 0
 StaysClear f s = (ns : List ℕ) → Clear ns f → Clear ns s
 
-suc_apart : (n m : ℕ) → suc n ≢ suc m → n ≢ m
-suc_apart n m h e = h (ap suc e)
-
-pub put_else : (n m : ℕ) (a : SignalEntry) (xs : Entries) → n ≢ m
-    → entry_at (put_at n a xs) m ≡ entry_at xs m
-put_else zero zero a [] h = absurd (h refl)
-put_else zero zero a (x ∷ xs) h = absurd (h refl)
-put_else zero (suc m) a [] h = refl
-put_else zero (suc m) a (x ∷ xs) h = refl
-put_else (suc n) zero a [] h = refl
-put_else (suc n) zero a (x ∷ xs) h = refl
-put_else (suc n) (suc m) a [] h = put_else n m a [] (suc_apart n m h)
-put_else (suc n) (suc m) a (x ∷ xs) h = put_else n m a xs (suc_apart n m h)
-
-put_clear : (n : ℕ) (ns : List ℕ) (a : SignalEntry) (xs : Entries) → Apart n ns → ClearIn ns xs
+pub put_clear : (n : ℕ) (ns : List ℕ) (a : SignalEntry) (xs : Entries) → Below n ns → ClearIn ns xs
     → ClearIn ns (put_at n a xs)
 put_clear n [] a xs h p = tt
 put_clear n (m ∷ ms) a xs h p =
-    (put_else n m a xs h.0 ∙ p.0, p.1, put_clear n ms a xs h.1 p.2)
+    let less : n < m = h.0 in (
+      (λ i above. put_else n i a xs (λ e. let no : n ≡ i = e in absurd (omega arith))
+          ∙ p.0 i above),
+      p.1,
+      put_clear n ms a xs h.1 p.2,
+    )
 
 -- what must be known of the statements that touch signals and components
 pub record Leaves (q : Emitting) (R : Emission → Emitted → Type 0) : Type 0 where
   pub fresh : (x y : Emission) (step : Step) → IsFresh x y step → R x (one_step step y)
   pub declared : (spot : Spot) (direction : Direction) (n : ℕ) (name dims : List ℕ)
-      (x : Emission) → entry_at (known_in x).frame.signals n ≡ None → R x record {
+      (x : Emission) → ClearFrom n (known_in x).frame.signals → R x record {
         state = with_signal n (made_elements dims)
             (with_state (declare_signal q.context spot direction n name dims (known_in x)) x);
         steps = [];
@@ -156,7 +157,7 @@ simple_drop (TargetRight source arrow target) ns s p = p
 simple_drop (Alone parallel name m arguments inputs) ns s p = p
 
 mutual
-  drop : (a : Statement Spot Meant) (ns : List ℕ) (s : State) → Clear (declares a ns) s
+  pub drop : (a : Statement Spot Meant) (ns : List ℕ) (s : State) → Clear (declares a ns) s
       → Clear ns s
   drop (Block spot ss) ns s p = drop_all ss ns s p
   drop (If spot c a) ns s p = drop a ns s p
@@ -174,12 +175,12 @@ mutual
   drop_all (then_more a rest) ns s p =
       drop_all rest ns s (drop a (all_declare rest ns) s p)
 
-first_clear : (f : First Meant) (ns : List ℕ) (s : State) → Clear ns s
+pub first_clear : (f : First Meant) (ns : List ℕ) (s : State) → Clear ns s
     → Clear (simple_told (first_simple f) ns) s
 first_clear (FirstVars vs) ns s p = p
 first_clear (FirstAssign a) ns s p = p
 
-module _ (q : Emitting) (calls : CallKeeps q.context.call) (R : Emission → Emitted → Type 0)
+module _ (q : Emitting) (calls : Calls q.context.call) (R : Emission → Emitted → Type 0)
     (keeps : Keeps R) (leaves : Leaves q R) where
   module _ (ns : List ℕ) where
     abbrev After : Emission → State → Emitted → Type 0
@@ -194,8 +195,8 @@ module _ (q : Emitting) (calls : CallKeeps q.context.call) (R : Emission → Emi
     counted_follows : (spot : Spot) (x : Emission) → Clear ns (known_in x)
         → Twin (After x) (counted (at q.context spot) (known_in x)) (emit_counted q spot x)
     counted_follows spot x p =
-        known_follows R keeps (Clear ns) x (counted (at q.context spot)) (λ s h. kept x s p h)
-        (counted_still (known_in x) (at q.context spot) (known_in x) (still_itself (known_in x)))
+        known_follows R keeps (Clear ns) x (counted (at q.context spot)) (λ s h. kept x s p h.0)
+        (counted_moves (known_in x) (at q.context spot))
 
     wired_follows : (w : Where) (written : Assign Meant) (m : Meant) (accessors : Accessors Meant)
         (arrow : Arrow) (e : Expr Meant) (x : Emission) → Clear ns (known_in x)
@@ -220,26 +221,27 @@ module _ (q : Emitting) (calls : CallKeeps q.context.call) (R : Emission → Emi
     variable_follows w written n accessors e x p =
         follows_twice R keeps (Clear ns) x
         (variable_assignment q.context w n accessors e (known_in x)) _ _
-        (λ a is. follows_made R keeps (Clear ns) (Still (known_in x)) x _ _
-        (behind_still (known_in x) q.context calls w
-        (variable_cost q.context w written n accessors e a (known_in x)) (new_cells n a) n a
-        (is_unknown n a) (good_is (λ a. Still (known_in x) a.state) _ a is
-        (assignment_still (known_in x) q.context calls w n accessors e (known_in x)
-        (still_itself (known_in x))))) (λ s made h.
-        follows_either R keeps (Clear ns) x s (is_unknown n a) _ _ (
+        (λ a is. follows_made R keeps (Clear ns) (Written (known_in x) q.context calls n a
+        (is_unknown n a)) x _ _
+        (written_moves (known_in x) q.context calls w
+        (variable_cost q.context w written n accessors e a (known_in x)) n accessors e a
+        (is_unknown n a) is) (λ s made h.
+        follows_either R keeps (Clear ns) x s (is_unknown n a) _ _ (λ t. (
           refl,
           leaves.fresh x _ _ record {
             count = length (new_places n a);
             targets = refl;
+            line = tt;
             next = refl;
-            still = h;
+            still = h.0.0;
+            grown = (h.1 t).1;
             own = refl;
             parts = refl;
             bodies = refl;
           },
-          kept x s p h,
-        )
-        (refl, keeps.still x s h, kept x s p h)))
+          kept x s p h.0.0,
+        ))
+        (refl, keeps.still x s h.0, kept x s p h.0.0)))
 
     set_follows : (w : Where) (written : Assign Meant) (m : Meant) (accessors : Accessors Meant)
         (e : Expr Meant) (x : Emission) → Clear ns (known_in x)
@@ -281,10 +283,13 @@ module _ (q : Emitting) (calls : CallKeeps q.context.call) (R : Emission → Emi
         valued_twin R keeps After after_joins x
         (dims_in q.context w false v.dimensions (known_in x))
         (λ a. declare_variable n a.0 a.1) _ _
-        (dims_still (known_in x) q.context calls w false v.dimensions (known_in x)
-        (still_itself (known_in x)))
+        (good_weaker (λ a. Moves (known_in x) a.1)
+        (λ a. Moves (known_in x) (declare_variable n a.0 a.1))
+        (dims_in q.context w false v.dimensions (known_in x))
+        (dims_moves (known_in x) q.context calls w v.dimensions)
+        (λ a h. (h.0, declared_grows (known_in x) 0 0 n a.0 a.1 h.1)))
         (λ a h. initial_follows w v.meant v.value (with_state (declare_variable n a.0 a.1) x)
-        (kept x (declare_variable n a.0 a.1) p h)))
+        (kept x (declare_variable n a.0 a.1) p h.0)))
 
     initial_signal_follows : (w : Where) (m : Meant) (value : SignalValue Meant) (x : Emission)
         → Clear ns (known_in x)
@@ -306,10 +311,9 @@ module _ (q : Emitting) (calls : CallKeeps q.context.call) (R : Emission → Emi
     numbered_signal spot direction d n x p =
         valued_twin R keeps After after_joins x
         (dims_in q.context (at q.context spot) false d.dimensions (known_in x)) (λ a. a.1) _ _
-        (dims_still (known_in x) q.context calls (at q.context spot) false d.dimensions
-        (known_in x) (still_itself (known_in x)))
+        (dims_moves (known_in x) q.context calls (at q.context spot) d.dimensions)
         (λ a h.
-        let free : Clear (n ∷ ns) a.1 = still_clear (n ∷ ns) (known_in x) a.1 h p in
+        let free : Clear (n ∷ ns) a.1 = still_clear (n ∷ ns) (known_in x) a.1 h.0 p in
         from_quiet R keeps After after_joins (with_state a.1 x) (with_signal n
         (made_elements a.0)
         (with_state (declare_signal q.context spot direction n d.name a.0 a.1) x))
@@ -343,8 +347,8 @@ module _ (q : Emitting) (calls : CallKeeps q.context.call) (R : Emission → Emi
         → Twin (After x) (simple.dropped q.context w e (known_in x))
         (emit_known (simple.dropped q.context w e) x)
     dropped_follows w e x p =
-        known_follows R keeps (Clear ns) x (simple.dropped q.context w e) (λ s h. kept x s p h)
-        (dropped_still (known_in x) q.context calls w e (known_in x) (still_itself (known_in x)))
+        known_follows R keeps (Clear ns) x (simple.dropped q.context w e) (λ s h. kept x s p h.0)
+        (dropped_moves (known_in x) q.context calls w e)
 
     slot_follows : (w : Where) (arrow : Arrow) (t : Slot Meant) (e : Expr Meant) (x : Emission)
         → Clear ns (known_in x)
@@ -375,13 +379,15 @@ module _ (q : Emitting) (calls : CallKeeps q.context.call) (R : Emission → Emi
     tuple_follows w arrow (Slots ts) es x p = slots_follow w arrow ts es x p
 
     -- a step that writes nothing
-    silent : (x : Emission) (s : State) (step : Step) → step.targets ≡ [] → Still (known_in x) s
-        → R x (one_step step (with_state s x))
-    silent x s step none h = leaves.fresh x (with_state s x) step record {
+    silent : (x : Emission) (s : State) (step : Step) → step.targets ≡ [] → step.line ≡ None
+        → Steps 0 (known_in x) s → R x (one_step step (with_state s x))
+    silent x s step none unsaid h = leaves.fresh x (with_state s x) step record {
       count = 0;
       targets = none;
+      line = subst (LineOf step.targets) (sym unsaid) tt;
       next = omega arith;
-      still = h;
+      still = h.0;
+      grown = h.1;
       own = refl;
       parts = refl;
       bodies = refl;
@@ -390,11 +396,11 @@ module _ (q : Emitting) (calls : CallKeeps q.context.call) (R : Emission → Emi
     equal_follows : (w : Where) (a b : Expr Meant) (x : Emission) → Clear ns (known_in x)
         → Twin (After x) (simple.equal q.context w a b (known_in x)) (emit_equal q w a b x)
     equal_follows w a b x p =
-        follows_made R keeps (Clear ns) (Still (known_in x)) x
+        follows_made R keeps (Clear ns) (Steps 0 (known_in x)) x
         (simple.equal q.context w a b (known_in x)) _
-        (equal_still (known_in x) q.context calls w a b (known_in x) (still_itself (known_in x)))
+        (equal_steps (known_in x) q.context calls w a b)
         (λ s made h. follows_ok R keeps (Clear ns) x s _
-        (refl, silent x s _ refl h, kept x s p h))
+        (refl, silent x s _ refl refl h, kept x s p h.0))
 
   signals_follow : (spot : Spot) (direction : Direction) (ds : List (Signal Meant)) (ns : List ℕ)
       (x : Emission) → Clear (told_all ds ns) (known_in x)
@@ -419,13 +425,15 @@ module _ (q : Emitting) (calls : CallKeeps q.context.call) (R : Emission → Emi
       each_follows R keeps (Clear ns) (simple.component_declaration q.context (at q.context spot))
       (λ c. emit_known (simple.component_declaration q.context (at q.context spot) c)) cs x p
       (λ c y i. known_follows R keeps (Clear ns) y
-      (simple.component_declaration q.context (at q.context spot) c) (λ s h. kept ns y s i h)
-      (component_still (known_in y) q.context calls (at q.context spot) c (known_in y)
-      (still_itself (known_in y))))
+      (simple.component_declaration q.context (at q.context spot) c) (λ s h. kept ns y s i h.0)
+      (component_moves (known_in y) q.context calls (at q.context spot) c))
   execute_follows spot (Created name m e) ns x p =
       number_follows R keeps (Clear ns) x (at q.context spot) m _ _ (λ n.
       from_still R keeps (After ns) (after_joins ns) x
-      (declare_component n name [] (known_in x)) _ _ (refl, refl)
+      (declare_component n name [] (known_in x)) _ _ (
+        still_itself (known_in x),
+        array_grows (known_in x) 0 0 [] (known_in x) (rises_itself (known_in x)),
+      )
       (created_follows ns (at q.context spot) n done e
       (with_state (declare_component n name [] (known_in x)) x) p))
   execute_follows spot (Assigned a) ns x p =
@@ -490,22 +498,24 @@ module _ (q : Emitting) (calls : CallKeeps q.context.call) (R : Emission → Emi
         (emit_undecided q spot fault a x)
     undecided_follows spot fault a x p =
         twin_goes R keeps (Clear ns) x (undecided q.context spot fault a (known_in x)) _
-        (follows_made R keeps (Clear ns) (Still (known_in x)) x
+        (follows_made R keeps (Clear ns)
+        (Steps (count_of (wanted_of (outer_assigned a) (known_in x))) (known_in x)) x
         (undecided q.context spot fault a (known_in x)) _
-        (undecided_still (known_in x) q.context calls spot fault a (known_in x)
-        (still_itself (known_in x)))
+        (undecided_steps (known_in x) q.context calls spot fault a)
         (λ s made h. follows_ok R keeps (Clear ns) x s _ (
           refl,
           leaves.fresh x _ _ record {
             count = count_of (wanted_of (outer_assigned a) (known_in x));
             targets = refl;
+            line = tt;
             next = refl;
-            still = h;
+            still = h.0;
+            grown = h.1;
             own = refl;
             parts = refl;
             bodies = refl;
           },
-          kept ns x s p h,
+          kept ns x s p h.0,
         )))
 
     module _ (before : List ℕ) (f t u : State → Tried Flow) (g v w : Emission → Tried Emitted)
@@ -535,10 +545,9 @@ module _ (q : Emitting) (calls : CallKeeps q.context.call) (R : Emission → Emi
       condition_follows spot c x p =
           valued_twin R keeps AfterFlow flows_join x
           (condition q.context spot c (known_in x)) (λ a. a.1) _ _
-          (condition_still (known_in x) q.context calls spot c (known_in x)
-          (still_itself (known_in x)))
+          (condition_moves (known_in x) q.context calls spot c)
           (λ a h. decided_follows a.0 (with_state a.1 x)
-          (still_clear before (known_in x) a.1 h p))
+          (still_clear before (known_in x) a.1 h.0 p))
 
       branch_follows : (spot : Spot) (c : Expr Meant) (x : Emission) → Clear before (known_in x)
           → Twin (AfterFlow x) (statement.branch q.context spot c f t u (known_in x))
@@ -568,29 +577,34 @@ module _ (q : Emitting) (calls : CallKeeps q.context.call) (R : Emission → Emi
         (h z j) (turns_follow n spot c body unknown made other h g))) g spot c x p
 
     assert_value_follows : (w : Where) (e : Expr Meant) (v : Value) (s : State) (x : Emission)
-        → Clear ns (known_in x) → Still (known_in x) s
+        → Clear ns (known_in x) → Moves (known_in x) s
         → Twin (After ns x) (assert_value q.context w e (known_in x) v s)
         (emit_assert_value q w e v s x)
     assert_value_follows w e v s x p h =
-        follows_made R keeps (Clear ns) (Still (known_in x)) x
+        follows_made R keeps (Clear ns)
+        (λ t. Still (known_in x) t × Asserted (known_in x) 0 0 q.context calls v t) x
         (assert_value q.context w e (known_in x) v s) _
-        (assert_still (known_in x) q.context calls w e (known_in x) v s h)
-        (λ s1 made i. at s1 i v)
+        (assert_moves (known_in x) q.context calls w e v s h)
+        (λ s1 made i. at s1 i.0 v i.1)
       where
+        stepped : (s1 : State) → Still (known_in x) s1 → Grows (0 + 0) (0 + 1) (known_in x) s1
+            → Twin (After ns x) (Ok s1) (make_assertion q.context w e s1 x)
+        stepped s1 i g =
+            follows_ok R keeps (Clear ns) x s1 _
+            (refl, silent ns x s1 _ refl refl (steps_of 0 (known_in x) s1 i g), kept ns x s1 p i)
+
         at : (s1 : State) → Still (known_in x) s1 → (v : Value)
+            → Asserted (known_in x) 0 0 q.context calls v s1
             → Twin (After ns x) (Ok s1) (decided v
             (quiet (with_state s1 x)) (quiet (with_state s1 x))
             (make_assertion q.context w e s1 x))
-        at s1 i (Known n) =
+        at s1 i (Known n) g =
             follows_either R keeps (Clear ns) x s1 (n == 0) _ _
-            (refl, keeps.still x s1 i, kept ns x s1 p i)
-            (refl, keeps.still x s1 i, kept ns x s1 p i)
-        at s1 i (Linear a) =
-            follows_ok R keeps (Clear ns) x s1 _ (refl, silent ns x s1 _ refl i, kept ns x s1 p i)
-        at s1 i (Quadratic a b c) =
-            follows_ok R keeps (Clear ns) x s1 _ (refl, silent ns x s1 _ refl i, kept ns x s1 p i)
-        at s1 i Opaque =
-            follows_ok R keeps (Clear ns) x s1 _ (refl, silent ns x s1 _ refl i, kept ns x s1 p i)
+            (λ t. (refl, keeps.still x s1 (i, g), kept ns x s1 p i))
+            (refl, keeps.still x s1 (i, g), kept ns x s1 p i)
+        at s1 i (Linear a) g = stepped s1 i g
+        at s1 i (Quadratic a b c) g = stepped s1 i g
+        at s1 i Opaque g = stepped s1 i g
 
     assert_follows : (spot : Spot) (e : Expr Meant) (x : Emission) → Clear ns (known_in x)
         → Twin (AfterFlow x) (exec q.context (Assert spot e) (known_in x))
@@ -598,13 +612,12 @@ module _ (q : Emitting) (calls : CallKeeps q.context.call) (R : Emission → Emi
     unfolding OnGood
     assert_follows spot e x p =
         at (value_in q.context (at_spot) false Scalar e (known_in x))
-        (value_still (known_in x) q.context calls at_spot Scalar e (known_in x)
-        (still_itself (known_in x)))
+        (value_moves (known_in x) q.context calls at_spot Scalar e)
       where
         at_spot : Where
         at_spot = at q.context spot
 
-        at : (m : Tried (Datum × State)) → OnGood (λ a. Still (known_in x) a.1) m
+        at : (m : Tried (Datum × State)) → OnGood (λ a. Moves (known_in x) a.1) m
             → Twin (AfterFlow x) (next m (λ a. next
             (assert_value q.context at_spot e (known_in x) (the_item a.0) a.1)
             (λ s. goes (counted at_spot s))))
@@ -626,22 +639,23 @@ module _ (q : Emitting) (calls : CallKeeps q.context.call) (R : Emission → Emi
         twin_then R keeps AfterFlow flows_join (Clear ns) x
         (log_values q.context (at q.context spot) arguments (known_in x)) _ _
         (emit_counted q spot)
-        (follows_made R keeps (Clear ns) (Still (known_in x)) x
+        (follows_made R keeps (Clear ns) (Steps (logged_cells arguments) (known_in x)) x
         (log_values q.context (at q.context spot) arguments (known_in x)) _
-        (log_still (known_in x) q.context calls (at q.context spot) arguments (known_in x)
-        (still_itself (known_in x)))
+        (log_steps (known_in x) q.context calls (at q.context spot) arguments)
         (λ s made h. follows_ok R keeps (Clear ns) x s _ (
           refl,
           leaves.fresh x _ _ record {
             count = logged_cells arguments;
             targets = refl;
+            line = log_numbers arguments x.next;
             next = refl;
-            still = h;
+            still = h.0;
+            grown = h.1;
             own = refl;
             parts = refl;
             bodies = refl;
           },
-          kept ns x s p h,
+          kept ns x s p h.0,
         )))
         (λ y i. twin_goes R keeps (Clear ns) y _ _ (counted_follows ns spot y i))
 

@@ -30,7 +30,7 @@ use Rattle.cir_steps.specs.Written.{times}
 use Rattle.cir_steps.specs.Emission.{Emission, Emitted, known_in, with_state, wire_cell, ports_of}
 use Rattle.cir_steps.specs.Emission.{part_ports, steps_in}
 use Rattle.cir_steps.specs.Making.{Emitting, written_elements, wiring, freed, freed_at}
-use Rattle.cir_steps.proofs.Still.{Still, still_itself, stepped_still}
+use Rattle.cir_steps.proofs.Still.{Still, still_itself, still_like, stepped_still}
 use Rattle.cir_steps.proofs.Counting.{writes, over, own_entry, port_entry, part_weight}
 use Rattle.cir_steps.proofs.Counting.{parts_weight, weight, weight_of}
 use Rattle.cir_steps.proofs.Once.{Laid, Accounts}
@@ -98,7 +98,8 @@ module _ (k : Context) (w : Where) (arrow : Arrow) (cost : Cost) (f : State)
 
     pub spent : (s : State) → result ≡ Ok s → Takes (signals_of b.target.part f.frame) s
     spent s e =
-        subst (λ xs. Takes xs s) (signals_same b.target.part f b.state (like.1, like.3))
+        subst (λ xs. Takes xs s)
+        (signals_same b.target.part f b.state (still_like f f b.state (still_itself f) like))
         (good_is (Takes (signals_of b.target.part b.state.frame)) result s e
         (good_next (Takes (signals_of b.target.part b.state.frame))
         (Takes (signals_of b.target.part b.state.frame)) (write_signal k w arrow b) _
@@ -119,13 +120,15 @@ module _ (k : Context) (w : Where) (arrow : Arrow) (cost : Cost) (f : State)
         at_first e there =
             let in_f : entry_at (signals_of b.target.part f.frame) b.target.number ≡ Some e =
             ap (λ (xs : Signals). entry_at xs b.target.number)
-            (sym (signals_same b.target.part f b.state (like.1, like.3))) ∙ there in
+            (sym (signals_same b.target.part f b.state
+            (still_like f f b.state (still_itself f) like)))
+            ∙ there in
             let both : Some is.entry ≡ Some e = sym is.there ∙ in_f in
             let same : is.entry ≡ e = cc in
             subst P same chosen
 
 -- a part with its ports and its waiting steps
-partner : {A B : Type 0} (xs : List A) (ys : List B) (j : ℕ) (a : A) → length xs ≡ length ys
+pub partner : {A B : Type 0} (xs : List A) (ys : List B) (j : ℕ) (a : A) → length xs ≡ length ys
     → slice_get xs j ≡ Some a → (b : B) × (slice_get ys j ≡ Some b)
 partner [] ys j a same h = cc
 partner (x ∷ xs) [] j a same h = cc
@@ -167,6 +170,20 @@ freed_weight c true false steps h = let no : false ≡ true = h refl in cc
 freed_weight c false true steps h = omega arith
 freed_weight c false false steps h = omega arith
 
+pub freed_steps : (x : Emission) (s : State) (j : ℕ) (p : Part) (steps : List Step)
+    (signals : Signals) → slice_get (known_in x).frame.parts j ≡ Some p
+    → slice_get x.bodies j ≡ Some steps
+    → s.frame.parts ≡ slice_set (known_in x).frame.parts j (record p { signals = signals })
+    → freed_at (Some j) (is_fed p.signals) (with_state s x)
+    ≡ cond (not (is_fed p.signals) && is_fed signals) steps []
+freed_steps x s j p steps signals hp hb parts =
+    ap (λ o. freed j (is_fed p.signals) o (with_state s x)) its_part
+    ∙ ap (λ o. cond (not (is_fed p.signals) && is_fed signals) (steps_in o) []) hb
+  where
+    its_part : slice_get s.frame.parts j ≡ Some (record p { signals = signals })
+    its_part = ap (λ (ps : List Part). slice_get ps j) parts
+        ∙ get_set (known_in x).frame.parts j p (record p { signals = signals }) hp
+
 module _ (c : ℕ) (x : Emission) (s : State) (b : SignalAssignment) (j : ℕ) (p : Part)
     (r : RunPart) (steps : List Step) (signals : Signals)
     (hp : slice_get (known_in x).frame.parts j ≡ Some p)
@@ -183,7 +200,7 @@ module _ (c : ℕ) (x : Emission) (s : State) (b : SignalAssignment) (j : ℕ) (
   part_sum v less =
       let freed : writes c (freed_at (Some j) (is_fed p.signals) (with_state s x))
       ≡ writes c (cond (not (is_fed p.signals) && is_fed signals) steps []) = ap (writes c)
-      freed_steps in
+      (freed_steps x s j p steps signals hp hb parts) in
       let waits : writes c (cond (not (is_fed p.signals) && is_fed signals) steps [])
       + cond (is_fed signals) 0 (writes c steps) ≡ cond (is_fed p.signals) 0 (writes c steps) =
       freed_weight c (is_fed p.signals) (is_fed signals) steps fed in
@@ -198,16 +215,6 @@ module _ (c : ℕ) (x : Emission) (s : State) (b : SignalAssignment) (j : ℕ) (
       x.bodies x.next =
       (λ i. weight_of c x.cells.own (own i) (parts i) x.cells.parts x.bodies x.next) in
       omega arith
-    where
-      its_part : slice_get s.frame.parts j ≡ Some (record p { signals = signals })
-      its_part = ap (λ (ps : List Part). slice_get ps j) parts
-          ∙ get_set (known_in x).frame.parts j p (record p { signals = signals }) hp
-
-      freed_steps : freed_at (Some j) (is_fed p.signals) (with_state s x)
-          ≡ cond (not (is_fed p.signals) && is_fed signals) steps []
-      freed_steps =
-          ap (λ o. freed j (is_fed p.signals) o (with_state s x)) its_part
-          ∙ ap (λ o. cond (not (is_fed p.signals) && is_fed signals) (steps_in o) []) hb
 
 -- own signals are written
 own_sum : (c v : ℕ) (x : Emission) (s : State) → s.frame.parts ≡ (known_in x).frame.parts
@@ -257,6 +264,24 @@ module _ (q : Emitting) (w : Where) (written : Assign Meant) (accessors : Access
   module _ (cost : Cost) (a : Arrow) (like : Like (known_in x) b.state)
       (is : TargetIs (known_in x) b.target)
       (done : result q.context w a cost (known_in x) b like is ≡ Ok s) where
+    abbrev pub wrote : Behind q.context w a cost (known_in x) b like is s
+    wrote = behind q.context w a cost (known_in x) b like is s done
+
+    pub own_parts : b.target.part ≡ None → s.frame.parts ≡ (known_in x).frame.parts
+    own_parts same =
+        ap (λ (t : State). t.frame.parts) wrote.wrote.is
+        ∙ ap (λ (o : Option ℕ). (with_signals o wrote.wrote.signals (known_in x).frame).parts) same
+
+    pub part_parts : (j : ℕ) (p : Part) → b.target.part ≡ Some j
+        → slice_get (known_in x).frame.parts j ≡ Some p
+        → s.frame.parts ≡ slice_set (known_in x).frame.parts j
+        (record p { signals = wrote.wrote.signals })
+    part_parts j p same hp =
+        ap (λ (t : State). t.frame.parts) wrote.wrote.is
+        ∙ ap (λ (o : Option ℕ). (with_signals o wrote.wrote.signals (known_in x).frame).parts) same
+        ∙ ap (λ (o : Option Part). (with_part_signals j wrote.wrote.signals o
+        (known_in x).frame).parts) hp
+
     pub own_wired : b.target.part ≡ None → Accounts x wired_to
     own_wired same h = (
       record {
@@ -277,10 +302,7 @@ module _ (q : Emitting) (w : Where) (written : Assign Meant) (accessors : Access
         after = behind q.context w a cost (known_in x) b like is s done
 
         parts : s.frame.parts ≡ (known_in x).frame.parts
-        parts =
-            ap (λ (t : State). t.frame.parts) after.wrote.is
-            ∙ ap (λ (o : Option ℕ). (with_signals o after.wrote.signals (known_in x).frame).parts)
-            same
+        parts = own_parts same
 
         spent_at : (c : ℕ) → Spent c (own_entry c x.cells.own) (wire_cell x.cells.own)
             (λ e. Unit {0}) (own_falls c x.cells.own) (λ e k p. tt) b.target written_now
@@ -342,11 +364,7 @@ module _ (q : Emitting) (w : Where) (written : Assign Meant) (accessors : Access
             parts : s.frame.parts ≡ slice_set (known_in x).frame.parts j
                 (record p { signals = after.wrote.signals })
             parts =
-                ap (λ (t : State). t.frame.parts) after.wrote.is
-                ∙ ap (λ (o : Option ℕ). (with_signals o after.wrote.signals
-                (known_in x).frame).parts) same
-                ∙ ap (λ (o : Option Part). (with_part_signals j after.wrote.signals o
-                (known_in x).frame).parts) hp
+                part_parts j p same hp
 
             r : (r : RunPart) × (slice_get x.cells.parts j ≡ Some r)
             r = partner (known_in x).frame.parts x.cells.parts j p h.parts hp

@@ -23,7 +23,7 @@ use Rattle.cir_meaning.specs.Simple.{set_variable, set_signal, equal, component_
 use Rattle.cir_meaning.specs.Simple.{dropped, values_of}
 use Rattle.cir_steps.specs.Emission.{Emission, Emitted, quiet, behind, then_emit, known_in}
 use Rattle.cir_steps.specs.Emission.{with_state, emit_known, made_elements, with_signal}
-use Rattle.cir_steps.specs.Making.{Emitting, made, make_assignment, wiring, freed_at, with_cast}
+use Rattle.cir_steps.specs.Making.{Emitting, make_assignment, wiring, freed_at, with_cast}
 use Rattle.cir_steps.specs.Making.{make_comparison}
 
 abbrev pub emit_set_variable : Emitting → Where → (written : Assign Meant) → ℕ → Accessors Meant

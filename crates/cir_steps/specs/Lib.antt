@@ -6,4 +6,7 @@ pub mod Emit
 pub mod Statements
 pub mod Circuit
 pub mod Written
+pub mod Read
+pub mod Places
 pub mod Running
+pub mod Lines

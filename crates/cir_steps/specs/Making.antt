@@ -5,7 +5,7 @@ use Rattle.cir_ast.specs.declared.program.Spot.{Spot}
 use Rattle.cir_ast.specs.declared.program.Meant.{Meant}
 use Rattle.cir_ast.specs.Tree.{Expr, Accessors, Assign, LogArgument, Words, LogValue, Statement}
 use Rattle.cir_meaning.specs.Tried.{Where, Tried, next}
-use Rattle.cir_meaning.specs.Places.{elements, numbers_from}
+use Rattle.cir_meaning.specs.Places.{numbers_from}
 use Rattle.cir_meaning.specs.Arrays.{Datum, item_at, is_known, put_items}
 use Rattle.cir_meaning.specs.Values.{Value}
 use Rattle.cir_meaning.specs.Frame.{Part, World, State, Context, is_fed, variable_at}

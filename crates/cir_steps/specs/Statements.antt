@@ -1,5 +1,5 @@
 -- The steps of statements and of bodies.
-use Rattle.std.specs.Prelude.{ℕ, zero, suc, false, List, [], ◌∷◌, ◌++◌, Option, None, Ok, slice_get}
+use Rattle.std.specs.Prelude.{ℕ, zero, suc, false, List, [], Option, None, Ok, slice_get}
 use Rattle.cir_ast.specs.declared.program.Spot.{Spot}
 use Rattle.cir_ast.specs.declared.program.Meant.{Meant}
 use Rattle.cir_ast.specs.declared.operators.Direction.{Direction}
