@@ -396,7 +396,7 @@ module _ (k : Setting) (program : Program) (all : List Made) (table : IsTable pr
               (ap (λ xs. xs ++ rest) moved) (λ x h e. cc);
           outside = λ m indices name e. absurd (never (all_inside (map Some indices)) e);
           known = literal_known env store;
-          unknown = λ e. refl;
+          called = λ e. refl;
         }
           where
             never : {b : Bool} → b ≡ true → b ≡ false → ⊥

@@ -1,7 +1,9 @@
--- A step with a loop, a call that calls itself, and an array: it fits, and the machine gives what
--- the statement means, or stops as it does.
-use Rattle.std.proofs.Common.{◌≡◌, ℕ, ◌<◌, false, List, [], ◌∷◌, map, max, None, Ok, Err, refl}
-use Rattle.std.proofs.Common.{arith}
+-- A step with a loop, a call that calls itself, and an array, and one with a call that has its
+-- value: they fit, and the machine gives what the statements mean, or stops as they do.
+use Rattle.std.proofs.Common.{◌≡◌, ℕ, zero, suc, ◌<◌, false, List, [], ◌∷◌, map, max, Option, Some}
+use Rattle.std.proofs.Common.{None, Ok, Err, refl, arith}
+use Rattle.std.proofs.lemmas.List.Elements.{All-from_recursion}
+use Rattle.gold_field.specs.declared.gold.TheConstants.{P}
 use Rattle.wit_code.specs.declared.code.Proc.{Proc}
 use Rattle.wit_code.specs.declared.code.Stop.TheVariants.{FuelSpent}
 use Rattle.wit_code.specs.Table.{Over, Wrote, Stopped, Next, exec, start_of}
@@ -15,7 +17,7 @@ use Rattle.cir_ast.specs.Tree.{done, index, Set, Increment, Vars, Assigned, Stat
 use Rattle.cir_ast.specs.Tree.{IfElse, While, Return, Ended, empty, then_more}
 use Rattle.cir_meaning.specs.Bodies.{most_open}
 use Rattle.cir_meaning.specs.Costs.{Made}
-use Rattle.cir_meaning.specs.RunValues.{Ran}
+use Rattle.cir_meaning.specs.RunValues.{Ran, Numbers}
 use Rattle.wit_lower.specs.Homes.{Variable, Home, Homes, Ground}
 use Rattle.wit_lower.specs.Pieces.{most_named}
 use Rattle.wit_lower.specs.Sources.{Constant, Cell, Source, Sources, scope_of, cells_read}
@@ -85,6 +87,7 @@ sources = record {
       record { name = Variable 1; dims = [] } ∷
       record { name = Variable 2; dims = [] } ∷ [];
   components = λ n. [];
+  called = λ e. None;
   list =
       source 0 0 ∷ source 0 1 ∷ source 0 2 ∷
       record { name = Variable 1; element = 0; input = Cell 7 } ∷
@@ -272,6 +275,59 @@ loop_fits = record {
           (record { home = index_home; found = refl; within = omega arith }, tt),
         ),
       ),
+    ),
+  );
+}
+
+-- { a = g(x); } where the call has its value already: it is not made, and `x` needs no shape
+abbrev valued : Expr Meant → Option Numbers
+valued (Call parallel name (meant.Function (suc zero)) arguments) =
+    Some record { dims = 3 ∷ []; items = 4 ∷ 5 ∷ 6 ∷ [] }
+valued _ = None
+
+abbrev given : Expr Meant
+given = Call false [] (meant.Function 1) (more (variable 9 done) none)
+
+abbrev given_sources : Sources
+given_sources = record sources { called = valued; list = [] }
+
+abbrev given_task : Task
+given_task =
+    task_of (Ended spot (Assigned (Set [] (meant.Variable 0) done given)))
+    (OfVariable 0 2 ∷ OfVariable 0 0 ∷ [])
+
+abbrev given_code : Proc
+given_code = step_code (step_ground [] given_sources given_task) given_sources given_task
+
+given_means : meant_by program given_sources 4 given_task (λ c. 0) 7 ≡ Ok (6 ∷ 4 ∷ [], 7)
+unfolding most_open
+given_means = refl
+
+given_does : exec [] given_code [] 40 (start_of given_code 7) ≡ Over (Wrote (6 ∷ 4 ∷ []))
+given_does = refl
+
+given_fits : StepFits [] given_sources 4 given_task
+given_fits = record {
+  shapes = (refl, omega arith, (refl, omega arith, (refl, omega arith, tt)));
+  list = tt;
+  fits = (
+    record {
+      home = array;
+      found = refl;
+      value = record {
+        small = refl;
+        count = refl;
+        numbers = All-from_recursion (λ n. n < P) (4 ∷ 5 ∷ 6 ∷ [])
+            (omega arith, (omega arith, (omega arith, tt)));
+      };
+      indices = tt;
+      rank = omega arith;
+      shape = refl;
+      may = omega arith;
+    },
+    (
+      record { home = array; found = refl; within = omega arith },
+      (record { home = array; found = refl; within = omega arith }, tt),
     ),
   );
 }

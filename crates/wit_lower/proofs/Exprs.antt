@@ -23,20 +23,21 @@ use Rattle.cir_meaning.specs.Costs.{Made}
 use Rattle.cir_meaning.specs.RunValues.{Ran, Numbers, Environment, Store, stored, gives, number}
 use Rattle.cir_meaning.specs.RunValues.{number_in, numbers_in, place_in, read_root, RunRoot}
 use Rattle.cir_meaning.specs.RunValues.{RunNamed, RunFound, the_number, index_out, unless_known}
-use Rattle.cir_meaning.specs.RunValues.{read_option, read_wired, gathered_numbers}
+use Rattle.cir_meaning.specs.RunValues.{read_option, read_wired, gathered_numbers, call_function}
 use Rattle.wit_lower.specs.Homes.{Name, Variable, Signal, Port, Home, Homes, Ground, Front, Named}
 use Rattle.wit_lower.specs.Homes.{Found, Lost, find, home_of, port_at, slots_of, offset, row}
 use Rattle.wit_lower.specs.Pieces.{Code, either, bounds, read_code, binary_code, decided, lazy_code}
-use Rattle.wit_lower.specs.Pieces.{choice_code}
+use Rattle.wit_lower.specs.Pieces.{choice_code, constants}
 use Rattle.wit_lower.specs.Values.{shape_of, shapes_of, size_of, place_shape, part_shape, expr_code}
 use Rattle.wit_lower.specs.Values.{exprs_code, place_code, number_of, call_code, count_of}
-use Rattle.wit_lower.specs.Fits.{AreLaid, IsCalled, HasHome, EndFits, IsLiteral, HaveShape, Sides}
-use Rattle.wit_lower.specs.Fits.{Fits, AllFit, PlaceFits}
+use Rattle.wit_lower.specs.Values.{called_shape, unless_called}
+use Rattle.wit_lower.specs.Fits.{AreLaid, UnlessCalled, IsCalled, HasHome, EndFits, IsLiteral}
+use Rattle.wit_lower.specs.Fits.{HaveShape, Sides, Fits, AllFit, PlaceFits}
 use Rattle.wit_lower.proofs.Does.{Setting, Does, does_next, does_same, does_weaker, gives as there}
 use Rattle.wit_lower.proofs.Does.{misses, HasAt, has_front, has_back}
 use Rattle.wit_lower.proofs.Frames.{Below, below_itself, below_then, row_below}
 use Rattle.wit_lower.proofs.Spots.{Spot, here, body_at, IsWide, step_at, at_state}
-use Rattle.wit_lower.proofs.Pieces.{bounds_do}
+use Rattle.wit_lower.proofs.Pieces.{bounds_do, constants_go}
 use Rattle.wit_lower.proofs.Shows.{Carries, CarriesSome, CarriesFound, Shows, Lies, lies}
 use Rattle.wit_lower.proofs.Shows.{shows_below}
 use Rattle.wit_lower.proofs.Parts.{Valued, stored_does, wired_does, slots_are}
@@ -491,24 +492,41 @@ module _ (k : Setting) (sp : Spot) (params : ℕ → ℕ) (width : ℕ)
           (q1 + 1 + length (one (q1 + 1))) [] f f1 u v refl b1 le
           (da (q1 + 1) f1 v b1 h)))
 
-  call_does : (parallel : Bool) (name : List ℕ) (m : Meant) (arguments : Exprs Meant)
-      (top p : ℕ) (f : List ℕ) (u : ℕ) → length f ≡ width → Shows g env homes store f
-      → IsCalled g.keys m (shapes_of g homes arguments)
+  -- a call that has its value isn't made
+  value_does : (o : Option Numbers) (call : Type 0) (top p : ℕ) (f : List ℕ) (u : ℕ)
+      (code : Code) (m : Ran Numbers) → length f ≡ width → UnlessCalled o call
+      → (call → HasAt (body_at k sp) p code
+      → Does k (here sp p f u) m (Valued sp top (p + length code) [] f u))
+      → HasAt (body_at k sp) p (unless_called o top code)
+      → Does k (here sp p f u) (unless_known o u m)
+      (Valued sp top (p + length (unless_called o top code)) (called_shape o) f u)
+  value_does None call top p f u code m len fits go at = go fits at
+  value_does (Some d) call top p f u code m len fits go at =
+      let Q : (Numbers × ℕ → State → Type 0) =
+      Valued sp top (p + length (constants top d.items)) d.dims f u in
+      constants_go k sp params width wide Q (gives d u) d.items top p f u len fits.numbers at
+      (λ f1 c. there k Q (here sp (p + length (constants top d.items)) f1 u) (d, u) record {
+        slots = f1;
+        is = refl;
+        same = record { size = c.size; under = c.under };
+        value = ap (λ xs. record { dims = d.dims; items = xs }) (sym c.row_is ∙
+            ap (row f1 top) (fits.count ∙ sym (slots_are d.dims fits.small)));
+        less = omega arith;
+      })
+
+  call_does : (m : Meant) (arguments : Exprs Meant) (top p : ℕ) (f : List ℕ) (u : ℕ)
+      → length f ≡ width → IsCalled g.keys m (shapes_of g homes arguments)
       → HasAt (body_at k sp) (p + length (exprs_code g homes top p arguments))
       (call_code g.keys top m (shapes_of g homes arguments))
       → Does k (here sp p f u) (numbers_in env store arguments u)
       (Valueds sp top (p + length (exprs_code g homes top p arguments))
       (shapes_of g homes arguments) f u)
-      → Does k (here sp p f u) (number_in env store (Call parallel name m arguments) u)
-      (Valued sp top (p + length (expr_code g homes top p (Call parallel name m arguments))) [] f u)
-  call_does parallel name (meant.Function n) arguments top p f u len shows key (e, h) d =
-      does_same k Q (here sp p f u) (next (numbers_in env store arguments u) (λ x. env.call n x.0
-      x.1))
-      (number_in env store (Call parallel name (meant.Function n) arguments) u)
-      (ap (λ o. unless_known o u (next (numbers_in env store arguments u)
-      (λ x. env.call n x.0 x.1))) (sym (shows.unknown _)))
-      (does_next k (Valueds sp top q shapes f u) Q (here sp p f u) (numbers_in env store arguments
-      u)
+      → Does k (here sp p f u)
+      (next (numbers_in env store arguments u) (λ x. call_function env m x.0 x.1))
+      (Valued sp top (p + length (exprs_code g homes top p arguments ++
+      call_code g.keys top m (shapes_of g homes arguments))) [] f u)
+  call_does (meant.Function n) arguments top p f u len key (e, h) d =
+      does_next k (Valueds sp top q shapes f u) Q (here sp p f u) (numbers_in env store arguments u)
       (λ x. env.call n x.0 x.1) d
       (λ x t em y. at_state k Q (here sp q y.slots x.1) t (env.call n x.0 x.1) y.is
       (does_same k Q (here sp q y.slots x.1)
@@ -520,7 +538,7 @@ module _ (k : Setting) (sp : Spot) (params : ℕ → ℕ) (width : ℕ)
       (env.call key.found.function (args_of key.found.shapes y.slots top) x.1)
       (calls.runs number key.found key.there top q y.slots x.1 (y.same.size ∙ len) e)
       (λ a s v. valued_later sp top (q + 1) end [] f y.slots u x.1 a s v y.same y.less
-      (omega (arith, length-append first (op.Call number top top ∷ []))))))))
+      (omega (arith, length-append first (op.Call number top top ∷ [])))))))
     where
       shapes : List (List ℕ)
       shapes = shapes_of g homes arguments
@@ -539,11 +557,11 @@ module _ (k : Setting) (sp : Spot) (params : ℕ → ℕ) (width : ℕ)
 
       Q : Numbers × ℕ → State → Type 0
       Q = Valued sp top end [] f u
-  call_does parallel name meant.Other arguments top p f u len shows key at d = absurd key
-  call_does parallel name (meant.Variable n) arguments top p f u len shows key at d = absurd key
-  call_does parallel name (meant.Signal w n) arguments top p f u len shows key at d = absurd key
-  call_does parallel name (meant.Component n) arguments top p f u len shows key at d = absurd key
-  call_does parallel name (meant.Template n) arguments top p f u len shows key at d = absurd key
+  call_does meant.Other arguments top p f u len key at d = absurd key
+  call_does (meant.Variable n) arguments top p f u len key at d = absurd key
+  call_does (meant.Signal w n) arguments top p f u len key at d = absurd key
+  call_does (meant.Component n) arguments top p f u len key at d = absurd key
+  call_does (meant.Template n) arguments top p f u len key at d = absurd key
 
   mutual
     pub expr_does : (e : Expr Meant) (top p : ℕ) (f : List ℕ) (u : ℕ) → low ≤ top
@@ -559,11 +577,23 @@ module _ (k : Setting) (sp : Spot) (params : ℕ → ℕ) (width : ℕ)
     expr_does (Place name m accessors) top p f u le len shows fits at =
         place_does accessors (Named m) record { dims = []; items = [] } [] [] top p f u le len refl
         tt tt shows fits at
-    expr_does (Call parallel name m arguments) top p f u le len shows (all, called) at =
-        call_does parallel name m arguments top p f u len shows called
-        (has_back (body_at k sp) p (exprs_code g homes top p arguments) _ at)
-        (exprs_does arguments top p f u le len shows all
-        (has_front (body_at k sp) p (exprs_code g homes top p arguments) _ at))
+    expr_does (Call parallel name m arguments) top p f u le len shows fits at =
+        let e : Expr Meant = Call parallel name m arguments in
+        let shapes : List (List ℕ) = shapes_of g homes arguments in
+        let one : Code = exprs_code g homes top p arguments in
+        let code : Code = one ++ call_code g.keys top m shapes in
+        let Q : (Numbers × ℕ → State → Type 0) =
+        Valued sp top (p + length (unless_called (g.called e) top code)) (called_shape (g.called e))
+        f u in
+        let call : Ran Numbers =
+        next (numbers_in env store arguments u) (λ x. call_function env m x.0 x.1) in
+        does_same k Q (here sp p f u) (unless_known (g.called e) u call)
+        (unless_known (env.known e) u call) (ap (λ o. unless_known o u call) (sym (shows.called e)))
+        (value_does (g.called e) (AllFit g homes arguments × IsCalled g.keys m shapes) top p f u
+        code call len fits
+        (λ made h. call_does m arguments top p f u len made.1 (has_back (body_at k sp) p one _ h)
+        (exprs_does arguments top p f u le len shows made.0 (has_front (body_at k sp) p one _ h)))
+        at)
     expr_does (Anonymous parallel name m arguments inputs) top p f u le len shows fits at =
         absurd fits
     expr_does (Parentheses e) top p f u le len shows fits at =

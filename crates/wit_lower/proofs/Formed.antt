@@ -17,15 +17,16 @@ use Rattle.cir_ast.specs.Tree.{Binary, Choice, Exprs, none, more, Accessors, don
 use Rattle.cir_meaning.specs.Places.{elements}
 use Rattle.cir_meaning.specs.Operators.{Operator, Strict, And, Or, operator_of}
 use Rattle.cir_meaning.specs.Costs.{Made}
+use Rattle.cir_meaning.specs.RunValues.{Numbers}
 use Rattle.wit_lower.specs.Homes.{Home, Homes, Ground, Front, Named, home_of, port_of}
 use Rattle.wit_lower.specs.Homes.{component_dims, slots_of}
 use Rattle.wit_lower.specs.Pieces.{Code, unless_zero, either, turned, truth_code, binary_code}
 use Rattle.wit_lower.specs.Pieces.{decided, lazy_code, choice_code, moves, loads, stores, zeros}
-use Rattle.wit_lower.specs.Pieces.{bounds, offset_code, read_code, write_code}
+use Rattle.wit_lower.specs.Pieces.{constants, bounds, offset_code, read_code, write_code}
 use Rattle.wit_lower.specs.Values.{size_of, shapes_of, expr_code, exprs_code, place_code}
-use Rattle.wit_lower.specs.Values.{indices_code, call_code}
-use Rattle.wit_lower.specs.Fits.{IsCalled, UnlessSkipped, Sides, Fits, AllFit, PlaceFits}
-use Rattle.wit_lower.specs.Fits.{IndicesFit}
+use Rattle.wit_lower.specs.Values.{indices_code, call_code, unless_called}
+use Rattle.wit_lower.specs.Fits.{UnlessCalled, IsCalled, UnlessSkipped, Sides, Fits, AllFit}
+use Rattle.wit_lower.specs.Fits.{PlaceFits, IndicesFit}
 use Rattle.wit_lower.proofs.Does.{HasAt, has_front, has_back}
 use Rattle.wit_lower.proofs.Operators.{unless_map}
 use Rattle.wit_lower.proofs.Exprs.{left_at, sides_map}
@@ -109,6 +110,16 @@ module _ (keys : List Made) (stands : Stands) (body : List Op) where
   pub zeros_formed : (to n p : ℕ) → IsFormed p (zeros to n)
   zeros_formed to zero p = tt
   zeros_formed to (suc n) p = ((small_zero, tt), zeros_formed (to + 1) n (p + 1))
+
+  constants_formed : (to : ℕ) (ns : List ℕ) (p : ℕ) → IsFormed p (constants to ns)
+  constants_formed to [] p = tt
+  constants_formed to (n ∷ ns) p = ((small_rest n, tt), constants_formed (to + 1) ns (p + 1))
+
+  called_formed : (o : Option Numbers) (call : Type 0) (top p : ℕ) (code : Code)
+      → UnlessCalled o call → (call → HasAt body p code → IsFormed p code)
+      → HasAt body p (unless_called o top code) → IsFormed p (unless_called o top code)
+  called_formed None call top p code fits go at = go fits at
+  called_formed (Some d) call top p code fits go at = constants_formed top d.items p
 
   bounds_formed : (s : ℕ) (dims : List ℕ) (n p : ℕ) → IsFormed p (bounds s dims n)
   bounds_formed s [] n p = tt
@@ -327,12 +338,15 @@ module _ (stands : Stands) (body : List Op) (g : Ground) (homes : Homes) where
     expr_formed (Number n) top p fits at = ((small_rest n, tt), tt)
     expr_formed (Place name m accessors) top p fits at =
         place_formed accessors (Named m) [] top p fits at
-    expr_formed (Call parallel name m arguments) top p (all, called) at =
+    expr_formed (Call parallel name m arguments) top p fits at =
         let one : Code = exprs_code g homes top p arguments in
-        let two : Code = call_code g.keys top m (shapes_of g homes arguments) in
-        formed_append g.keys stands body p one two
-        (exprs_formed arguments top p all (has_front body p one two at))
-        (call_formed top (p + length one) m (shapes_of g homes arguments) called)
+        let shapes : List (List ℕ) = shapes_of g homes arguments in
+        let two : Code = call_code g.keys top m shapes in
+        called_formed g.keys stands body (g.called (Call parallel name m arguments))
+        (AllFit g homes arguments × IsCalled g.keys m shapes) top p (one ++ two) fits
+        (λ made h. formed_append g.keys stands body p one two
+        (exprs_formed arguments top p made.0 (has_front body p one two h))
+        (call_formed top (p + length one) m shapes made.1)) at
     expr_formed (Anonymous parallel name m arguments inputs) top p fits at = absurd fits
     expr_formed (Parentheses e) top p fits at = expr_formed e top p fits at
     expr_formed (Array none) top p fits at = absurd fits

@@ -19,14 +19,15 @@ use Rattle.cir_ast.specs.Tree.{For, Return, Assert, Log, Ended, Statements, empt
 use Rattle.cir_meaning.specs.Places.{elements}
 use Rattle.cir_meaning.specs.Operators.{Operator, Strict, And, Or, operator_of}
 use Rattle.cir_meaning.specs.Reached.{indices_count}
+use Rattle.cir_meaning.specs.RunValues.{Numbers}
 use Rattle.cir_meaning.specs.Writing.{plain}
 use Rattle.wit_lower.specs.Homes.{Home, Homes, Ground, Scope, Front, Named, home_of, port_of}
 use Rattle.wit_lower.specs.Homes.{component_dims, slots_of}
 use Rattle.wit_lower.specs.Pieces.{Code, unless_zero, either, turned, truth_code, binary_code}
 use Rattle.wit_lower.specs.Pieces.{decided, lazy_code, choice_code, moves, loads, stores, zeros}
-use Rattle.wit_lower.specs.Pieces.{bounds, offset_code, read_code, write_code}
+use Rattle.wit_lower.specs.Pieces.{constants, bounds, offset_code, read_code, write_code}
 use Rattle.wit_lower.specs.Values.{size_of, shapes_of, expr_code, exprs_code, place_code}
-use Rattle.wit_lower.specs.Values.{indices_code, call_code}
+use Rattle.wit_lower.specs.Values.{indices_code, call_code, unless_called}
 use Rattle.wit_lower.specs.Statements.{set_code, plain_code, assign_code, dims_code, known_dims}
 use Rattle.wit_lower.specs.Statements.{variable_scope, value_code, variable_code, variables_code}
 use Rattle.wit_lower.specs.Statements.{first_scope, first_code, simple_code, scope_behind}
@@ -98,6 +99,10 @@ stores_inner base s from (suc n) low high =
 zeros_inner : (to n low high : ℕ) → Inner low high (zeros to n)
 zeros_inner to zero low high = tt
 zeros_inner to (suc n) low high = (tt, zeros_inner (to + 1) n low high)
+
+constants_inner : (to : ℕ) (ns : List ℕ) (low high : ℕ) → Inner low high (constants to ns)
+constants_inner to [] low high = tt
+constants_inner to (n ∷ ns) low high = (tt, constants_inner (to + 1) ns low high)
 
 bounds_inner : (s : ℕ) (dims : List ℕ) (n low high : ℕ) → Inner low high (bounds s dims n)
 bounds_inner s [] n low high = tt
@@ -220,6 +225,11 @@ choice_whole None s p first second a b =
 choice_whole (Some zero) s p first second a b = b p
 choice_whole (Some (suc m)) s p first second a b = a p
 
+called_whole : (o : Option Numbers) (top p : ℕ) (call : Code) → IsWhole p call
+    → IsWhole p (unless_called o top call)
+called_whole None top p call h = h
+called_whole (Some d) top p call h = constants_inner top d.items p _
+
 module _ (g : Ground) where
   call_whole : (top p : ℕ) (m : Meant) (shapes : List (List ℕ))
       → IsWhole p (call_code g.keys top m shapes)
@@ -238,9 +248,10 @@ module _ (g : Ground) where
         place_whole homes accessors (Named m) [] top p
     expr_whole homes (Call parallel name m arguments) top p =
         let one : Code = exprs_code g homes top p arguments in
-        whole_append p one (call_code g.keys top m (shapes_of g homes arguments))
-        (exprs_whole homes arguments top p)
-        (call_whole top (p + length one) m (shapes_of g homes arguments))
+        let two : Code = call_code g.keys top m (shapes_of g homes arguments) in
+        called_whole (g.called (Call parallel name m arguments)) top p (one ++ two)
+        (whole_append p one two (exprs_whole homes arguments top p)
+        (call_whole top (p + length one) m (shapes_of g homes arguments)))
     expr_whole homes (Anonymous parallel name m arguments inputs) top p = tt
     expr_whole homes (Parentheses e) top p = expr_whole homes e top p
     expr_whole homes (Array elements) top p = exprs_whole homes elements top p

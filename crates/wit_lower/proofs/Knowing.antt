@@ -25,13 +25,14 @@ use Rattle.cir_meaning.specs.Values.{truth_number}
 use Rattle.cir_meaning.specs.RunValues.{Ran, Numbers, Environment, Store, stored, gives, number}
 use Rattle.cir_meaning.specs.RunValues.{number_in, place_in, RunNamed, read_stored, read_root}
 use Rattle.cir_meaning.specs.RunValues.{the_number, when, needs_right, result_number}
-use Rattle.cir_meaning.specs.RunValues.{unless_zero_divisor, index_out}
+use Rattle.cir_meaning.specs.RunValues.{unless_zero_divisor, index_out, unless_known, numbers_in}
+use Rattle.cir_meaning.specs.RunValues.{call_function}
 use Rattle.wit_lower.specs.Homes.{Variable, Home, find, offset, slots_of}
 use Rattle.wit_lower.specs.Sources.{Input, Constant, Cell, Sources, scope_of, input_of, number_from}
 use Rattle.wit_lower.specs.Sources.{read_at, environment_of, all_numbers, store_of}
 use Rattle.wit_lower.specs.Known.{constant_of, element_known, variable_known, unary_known}
 use Rattle.wit_lower.specs.Known.{both_known, power_known, strict_known, binary_known, choice_known}
-use Rattle.wit_lower.specs.Known.{number_known, place_known}
+use Rattle.wit_lower.specs.Known.{one_known, called_known, number_known, place_known}
 use Rattle.wit_lower.specs.Steps.{ShapesFit, SourcesFit}
 use Rattle.wit_lower.proofs.Places.{checked, checked_is, checked_fits, left_is, places_are}
 use Rattle.wit_lower.proofs.Shows.{Lies, lies}
@@ -53,6 +54,17 @@ both (Err s) go x e = cc
 given : (n v : ℕ) (x : Numbers × ℕ) → ◌≡◌ {A = Ran Numbers} (gives (single n) v) (Ok x)
     → the_number x.0 ≡ n
 given n v x e = let same : (single n, v) ≡ x = cc in ap (λ y. the_number y.0) (sym same)
+
+-- a call that has its value
+called_is : (o : Option Numbers) (n u : ℕ) (x : Numbers × ℕ) (call : Ran Numbers)
+    → called_known o ≡ Some n → unless_known o u call ≡ Ok x → the_number x.0 ≡ n
+called_is None n u x call e ran = cc
+called_is (Some d) n u x call e ran =
+    let same : (d, u) ≡ x = cc in ap (λ y. the_number y.0) (sym same) ∙ one d.dims e
+  where
+    one : (dims : List ℕ) → one_known dims (the_number d) ≡ Some n → the_number d ≡ n
+    one [] e = cc
+    one (m ∷ ms) e = cc
 
 -- the operands that are known where a result is
 record UnaryKnown (f : ℕ → ℕ) (a : Option ℕ) (n : ℕ) : Type 0 where
@@ -330,7 +342,9 @@ module _ (sources : Sources) (cells : ℕ → ℕ) (call : ℕ → List Numbers 
         given (m % P) u x ran ∙ same
     number_is (Place name m accessors) n u x e ran =
         place_is accessors m [] [] n u x tt e ran
-    number_is (Call parallel name m arguments) n u x e ran = cc
+    number_is (Call parallel name m arguments) n u x e ran =
+        called_is (sources.called (Call parallel name m arguments)) n u x
+        (next (numbers_in env store arguments u) (λ (ds, u1). call_function env m ds u1)) e ran
     number_is (Anonymous parallel name m arguments inputs) n u x e ran = cc
     number_is (Parentheses a) n u x e ran = number_is a n u x e ran
     number_is (Array elements) n u x e ran = cc

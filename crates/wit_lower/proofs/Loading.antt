@@ -195,7 +195,8 @@ module _ (program : Program) (keys : List Made) (sources : Sources) (variables :
       shows : Shows g env s.homes first frame
       shows = step_shows sources cells (run_call program most_open) variables fits.shapes fits.list
           own.slots (have_slots (params_at keys) own.slots (one ++ two) wide order s.homes
-          sources.list 0 (has_front (one ++ two) 0 one two at)) g refl (known first (λ n e. refl))
+          sources.list 0 (has_front (one ++ two) 0 one two at)) g refl refl
+          (known first (λ n e. refl))
 
   -- a task that changes no variable but those of its list
   abbrev Free : ℕ → Type 0

@@ -61,7 +61,7 @@ pub record Decides (o : Operator) (left : Option ℕ) (n : ℕ) : Type 0 where
   pub told : left ≡ Some number
   pub skips : (mb : ℕ → Ran Numbers) (v : ℕ) → right_of o mb number v ≡ gives (single n) v
 
-decides : (o : Operator) (left : Option ℕ) (n : ℕ) → decided o left ≡ Some n → Decides o left n
+pub decides : (o : Operator) (left : Option ℕ) (n : ℕ) → decided o left ≡ Some n → Decides o left n
 decides (Strict o) left n e = cc
 decides And None n e = cc
 decides Or None n e = cc

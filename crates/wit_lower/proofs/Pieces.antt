@@ -3,19 +3,20 @@ use Rattle.std.proofs.Common.{◌≡◌, ℕ, zero, suc, ◌+◌, ◌*◌, ◌%�
 use Rattle.std.proofs.Common.{cond, List, [], ◌∷◌, length, map, Some, Result, Ok, Err, refl, sym}
 use Rattle.std.proofs.Common.{ap, ap₂, subst, ◌∙◌, arith, length-set, length-append, inl, inr, ◌⊎◌}
 use Rattle.std.proofs.Common.{mod-eq_of_lt, mul-le-mul_right, suc-mul, mul-one}
-use Rattle.std.specs.Prelude.{slice_index, slice_set, nat_lt, ◌==◌, ◌&&◌}
+use Rattle.std.specs.Prelude.{All, slice_index, slice_set, nat_lt, ◌==◌, ◌&&◌}
 use Rattle.std.proofs.lemmas.Bool.{cases_lt, ltb-true, lt-ltb, eqb-true}
 use Rattle.gold_field.specs.declared.gold.TheConstants.{P}
 use Rattle.gold_field.specs.declared.operators.Op2.TheVariants as op2
 use Rattle.wit_code.specs.declared.code.Op.{Op}
 use Rattle.wit_code.specs.declared.code.Op.TheVariants as op
 use Rattle.wit_code.specs.declared.code.Stop.TheVariants.{IndexOut}
-use Rattle.wit_code.specs.Table.{State, unless, put}
+use Rattle.wit_code.specs.Table.{State, Goes, unless, put}
 use Rattle.cir_meaning.specs.Tried.{next}
 use Rattle.cir_meaning.specs.Places.{elements, is_inside}
 use Rattle.cir_meaning.specs.RunValues.{index_out}
 use Rattle.wit_lower.specs.Homes.{row}
-use Rattle.wit_lower.specs.Pieces.{turned, moves, loads, stores, zeros, bounds, offset_code}
+use Rattle.wit_lower.specs.Pieces.{turned, moves, loads, stores, zeros, constants, bounds}
+use Rattle.wit_lower.specs.Pieces.{offset_code}
 use Rattle.wit_lower.proofs.Does.{Setting, Does, does_need, does_next, does_same, gives, HasAt}
 use Rattle.wit_lower.proofs.Does.{has_front, has_back}
 use Rattle.wit_lower.proofs.Frames.{set_same, set_other, Below, below_itself, below_then, below_set}
@@ -97,6 +98,21 @@ zeroed_first f g to n within c = record {
     got (suc k) h =
         let a : to + suc k ≡ to + 1 + k = omega arith in
         ap (slice_index g) a ∙ c.got k (omega (arith, h))
+
+-- numbers that are given stand in a row of slots
+pub record Given (f g : List ℕ) (to : ℕ) (ns : List ℕ) : Type 0 where
+  pub size : length g ≡ length f
+  pub row_is : row g to (length ns) ≡ ns
+  pub under : (k : ℕ) → k < to → slice_index g k ≡ slice_index f k
+
+given_first : (f g : List ℕ) (to n : ℕ) (ns : List ℕ) → to < length f
+    → Given (slice_set f to n) g (to + 1) ns → Given f g to (n ∷ ns)
+given_first f g to n ns within c = record {
+  size = c.size ∙ length-set f to n;
+  row_is = ap₂ (λ x xs. x ∷ xs) (c.under to (omega arith) ∙ set_same f to n within) c.row_is;
+  under = λ k h. c.under k (omega (arith, h)) ∙
+      set_other f to k _ (λ e. absurd (omega (arith, h, e)));
+}
 
 -- the place of an element stands in slot `s`
 pub record Offset (sp : Spot) (s q : ℕ) (f : List ℕ) (u o : ℕ) (t : State) : Type 0 where
@@ -211,6 +227,28 @@ module _ (k : Setting) (sp : Spot) (params : ℕ → ℕ) (width : ℕ)
         (zeros_go (to + 1) n (p + 1) (slice_set f to 0) u (length-set f to 0 ∙ len) h
         (λ g c. at_place k sp Q (p + suc (length (zeros (to + 1) n))) _ g u m (omega arith)
         (go g (zeroed_first f g to n (omega (arith, room, len)) c))))
+
+    pub constants_go : (ns : List ℕ) (to p : ℕ) (f : List ℕ) (u : ℕ) → length f ≡ width
+        → All (λ n. n < P) ns → HasAt (body_at k sp) p (constants to ns)
+        → ((g : List ℕ) → Given f g to ns
+        → Does k (here sp (p + length (constants to ns)) g u) m Q)
+        → Does k (here sp p f u) m Q
+    constants_go [] to p f u len less h go =
+        at_place k sp Q (p + 0) p f u m (omega arith) (go f record {
+          size = refl;
+          row_is = refl;
+          under = λ x l. refl;
+        })
+    constants_go (n ∷ ns) to p f u len less (e, h) go =
+        let room : to + 1 ≤ width = wide p (op.Const to (n % P)) e in
+        let small : n < P = less 0 0 (omega arith) in
+        let is : n % P ≡ n = mod-eq_of_lt small in
+        let rest : All (λ n. n < P) ns = λ k d l. less (suc k) d (omega (arith, l)) in
+        op_goes k sp Q p f u (op.Const to (n % P)) (here sp (p + 1) (slice_set f to n) u) m e
+        (ap (λ v. Goes (here sp (p + 1) (slice_set f to v) u)) is)
+        (constants_go ns (to + 1) (p + 1) (slice_set f to n) u (length-set f to n ∙ len) rest h
+        (λ g c. at_place k sp Q (p + suc (length (constants (to + 1) ns))) _ g u m (omega arith)
+        (go g (given_first f g to n ns (omega (arith, room, len)) c))))
 
     pub bounds_do : (dims : List ℕ) (n s p : ℕ) (f : List ℕ) (u : ℕ)
         → HasAt (body_at k sp) p (bounds s dims n)

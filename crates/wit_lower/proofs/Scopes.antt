@@ -33,7 +33,12 @@ stored_other store n m d h =
 
 -- what is known may change with an assignment
 abbrev pub behind : Ground → (Expr Meant → Option ℕ) → Ground
-behind g after = record { keys = g.keys; known = after; components = g.components }
+behind g after = record {
+  keys = g.keys;
+  known = after;
+  called = g.called;
+  components = g.components;
+}
 
 -- only the slots of one home, and free slots, have new numbers
 pub record OnlyIn (h : Home) (top : ℕ) (f f' : List ℕ) : Type 0 where
@@ -53,7 +58,7 @@ shows_set g after env homes store top n h f f' l eh room only shows known = reco
   each = λ x j ex. each x j ex;
   outside = shows.outside;
   known = known;
-  unknown = shows.unknown;
+  called = shows.called;
 }
   where
     d : Numbers
@@ -150,7 +155,7 @@ shows_outer g env homes store n h f fresh shows = record {
   each = λ x j ex. shows.each x j (at x j ex (same_name x (Variable n)) refl);
   outside = shows.outside;
   known = shows.known;
-  unknown = shows.unknown;
+  called = shows.called;
 }
   where
     at : (x : Name) (j : Home) → find x homes ≡ Some j → (b : Bool)
@@ -178,7 +183,7 @@ shows_new g env s store n dims f f' l small room fresh zeroed shows known = reco
   each = λ x j ex. each x j (same_name x (Variable n)) refl ex;
   outside = shows.outside;
   known = known;
-  unknown = shows.unknown;
+  called = shows.called;
 }
   where
     d : Numbers

@@ -292,9 +292,9 @@ module _ (sources : Sources) (cells : ℕ → ℕ) (call : ℕ → List Numbers 
       (subst (λ o. CarriesFound (or_missing (read_at sources cells (Port n j name) o)) h.dims
       (row frame h.base (slots_of h.dims))) (sym ex) (carries (Port n j name) h ex)))
 
-  pub step_shows : (g : Ground) → g.components ≡ sources.components → KnownAt g env store
-      → Shows g env homes store frame
-  step_shows g same known = record {
+  pub step_shows : (g : Ground) → g.components ≡ sources.components → g.called ≡ sources.called
+      → KnownAt g env store → Shows g env homes store frame
+  step_shows g same valued known = record {
     each = λ x h ex. subst (λ c. Held c env store x h.dims (row frame h.base (slots_of h.dims)))
         (sym same) (each_held x h ex);
     outside = λ n indices name e. ap (λ b. cond b
@@ -302,5 +302,5 @@ module _ (sources : Sources) (cells : ℕ → ℕ) (call : ℕ → List Numbers 
         (Err index_out))
         (ap (λ c. is_inside (c n) (map Some indices)) (sym same) ∙ e);
     known = known;
-    unknown = λ e. refl;
+    called = λ e. ap (λ c. c e) (sym valued);
   }

@@ -54,7 +54,7 @@ pub record Shows (g : Ground) (env : Environment) (homes : Homes) (store : Store
       → is_inside (g.components n) (map Some indices) ≡ false
       → env.part n indices name ≡ Err index_out
   pub known : KnownAt g env store
-  pub unknown : (e : Expr Meant) → env.known e ≡ None
+  pub called : (e : Expr Meant) → env.known e ≡ g.called e
 
 -- where homes lie
 pub record Lies (top : ℕ) (h : Home) : Type 0 where
@@ -85,7 +85,7 @@ shows_below g env homes store top f f' l b s = record {
       (s.each x h e);
   outside = s.outside;
   known = s.known;
-  unknown = s.unknown;
+  called = s.called;
 }
 
 -- a part of it, where all its elements are there

@@ -1,7 +1,8 @@
 -- What has to fit in a statement so that it has code: names have homes, shapes fit, and calls have
 -- their keys.
 use Rattle.std.specs.Prelude.{◌≡◌, ℕ, zero, suc, ◌+◌, ◌≤◌, false, List, [], ◌∷◌, ◌++◌, length, drop}
-use Rattle.std.specs.Prelude.{Option, Some, None, slice_get}
+use Rattle.std.specs.Prelude.{◌<◌, All, Option, Some, None, slice_get}
+use Rattle.gold_field.specs.declared.gold.TheConstants.{P}
 use Rattle.cir_ast.specs.declared.program.Spot.{Spot}
 use Rattle.cir_ast.specs.declared.program.Meant.{Meant}
 use Rattle.cir_ast.specs.declared.program.Meant.TheVariants as meant
@@ -10,7 +11,9 @@ use Rattle.cir_ast.specs.Tree.{Binary, Choice, Exprs, none, more, Accessors, don
 use Rattle.cir_ast.specs.Tree.{Variable as Declared, Assign, Set, First, FirstVars, FirstAssign}
 use Rattle.cir_ast.specs.Tree.{Simple, Vars, Assigned, Statement, Block, If, IfElse, While, For}
 use Rattle.cir_ast.specs.Tree.{Return, Assert, Log, Ended, Statements, empty, then_more}
+use Rattle.cir_meaning.specs.Places.{elements}
 use Rattle.cir_meaning.specs.Limits.{is_too_large}
+use Rattle.cir_meaning.specs.RunValues.{Numbers}
 use Rattle.cir_meaning.specs.Costs.{Made}
 use Rattle.wit_lower.specs.Homes.{Variable, Home, Homes, Scope, Ground, Front, Named, Found, Lost}
 use Rattle.wit_lower.specs.Homes.{find, home_of, port_of, with_variable, slots_of}
@@ -34,6 +37,17 @@ pub record HasKey (keys : List Made) (key : Made) : Type 0 where
   pub there : slice_get keys (number_of keys key) ≡ Some found
   pub function : found.function ≡ key.function
   pub shapes : found.shapes ≡ key.shapes
+
+-- a value has all its elements, which are numbers of the field, and is not too large
+pub record AreNumbers (d : Numbers) : Type 0 where
+  pub small : is_too_large d.dims ≡ false
+  pub count : length d.items ≡ elements d.dims
+  pub numbers : All (λ n. n < P) d.items
+
+-- of a call that has its value already no argument has to fit, and it has no key
+abbrev pub UnlessCalled : Option Numbers → (call : Type 0) → Type 0
+UnlessCalled None call = call
+UnlessCalled (Some d) call = AreNumbers d
 
 abbrev pub IsCalled : List Made → Meant → List (List ℕ) → Type 0
 IsCalled keys (meant.Function f) shapes = HasKey keys record { function = f; shapes = shapes }
@@ -78,7 +92,8 @@ abbrev mutual
   Fits g homes (Number n) = Unit {0}
   Fits g homes (Place name m accessors) = PlaceFits g homes (Named m) [] accessors
   Fits g homes (Call parallel name m arguments) =
-      AllFit g homes arguments × IsCalled g.keys m (shapes_of g homes arguments)
+      UnlessCalled (g.called (Call parallel name m arguments))
+      (AllFit g homes arguments × IsCalled g.keys m (shapes_of g homes arguments))
   Fits g homes (Anonymous parallel name m arguments inputs) = ⊥
   Fits g homes (Parentheses e) = Fits g homes e
   Fits g homes (Array none) = ⊥

@@ -8,6 +8,7 @@ use Rattle.cir_ast.specs.Tree.{Expr}
 use Rattle.cir_meaning.specs.Places.{elements, all_known, is_inside}
 use Rattle.cir_meaning.specs.Limits.{is_too_large}
 use Rattle.cir_meaning.specs.Costs.{Made}
+use Rattle.cir_meaning.specs.RunValues.{Numbers}
 
 -- a port is a signal of an element of a component
 pub data Name : Type 0 where
@@ -54,11 +55,12 @@ with_variable n dims s = record {
 }
 
 -- what stays the same in the whole code: the procedures, by their function and the shapes of its
--- arguments; the numbers that dimensions and indices of components have; and the dimensions of
--- arrays of components
+-- arguments; the numbers that dimensions and indices of components have; the calls that have their
+-- value already, which aren't made; and the dimensions of arrays of components
 pub record Ground : Type 0 where
   pub keys : List Made
   pub known : Expr Meant → Option ℕ
+  pub called : Expr Meant → Option Numbers
   pub components : ℕ → List ℕ
 
 -- the place of an element in its array: an index counts whole rows

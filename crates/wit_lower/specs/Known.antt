@@ -1,6 +1,6 @@
 -- The number that an expression of a step has whatever the step reads: that of dimensions, of
--- indices of components, and of what skips an operand. It comes from numbers and from constant
--- elements of variables; a power by 0 is 1, whatever its base.
+-- indices of components, and of what skips an operand. It comes from numbers, from constant
+-- elements of variables and from calls that have their value; a power by 0 is 1, whatever its base.
 use Rattle.std.specs.Prelude.{ℕ, zero, ◌%◌, ◌==◌, ◌&&◌, if◌then◌else◌, List, [], ◌∷◌, ◌++◌, length}
 use Rattle.std.specs.Prelude.{map, Option, Some, None}
 use Rattle.std.specs.List.{list_any}
@@ -17,6 +17,7 @@ use Rattle.cir_ast.specs.Tree.{Ended}
 use Rattle.cir_meaning.specs.Places.{is_inside, all_known}
 use Rattle.cir_meaning.specs.Operators.{Operator, Strict, And, Or, operator_of, unary_of}
 use Rattle.cir_meaning.specs.Values.{truth_number}
+use Rattle.cir_meaning.specs.RunValues.{Numbers, the_number}
 use Rattle.cir_meaning.specs.Unknown.{writes, declares}
 use Rattle.wit_lower.specs.Homes.{Variable, Home, find, offset}
 use Rattle.wit_lower.specs.Sources.{Input, Constant, Cell, Sources, scope_of, input_of}
@@ -26,6 +27,15 @@ use Rattle.wit_lower.specs.Sources.{Input, Constant, Cell, Sources, scope_of, in
 abbrev pub changes : Statement Spot Meant → List ℕ
 changes (Ended spot (Assigned a)) = []
 changes a = writes a ++ declares a
+
+-- a call that has its value already, where that is one number
+abbrev pub one_known : List ℕ → ℕ → Option ℕ
+one_known [] n = Some n
+one_known (d ∷ ds) n = None
+
+abbrev pub called_known : Option Numbers → Option ℕ
+called_known None = None
+called_known (Some d) = one_known d.dims (the_number d)
 
 abbrev pub constant_of : Option Input → Option ℕ
 constant_of None = None
@@ -77,7 +87,8 @@ abbrev mutual
   number_known sources changed (Number n) = Some (n % P)
   number_known sources changed (Place name m accessors) =
       place_known sources changed m [] accessors
-  number_known sources changed (Call parallel name m arguments) = None
+  number_known sources changed (Call parallel name m arguments) =
+      called_known (sources.called (Call parallel name m arguments))
   number_known sources changed (Anonymous parallel name m arguments inputs) = None
   number_known sources changed (Parentheses e) = number_known sources changed e
   number_known sources changed (Array elements) = None

@@ -95,6 +95,10 @@ abbrev pub zeros : (to count : ℕ) → Code
 zeros to zero = []
 zeros to (suc n) = op.Const to 0 ∷ zeros (to + 1) n
 
+abbrev pub constants : (to : ℕ) → List ℕ → Code
+constants to [] = []
+constants to (n ∷ ns) = op.Const to (n % P) ∷ constants (to + 1) ns
+
 -- indices stand in a row from slot `s` on; each is tested against its dimension
 abbrev pub bounds : (s : ℕ) → (dims : List ℕ) → (count : ℕ) → Code
 bounds s [] count = []

@@ -21,10 +21,14 @@ arguments_scope n (dims ∷ rest) s = arguments_scope (n + 1) rest (with_variabl
 abbrev pub no_scope : Scope
 no_scope = record { homes = []; top = 0 }
 
--- in a function dimensions are numbers as they are written
+-- in a function dimensions are numbers as they are written, and each call is made
 abbrev pub function_ground : List Made → Ground
-function_ground keys =
-    record { keys = keys; known = literal_number; components = λ n. [] }
+function_ground keys = record {
+  keys = keys;
+  known = literal_number;
+  called = λ e. None;
+  components = λ n. [];
+}
 
 abbrev pub params_of : Made → ℕ
 params_of key = sum_by slots_of key.shapes

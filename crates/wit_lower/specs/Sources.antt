@@ -3,6 +3,8 @@
 use Rattle.std.specs.Prelude.{ℕ, suc, ◌+◌, ◌==◌, ◌&&◌, if◌then◌else◌, List, [], ◌∷◌, ◌++◌, map}
 use Rattle.std.specs.Prelude.{Option, Some, None, Result, Ok, Err, unwrap_or}
 use Rattle.std.specs.List.{list_any}
+use Rattle.cir_ast.specs.declared.program.Meant.{Meant}
+use Rattle.cir_ast.specs.Tree.{Expr}
 use Rattle.wit_code.specs.declared.code.Op.{Op}
 use Rattle.wit_code.specs.declared.code.Op.TheVariants as op
 use Rattle.cir_meaning.specs.Places.{numbers_from, is_inside}
@@ -26,10 +28,12 @@ pub record Source : Type 0 where
   pub element : ℕ
   pub input : Input
 
--- `components` has the dimensions of arrays of components
+-- `components` has the dimensions of arrays of components, and `called` the calls that have their
+-- value already
 pub record Sources : Type 0 where
   pub shapes : List Shape
   pub components : ℕ → List ℕ
+  pub called : Expr Meant → Option Numbers
   pub list : List Source
 
 -- the homes stand in a row, in the order of the shapes
@@ -109,8 +113,7 @@ abbrev pub or_missing : {A : Type 0} → Option A → Result A ℕ
 or_missing None = Err missing
 or_missing (Some a) = Ok a
 
--- what a statement reads besides variables. Calls that have their value already stand in no
--- statement that is lowered.
+-- what a statement reads besides variables
 abbrev pub environment_of : Sources → (cells : ℕ → ℕ) → (call : ℕ → List Numbers → ℕ → Ran Numbers)
     → Environment
 environment_of sources cells call = record {
@@ -119,7 +122,7 @@ environment_of sources cells call = record {
       if is_inside (sources.components n) (map Some indices) then
       or_missing (signal_at sources cells (Port n (offset (sources.components n) indices) name))
       else Err index_out;
-  known = λ e. None;
+  known = sources.called;
   call = call;
 }
 

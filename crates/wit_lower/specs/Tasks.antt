@@ -127,6 +127,7 @@ abbrev pub step_ground : List Made → Sources → Task → Ground
 step_ground keys sources task = record {
   keys = keys;
   known = number_known sources (changed_by task);
+  called = sources.called;
   components = sources.components;
 }
 

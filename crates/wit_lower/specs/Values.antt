@@ -11,10 +11,11 @@ use Rattle.cir_ast.specs.Tree.{Binary, Choice, Exprs, none, more, Accessors, don
 use Rattle.cir_meaning.specs.Operators.{operator_of, unary_of}
 use Rattle.cir_meaning.specs.Costs.{Made}
 use Rattle.cir_meaning.specs.Functions.{same_made}
+use Rattle.cir_meaning.specs.RunValues.{Numbers}
 use Rattle.wit_lower.specs.Homes.{Home, Homes, Ground, Front, Named, home_of, port_of}
 use Rattle.wit_lower.specs.Homes.{component_dims, slots_of}
 use Rattle.wit_lower.specs.Pieces.{Code, followed, binary_code, decided, lazy_code, choice_code}
-use Rattle.wit_lower.specs.Pieces.{bounds, read_code}
+use Rattle.wit_lower.specs.Pieces.{constants, bounds, read_code}
 
 abbrev pub part_shape : Option Home → (count : ℕ) → List ℕ
 part_shape None count = []
@@ -33,11 +34,21 @@ place_shape g homes front indices (index e rest) =
 place_shape g homes front indices (member name rest) =
     place_shape g homes (port_of g homes front indices name) [] rest
 
--- the dimensions of an expression; a call gives a number
+-- a call that has its value already has the value's dimensions, and isn't made
+abbrev pub called_shape : Option Numbers → List ℕ
+called_shape None = []
+called_shape (Some d) = d.dims
+
+abbrev pub unless_called : Option Numbers → (top : ℕ) → Code → Code
+unless_called None top call = call
+unless_called (Some d) top call = constants top d.items
+
+-- the dimensions of an expression; a call that is made gives a number
 abbrev pub shape_of : Ground → Homes → Expr Meant → List ℕ
 shape_of g homes (Number n) = []
 shape_of g homes (Place name m accessors) = place_shape g homes (Named m) [] accessors
-shape_of g homes (Call parallel name m arguments) = []
+shape_of g homes (Call parallel name m arguments) =
+    called_shape (g.called (Call parallel name m arguments))
 shape_of g homes (Anonymous parallel name m arguments inputs) = []
 shape_of g homes (Parentheses e) = shape_of g homes e
 shape_of g homes (Array none) = []
@@ -69,8 +80,9 @@ abbrev mutual
   expr_code g homes top place (Place name m accessors) =
       place_code g homes top place (Named m) [] accessors
   expr_code g homes top place (Call parallel name m arguments) =
-      exprs_code g homes top place arguments ++
-      call_code g.keys top m (shapes_of g homes arguments)
+      unless_called (g.called (Call parallel name m arguments)) top
+      (exprs_code g homes top place arguments ++
+      call_code g.keys top m (shapes_of g homes arguments))
   expr_code g homes top place (Anonymous parallel name m arguments inputs) = []
   expr_code g homes top place (Parentheses e) = expr_code g homes top place e
   expr_code g homes top place (Array elements) = exprs_code g homes top place elements
