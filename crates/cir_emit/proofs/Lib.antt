@@ -1,0 +1,10 @@
+pub mod Lists
+pub mod Arrays
+pub mod Values
+pub mod Shapes
+pub mod Stores
+pub mod Statements
+pub mod Works
+pub mod Tasks
+pub mod Law
+pub mod Example
