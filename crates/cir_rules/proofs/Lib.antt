@@ -2,3 +2,4 @@ pub mod Lists
 pub mod Reaching
 pub mod Shaping
 pub mod Judging
+pub mod Called

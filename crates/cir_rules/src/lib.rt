@@ -10,4 +10,4 @@ mod verdict;
 
 pub use cir_texts::has_literal;
 pub use made::Made;
-pub use verdict::{Verdict, judge};
+pub use verdict::{Verdict, add_called, judge};

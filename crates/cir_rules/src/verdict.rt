@@ -198,6 +198,32 @@ impl Shaped {
     }
 }
 
+/// Adds the calls that a known function makes, with the shapes of their arguments.
+pub fn add_called(
+    alloc: Global,
+    program: &Program,
+    at: usize,
+    known: &mut Vec<Made>,
+) -> Result<(), AllocError>
+    ensures { OnOk result (map made_of known.new.items
+        ≡ visited F.same_made (F.shaped_calls (bare_program program.now)) at
+        (map made_of known.old.items)) }
+{
+    let Some(call) = known.get(at) else {
+        return Ok(());
+    };
+    let call = call.copy(alloc)?;
+    let texts = text_of(alloc, program, call.function)?;
+    let shapes = Shapes {
+        alloc,
+        texts: &texts,
+        arguments: call.shapes.as_slice(),
+    };
+    let calls = texts.calls(alloc)?;
+    shapes.add_calls(calls.as_slice(), known)?;
+    Ok(())
+}
+
 /// Adds the calls of a known function, and tells of it.
 fn visit_made(
     alloc: Global,

@@ -15,6 +15,7 @@ use Rattle.cir_rules.specs.Shaped.{shaped, fits_all, written_size}
 use Rattle.cir_rules.specs.Judged.{misfits, too_many, too_large}
 use Rattle.cir_texts.specs.declared.texts.Texts.{Texts}
 use Rattle.cir_rules.proofs.Reaching.{found_at, not_found}
+use Rattle.cir_rules.proofs.Called.{calls_are}
 use Rattle.cir_rules.proofs.Judging.{too_many_stands}
 use Rattle.cir_rules.proofs.verdict.visit_made.Goals as goal
 
@@ -31,15 +32,6 @@ fits_is p m t s =
     s.wanted
     ∙ ap (λ assigns. fits_all (F.call_dims p m) (all_wanted (body_of p m.function)) assigns
     (all_variables (body_of p m.function))) s.assigns
-
-calls_are : (p : Program) (m : Made) (t : Texts) → Shows t (body_of p m.function)
-    → shaped (F.variable_dims m.shapes (map (λ v. bare_variable v.now) t.variables.items))
-    (flat_map (λ x. calls_of x.expr) (map wanted_of t.wanted.items)) ≡ F.shaped_calls p m
-calls_are p m t s =
-    ap (λ ws. shaped (F.variable_dims m.shapes (map (λ v. bare_variable v.now) t.variables.items))
-    (flat_map (λ x. calls_of x.expr) ws)) s.wanted
-    ∙ ap (λ vs. shaped (F.variable_dims m.shapes vs) (calls_in (body_of p m.function)))
-    s.variables
 
 pub returns-in_default-clause-more : goal.returns-in_default-clause-more
 returns-in_default-clause-more c =

@@ -1,0 +1,10 @@
+use Rattle.std.proofs.Common.{◌≡◌, ◌++◌}
+use Rattle.wit_lower.specs.Pieces as L
+use Rattle.wit_emit.proofs.pieces.stores.Given as goal
+
+abbrev pub invariant-loop-left : goal.invariant-loop-left
+invariant-loop-left l =
+    l.code ++ L.stores l.to l.s l.at l.left ≡ l.initial.code ++ L.stores l.base l.s l.from l.count
+
+abbrev pub decreases-loop-left : goal.decreases-loop-left
+decreases-loop-left l = l.left

@@ -1,0 +1,14 @@
+//! Makes the code of a run-time statement, and of what a step writes.
+#![tactic(auto)]
+
+mod assigning;
+mod declaring;
+mod slots;
+mod statements;
+mod steps;
+mod tasks;
+
+pub use slots::{most_named, params_of};
+pub use statements::emit_block;
+pub use steps::emit_step;
+pub use tasks::{Element, Task, emit_task};
