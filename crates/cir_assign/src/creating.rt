@@ -1,11 +1,13 @@
 //! The creation of components.
-ghost use Rattle.std.specs.Prelude.{◌≡◌, ℕ, Bool, List, Option, map, false};
+ghost use Rattle.std.specs.Prelude.{◌≡◌, ◌++◌, ℕ, Bool, List, Option, map, false, codes, IfOk};
 ghost use Rattle.cir_ast.specs.Tree.{Call, Exprs, as_accessors, bare, bare_exprs};
 ghost use Rattle.cir_arrays.specs.Shown.{datum_of};
 ghost use Rattle.cir_frame.specs.Shown.{frame_of, state_of};
 ghost use Rattle.cir_meaning.specs.Tried.{Tried, Where, next};
 ghost use Rattle.cir_meaning.specs.Source.{Equation};
 ghost use Rattle.cir_meaning.specs.Frame.{State};
+ghost use Rattle.cir_meaning.specs.Limits.{Counts as AnyCounts};
+ghost use Rattle.cir_meaning.specs.Places.{brackets};
 ghost use Rattle.cir_meaning.specs.Declaring as D;
 ghost use Rattle.cir_evaluate.specs.Within.{at_spot, where_at};
 ghost use Rattle.cir_assign.specs.Leads.{Leads};
@@ -15,9 +17,11 @@ ghost use Rattle.cir_assign.specs.Declares.{Creates, IsCreation, place_by, told_
 use crate::body::Body;
 use cir_arrays::{Datum, Fault, Meaning, Want, all_known, reach_of};
 use cir_ast::program::{Accessor, Expr, Meant, Spot};
-use cir_ast::{Form, Kind};
+use cir_ast::{Form, Kind, Text};
 use cir_evaluate::{Here, arguments_in, indices_in, reading};
-use cir_frame::{Frame, SignalEntry, World, add_part, may_be, opened, path_of};
+use cir_frame::{ComponentEntry, Frame, SignalEntry, World, add_part, opened};
+use cir_values::indexed;
+use std::alloc::{AllocError, Global};
 
 /// What is to be created, and where.
 #[derive(Drop)]
@@ -185,4 +189,33 @@ where
     let part = opened(spot, template, signals);
     add_part(component, place, part, frame)?;
     Ok(())
+}
+
+/// Whether elements of one array are of this template: those that are created have one template.
+fn may_be(template: u32, entry: &ComponentEntry, frame: &Frame) -> bool
+    ensures { (c : AnyCounts) → result
+        ≡ D.may_be template (D.template_of (frame_of frame.now c).parts entry.now.parts.items) }
+{
+    let Some(first) = entry.first else {
+        return true;
+    };
+    match entry.part(first as u64) {
+        Some(j) => match frame.part(j) {
+            Some(part) => template == part.template,
+            None => true,
+        },
+        None => true,
+    }
+}
+
+/// The path of an element of a component, in an instance of this path.
+fn path_of(alloc: Global, path: &[u8], name: &[u8], indices: &[u64]) -> Result<Text, AllocError>
+    ensures { IfOk result (λ text. text
+        ≡ path.now ++ (codes "." ++ (name.now ++ brackets indices.now))) }
+{
+    let mut base = Vec::from_slice(alloc, path)?;
+    base.push(b'.')?;
+    base.extend_from_slice(name)?;
+    let text = indexed(alloc, base.as_slice(), indices)?;
+    Ok(text)
 }

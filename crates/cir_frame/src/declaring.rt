@@ -1,7 +1,6 @@
 //! Declarations of variables, signals and components, and what the creation of a component adds.
-ghost use Rattle.std.specs.Prelude.{◌≡◌, ◌≤◌, ◌^◌, ◌-◌, ◌++◌, List, [], ◌∷◌, Option, Some, map};
-ghost use Rattle.std.specs.Prelude.{replicate, codes, IfOk, OnOk};
-ghost use Rattle.cir_meaning.specs.Places.{brackets};
+ghost use Rattle.std.specs.Prelude.{◌≡◌, ◌≤◌, ◌^◌, ◌-◌, List, [], ◌∷◌, Option, Some, map};
+ghost use Rattle.std.specs.Prelude.{replicate, IfOk, OnOk};
 ghost use Rattle.cir_meaning.specs.Limits.{Counts as AnyCounts, with_array};
 ghost use Rattle.cir_meaning.specs.Source.{Equation};
 ghost use Rattle.cir_meaning.specs.Arrays as A;
@@ -20,11 +19,10 @@ use crate::world::{Grouping, Row, World};
 use cir_arrays::{Datum, Filling, add_array, elements, made_elements};
 use cir_ast::Text;
 use cir_ast::program::{Direction, Spot};
-use cir_values::indexed;
 use std::alloc::{AllocError, Global};
 
 /// How many variables, signals and components a body declares; its parameters aren't counted.
-#[derive(Clone, Copy, Debug, PartialEq, Eq)]
+#[derive(Clone, Copy, PartialEq, Eq)]
 pub struct Room {
     pub variables: u32,
     pub signals: u32,
@@ -73,7 +71,7 @@ pub fn declare_variable(
 }
 
 /// A signal that is declared.
-#[derive(Clone, Copy, Debug)]
+#[derive(Clone, Copy)]
 pub struct NewSignal<'a> {
     pub spot: Spot,
     pub direction: Direction,
@@ -164,23 +162,6 @@ fn no_parts(alloc: Global, dims: &[u64]) -> Result<Vec<Option<u32>>, AllocError>
     vec![in alloc; None; made_elements(dims) as usize]
 }
 
-/// Whether elements of one array are of this template: those that are created have one template.
-pub fn may_be(template: u32, entry: &ComponentEntry, frame: &Frame) -> bool
-    ensures { (c : AnyCounts) → result
-        ≡ D.may_be template (D.template_of (frame_of frame.now c).parts entry.now.parts.items) }
-{
-    let Some(first) = entry.first else {
-        return true;
-    };
-    match entry.part(first as u64) {
-        Some(j) => match frame.part(j) {
-            Some(part) => template == part.template,
-            None => true,
-        },
-        None => true,
-    }
-}
-
 /// The inputs of a new component are to be written by its parent.
 pub fn opened(spot: Spot, template: u32, mut signals: Vec<Option<SignalEntry>>) -> Part
     ensures { part_of result ≡ record {
@@ -233,16 +214,4 @@ pub fn add_part(n: u32, place: u64, part: Part, frame: &mut Frame) -> Result<(),
         }
     }
     Ok(())
-}
-
-/// The path of an element of a component, in an instance of this path.
-pub fn path_of(alloc: Global, path: &[u8], name: &[u8], indices: &[u64]) -> Result<Text, AllocError>
-    ensures { IfOk result (λ text. text
-        ≡ path.now ++ (codes "." ++ (name.now ++ brackets indices.now))) }
-{
-    let mut base = Vec::from_slice(alloc, path)?;
-    base.push(b'.')?;
-    base.extend_from_slice(name)?;
-    let text = indexed(alloc, base.as_slice(), indices)?;
-    Ok(text)
 }

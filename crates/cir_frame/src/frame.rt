@@ -13,7 +13,7 @@ use std::alloc::AllocError;
 
 /// A component that is created: where, its template, and the signals that it has declared. Its
 /// inputs are written by its parent.
-#[derive(Debug, Drop)]
+#[derive(Drop)]
 pub struct Part {
     pub spot: Spot,
     pub template: u32,
@@ -24,7 +24,7 @@ pub struct Part {
 }
 
 /// A declared component: each element has the place of its part once it is created.
-#[derive(Debug, Drop)]
+#[derive(Drop)]
 pub struct ComponentEntry {
     pub name: Text,
     pub dims: Vec<u64>,
@@ -38,7 +38,7 @@ pub struct ComponentEntry {
 
 /// What the execution of one body keeps. Variables, signals and components stand by the number of
 /// their declaration, and the parts in order of creation.
-#[derive(Debug, Drop)]
+#[derive(Drop)]
 pub struct Frame {
     pub variables: Vec<Datum>,
     pub signals: Vec<Option<SignalEntry>>,

@@ -11,8 +11,7 @@ mod world;
 mod writing;
 
 pub use declaring::{
-    NewSignal, Room, add_part, begun, declare_component, declare_signal, declare_variable, may_be,
-    opened, path_of,
+    NewSignal, Room, add_part, begun, declare_component, declare_signal, declare_variable, opened,
 };
 pub use frame::{ComponentEntry, Frame, Part};
 pub use reading::{

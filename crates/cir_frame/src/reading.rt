@@ -29,7 +29,7 @@ use gold_field::Gold;
 use std::alloc::{AllocError, Global};
 
 /// What is read.
-#[derive(Clone, Copy, Debug)]
+#[derive(Clone, Copy)]
 pub enum Source<'f> {
     /// A variable; none of its number reads as 0.
     Stored(Option<&'f Datum>),
@@ -43,14 +43,14 @@ pub enum Source<'f> {
 }
 
 /// What stands in front of indices: a name, or the signal of a component that is found already.
-#[derive(Clone, Copy, Debug)]
+#[derive(Clone, Copy)]
 pub enum Root<'f> {
     Named(Meant),
     Found(Source<'f>),
 }
 
 /// A reading: where it stands, whether it is shaded, and the indices.
-#[derive(Clone, Copy, Debug)]
+#[derive(Clone, Copy)]
 pub struct Reading<'a> {
     pub site: &'a Site<'a>,
     pub shaded: bool,

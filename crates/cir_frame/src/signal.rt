@@ -6,7 +6,7 @@ use cir_ast::Text;
 use cir_ast::program::{Direction, Spot};
 
 /// A declared signal: the number of its first element, and which elements are written.
-#[derive(Debug, Drop)]
+#[derive(Drop)]
 pub struct SignalEntry {
     pub name: Text,
     pub direction: Direction,

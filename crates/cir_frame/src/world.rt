@@ -18,7 +18,7 @@ use std::alloc::Global;
 pub const GROUP_SIZE: u32 = 1048576;
 
 /// The groups in which the signals are numbered.
-#[derive(Clone, Copy, Debug, PartialEq, Eq)]
+#[derive(Clone, Copy, PartialEq, Eq)]
 pub enum Group {
     Outputs,
     PublicInputs,
@@ -27,7 +27,7 @@ pub enum Group {
 }
 
 /// Which group a signal comes to by its declaration.
-#[derive(Clone, Copy, Debug)]
+#[derive(Clone, Copy)]
 pub enum Grouping<'p> {
     /// In main, whose public inputs have these names.
     Main(&'p [Text]),
@@ -36,7 +36,7 @@ pub enum Grouping<'p> {
 }
 
 /// How many signals each group has.
-#[derive(Clone, Copy, Debug, PartialEq, Eq)]
+#[derive(Clone, Copy, PartialEq, Eq)]
 pub struct Sizes {
     pub outputs: u64,
     pub public_inputs: u64,
@@ -45,7 +45,7 @@ pub struct Sizes {
 }
 
 /// A declared signal in the table of all signals.
-#[derive(Debug, Drop)]
+#[derive(Drop)]
 pub struct Row {
     pub group: Group,
     pub instance: u32,
@@ -55,7 +55,7 @@ pub struct Row {
 
 /// What the whole program has made so far. Rows, constraints and paths of instances stand in order
 /// of creation.
-#[derive(Debug, Drop)]
+#[derive(Drop)]
 pub struct World {
     pub rows: Vec<Row>,
     pub sizes: Sizes,
@@ -67,7 +67,7 @@ pub struct World {
 }
 
 /// How far the lists of a world have come.
-#[derive(Clone, Copy, Debug)]
+#[derive(Clone, Copy)]
 pub struct Marks {
     pub rows: usize,
     pub constraints: usize,

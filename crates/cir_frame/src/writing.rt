@@ -20,7 +20,7 @@ use std::alloc::Global;
 
 /// The elements of a signal that are to be written: an own signal, or an input of a part, by its
 /// number.
-#[derive(Debug, Drop)]
+#[derive(Drop)]
 pub struct Target {
     pub part: Option<u32>,
     pub number: usize,

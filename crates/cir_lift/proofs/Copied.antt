@@ -1,7 +1,8 @@
 -- A list is copied item by item: the copies, and behind them what is left, stand for the whole.
 use Rattle.std.proofs.Common.{◌≡◌, ◌∙◌, ℕ, ◌+◌, ◌<◌, ◌≤◌, List, [], ◌∷◌, ◌++◌, length, drop, get_or}
-use Rattle.std.proofs.Common.{ap, sym}
-use Rattle.std.proofs.lemmas.List.{drop_more, append-nil, at_drop_all}
+use Rattle.std.proofs.Common.{ap, sym, append_assoc}
+use Rattle.std.specs.Prelude.{map}
+use Rattle.std.proofs.lemmas.List.{drop_more, append-nil, at_drop_all, map-append}
 use Rattle.cir_ast.specs.declared.marked.Accessor.{Accessor as CodeAccessor}
 use Rattle.cir_ast.specs.declared.marked.Accessor.TheVariants as accessor
 use Rattle.cir_ast.specs.declared.marked.NamedInput.{NamedInput as CodeInput}
@@ -16,6 +17,20 @@ use Rattle.cir_ast.proofs.Rows.{named_are}
 pub item_first : {A : Type 0} (all : List A) (i : ℕ) (a : A) → i < length all → a ≡ get_or all i a
     → drop i all ≡ a ∷ drop (i + 1) all
 item_first all i a h is = drop_more all i a h ∙ ap (λ z. z ∷ drop (i + 1) all) (sym is)
+
+-- where the meaning of a list is the list of its items' meanings
+pub mapped_more : {A B C : Type 0} (f : A → C) (g : B → C) (copies pushed : List A) (all : List B)
+    (i : ℕ) (x : A) (a : B) (whole : List C) → i < length all → a ≡ get_or all i a → f x ≡ g a
+    → pushed ≡ copies ++ x ∷ [] → map f copies ++ map g (drop i all) ≡ whole
+    → map f pushed ++ map g (drop (i + 1) all) ≡ whole
+mapped_more f g copies pushed all i x a whole h is same push before =
+    let rest : List _ = map g (drop (i + 1) all) in
+    ap (λ l. map f l ++ rest) push
+    ∙ ap (λ l. l ++ rest) (map-append f copies (x ∷ []))
+    ∙ append_assoc (map f copies) (f x ∷ []) rest
+    ∙ ap (λ y. map f copies ++ (y ∷ rest)) same
+    ∙ sym (ap (λ l. map f copies ++ map g l) (item_first all i a h is))
+    ∙ before
 
 accessors_swap : (copies rest : List (CodeAccessor Meant)) (x a : CodeAccessor Meant)
     → as_accessors (x ∷ rest) ≡ as_accessors (a ∷ rest)

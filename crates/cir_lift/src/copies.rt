@@ -20,19 +20,16 @@ pub fn text(alloc: Global, text: &Text) -> Result<Text, AllocError>
     Text::from_slice(alloc, text.as_slice())
 }
 
-fn boxed(alloc: Global, e: Expr) -> Result<Box<Expr>, AllocError>
-    ensures { IfOk result (λ r. r.value ≡ e) }
-{
-    let e = Box::new(alloc, e)?;
-    Ok(e)
-}
+/// Lets an expression go. Where a function would let several go, on its ways out, it calls this.
+pub fn discard(_value: Expr) {}
 
 /// A copy that a tree can hold.
+#[cycle(copying)]
 pub fn boxed_copy(alloc: Global, e: &Expr) -> Result<Box<Expr>, AllocError>
     ensures { IfOk result (λ r. bare r.value ≡ bare e.now) }
 {
     let e = expr(alloc, e)?;
-    let e = boxed(alloc, e)?;
+    let e = Box::new(alloc, e)?;
     Ok(e)
 }
 
@@ -56,8 +53,7 @@ pub fn expr(alloc: Global, e: &Expr) -> Result<Expr, AllocError>
             Ok(Expr::Anonymous(a))
         }
         Expr::Parentheses(inner) => {
-            let inner = expr(alloc, inner)?;
-            let inner = boxed(alloc, inner)?;
+            let inner = boxed_copy(alloc, inner)?;
             Ok(Expr::Parentheses(inner))
         }
         Expr::Array(elements) => {
@@ -65,24 +61,18 @@ pub fn expr(alloc: Global, e: &Expr) -> Result<Expr, AllocError>
             Ok(Expr::Array(elements))
         }
         Expr::Unary(op, a) => {
-            let a = expr(alloc, a)?;
-            let a = boxed(alloc, a)?;
+            let a = boxed_copy(alloc, a)?;
             Ok(Expr::Unary(*op, a))
         }
         Expr::Binary(op, a, b) => {
-            let a = expr(alloc, a)?;
-            let a = boxed(alloc, a)?;
-            let b = expr(alloc, b)?;
-            let b = boxed(alloc, b)?;
+            let a = boxed_copy(alloc, a)?;
+            let b = boxed_copy(alloc, b)?;
             Ok(Expr::Binary(*op, a, b))
         }
         Expr::Choice(c, a, b) => {
-            let c = expr(alloc, c)?;
-            let c = boxed(alloc, c)?;
-            let a = expr(alloc, a)?;
-            let a = boxed(alloc, a)?;
-            let b = expr(alloc, b)?;
-            let b = boxed(alloc, b)?;
+            let c = boxed_copy(alloc, c)?;
+            let a = boxed_copy(alloc, a)?;
+            let b = boxed_copy(alloc, b)?;
             Ok(Expr::Choice(c, a, b))
         }
     }

@@ -8,7 +8,7 @@ ghost use Rattle.cir_meaning.specs.Anonymous as A;
 ghost use Rattle.cir_lift.specs.Lifts.{IsLifted};
 ghost use Rattle.cir_lift.specs.Turned.{kept};
 
-use crate::copies;
+use crate::copies::{self, discard};
 use crate::values::Lifter;
 use cir_ast::program::{
     Arrow, Assign, DeclaredSignal, Expr, Program, SignalValue, Signals, Simple, Source, Target,
@@ -97,12 +97,17 @@ impl Lifter<'_> {
             Simple::Assign(assign) => self.assign(assign),
             Simple::Constrain(a, b) => {
                 let a = self.expr(a)?;
-                let b = self.expr(b)?;
-                Ok(Simple::Constrain(a, b))
+                match self.expr(b) {
+                    Ok(b) => Ok(Simple::Constrain(a, b)),
+                    Err(e) => {
+                        discard(a);
+                        Err(e)
+                    }
+                }
             }
             Simple::Right(e, arrow, place) => {
-                let e = self.expr(e)?;
                 let place = copies::place(self.alloc, place)?;
+                let e = self.expr(e)?;
                 Ok(Simple::Assign(Assign::Left(place, *arrow, e)))
             }
             Simple::TargetLeft(target, arrow, source) => self.tuple(target, *arrow, source),
@@ -122,8 +127,8 @@ impl Lifter<'_> {
     {
         match assign {
             Assign::Left(place, arrow, e) => {
-                let e = self.expr(e)?;
                 let place = copies::place(self.alloc, place)?;
+                let e = self.expr(e)?;
                 Ok(Simple::Assign(Assign::Left(place, *arrow, e)))
             }
             Assign::Set(_, _)
@@ -158,9 +163,9 @@ impl Lifter<'_> {
             (lift_signal (bare_program self.old.program.now) self.old.first
             (bare_signal signal.now) self.old.next)) }
     {
-        let value = self.signal_value(&signal.value)?;
         let name = copies::text(self.alloc, &signal.name)?;
         let dimensions = copies::exprs(self.alloc, signal.dimensions.as_slice())?;
+        let value = self.signal_value(&signal.value)?;
         Ok(DeclaredSignal {
             name,
             meant: signal.meant,
@@ -251,7 +256,10 @@ fn kept(alloc: Global, e: &Expr, value: Expr) -> Result<Items<Expr>, AllocError>
 {
     match e {
         Expr::Parentheses(inner) => kept(alloc, inner, value),
-        Expr::Anonymous(_) => Ok(Items::new(alloc)),
+        Expr::Anonymous(_) => {
+            discard(value);
+            Ok(Items::new(alloc))
+        }
         Expr::Number(_)
         | Expr::Place(_)
         | Expr::Call(_, _, _, _)

@@ -9,7 +9,7 @@ ghost use Rattle.cir_ast.specs.Program.{bare_program};
 ghost use Rattle.cir_meaning.specs.Anonymous as A;
 ghost use Rattle.cir_lift.specs.Made.{body_at};
 
-use crate::copies::{exprs, text};
+use crate::copies::{discard, exprs, text};
 use cir_ast::Text;
 use cir_ast::program::{
     Accessor, Anonymous, Arrow, Assign, Components, DeclaredSignal, Direction, Expr, Inputs, Meant,
@@ -57,8 +57,8 @@ fn signal_place(alloc: Global, own: Own, name: &Text) -> Result<Place, AllocErro
         ≡ A.signal_of own.index own.number name.now) }
 {
     let member = text(alloc, name)?;
-    let accessors = vec![in alloc; Accessor::Member(member)]?;
     let name = own_name(alloc, own)?;
+    let accessors = vec![in alloc; Accessor::Member(member)]?;
     Ok(Place {
         name,
         meant: Meant::Component(own.number),
@@ -118,9 +118,16 @@ fn write(
     ensures { OnOk result (map bare_simple before.new.items ≡ map bare_simple before.old.items
         ++ A.input_write own.index own.number name.now arrow (bare value) ∷ []) }
 {
-    let place = signal_place(alloc, own, name)?;
-    before.push(Simple::Assign(Assign::Left(place, arrow, value)))?;
-    Ok(())
+    match signal_place(alloc, own, name) {
+        Ok(place) => {
+            before.push(Simple::Assign(Assign::Left(place, arrow, value)))?;
+            Ok(())
+        }
+        Err(e) => {
+            discard(value);
+            Err(e)
+        }
+    }
 }
 
 /// The signals that a statement declares with this direction.
@@ -197,6 +204,7 @@ pub fn write_inputs(
             let mut names = names.into_iter();
             for e in es.into_vec() {
                 let Some(name) = names.next() else {
+                    discard(e);
                     return Ok(());
                 };
                 write(alloc, own, &name, Arrow::Constrain, e, before)?;

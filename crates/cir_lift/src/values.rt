@@ -146,8 +146,8 @@ impl Lifter<'_> {
     {
         let mut lifted = Vec::with_capacity(self.alloc, inputs.len())?;
         for i in inputs {
-            let value = self.expr(&i.value)?;
             let name = copies::text(self.alloc, &i.name)?;
+            let value = self.expr(&i.value)?;
             lifted.push(NamedInput {
                 name,
                 arrow: i.arrow,

@@ -1,6 +1,6 @@
 -- What is told of the three files of `audit`, and of commands over what was read.
-use Rattle.std.proofs.Common.{◌≡◌, ◌∙◌, ℕ, List, Option, None, Some, Result, Ok, Err, Vec}
-use Rattle.std.proofs.Common.{ap, refl, subst, sym}
+use Rattle.std.proofs.Common.{◌≡◌, ◌∙◌, ℕ, List, Option, None, Some, Result, Ok, Err, Vec, ap, refl}
+use Rattle.std.proofs.Common.{subst, sym}
 use Rattle.std.specs.declared.alloc.Global.{Global}
 use Rattle.binary_format.specs.Reading.{◌>>=◌}
 use Rattle.out_io.specs.Calls.{Told}

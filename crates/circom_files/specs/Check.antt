@@ -1,5 +1,6 @@
 -- The command `check`: do these values satisfy these constraints?
-use Rattle.std.specs.Prelude.{◌==◌, ℕ, List, length, slice_index, if◌then◌else◌, Option, Some, None, Result, Ok}
+use Rattle.std.specs.Prelude.{◌==◌, ℕ, List, length, slice_index, if◌then◌else◌, Option, Some, None}
+use Rattle.std.specs.Prelude.{Result, Ok}
 use Rattle.binary_format.specs.Reading.{◌>>=◌}
 use Rattle.out_io.specs.Contents.{Contents}
 use Rattle.iden_files.specs.Failing.{first_failing_from}
@@ -7,7 +8,8 @@ use Rattle.iden_files.specs.File.{File}
 use Rattle.circom_files.specs.Files.{r1cs_in, wtns_in}
 use Rattle.circom_words.specs.declared.answer.Refusal.{Refusal}
 use Rattle.circom_words.specs.declared.answer.Verdict.{Verdict}
-use Rattle.circom_words.specs.declared.answer.Verdict.TheVariants.{CountsDiffer, WireZero, ConstraintFails, Satisfied}
+use Rattle.circom_words.specs.declared.answer.Verdict.TheVariants.{CountsDiffer, WireZero}
+use Rattle.circom_words.specs.declared.answer.Verdict.TheVariants.{ConstraintFails, Satisfied}
 
 -- the least constraint that fails, if one does
 abbrev pub satisfaction : Option ℕ → Verdict

@@ -7,9 +7,11 @@ use Rattle.iden_files.specs.ReadR1cs.{r1cs_of}
 use Rattle.iden_files.specs.ReadWtns.{wtns_of}
 use Rattle.iden_files.specs.Refusal.{Refusal as Fault}
 use Rattle.circom_words.specs.declared.answer.Refusal.{Refusal}
-use Rattle.circom_words.specs.declared.answer.Refusal.TheVariants.{NoSuchFile, BadFile, BadInput as BadInputs}
+use Rattle.circom_words.specs.declared.answer.Refusal.TheVariants.{NoSuchFile, BadFile}
+use Rattle.circom_words.specs.declared.answer.Refusal.TheVariants.{BadInput as BadInputs}
 use Rattle.circom_words.specs.declared.answer.BadInput.{BadInput}
-use Rattle.circom_words.specs.declared.answer.BadInput.TheVariants.{NotJson, BadNumber as BadNumbers}
+use Rattle.circom_words.specs.declared.answer.BadInput.TheVariants.{NotJson}
+use Rattle.circom_words.specs.declared.answer.BadInput.TheVariants.{BadNumber as BadNumbers}
 use Rattle.wit_input.specs.Publics.{publics_of}
 use Rattle.wit_input.specs.declared.fault.InputFault.{InputFault}
 use Rattle.wit_input.specs.declared.fault.InputFault.TheVariants.{BadNumber}

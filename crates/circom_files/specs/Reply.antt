@@ -4,7 +4,8 @@ use Rattle.out_io.specs.Calls.{Told}
 use Rattle.out_io.specs.Contents.{Contents}
 use Rattle.lig_proof.specs.declared.verdict.Verdict.{Verdict as Audited}
 use Rattle.wit_input.specs.Publics.{publics_text}
-use Rattle.circom_words.specs.Lines.{usage_line, fault_line, refusal_line, verdict_status, verdict_line}
+use Rattle.circom_words.specs.Lines.{usage_line, fault_line, refusal_line, verdict_status}
+use Rattle.circom_words.specs.Lines.{verdict_line}
 use Rattle.circom_words.specs.Proving.{proved_line, public_line, audit_status, audit_line}
 use Rattle.circom_words.specs.declared.answer.Refusal.{Refusal}
 use Rattle.circom_words.specs.declared.answer.Verdict.{Verdict}

@@ -8,7 +8,8 @@ ghost use Rattle.iden_files.specs.ReadWtns.{wtns_of};
 ghost use Rattle.wit_input.specs.Publics.{publics_of};
 ghost use Rattle.circom_files.specs.Files.{accepted, accepted_publics, bytes_in};
 ghost use Rattle.circom_files.specs.Proving.{witness_of};
-ghost use Rattle.circom_files.specs.Steps.{Gets, Refuses, RefusesPublics, Steps, StepsFrom, WereRead};
+ghost use Rattle.circom_files.specs.Steps.{Gets, Refuses, RefusesPublics, Steps, StepsFrom};
+ghost use Rattle.circom_files.specs.Steps.{WereRead};
 
 use crate::outcome::Witness;
 use crate::stop::Stop;

@@ -4,7 +4,7 @@ use iden_files::R1cs;
 use items::Items;
 
 /// A file of constraints, with its bytes, and values for its wires.
-#[derive(Debug, Drop)]
+#[derive(Drop)]
 pub struct Witness {
     pub bytes: Items<u8>,
     pub file: R1cs,
@@ -12,7 +12,7 @@ pub struct Witness {
 }
 
 /// What is offered as a proof for a file of constraints, with its bytes, and public values.
-#[derive(Debug, Drop)]
+#[derive(Drop)]
 pub struct Offer {
     pub bytes: Items<u8>,
     pub file: R1cs,
@@ -21,14 +21,14 @@ pub struct Offer {
 }
 
 /// The bytes of the proof that is made of a witness, or what is wrong with its values.
-#[derive(Debug, Drop)]
+#[derive(Drop)]
 pub enum Outcome {
     Made(Items<u8>),
     Unmade(Verdict),
 }
 
 /// The public values among values, or what is wrong with these.
-#[derive(Debug, Drop)]
+#[derive(Drop)]
 pub enum Published {
     Values(Items<Gold>),
     Wrong(Verdict),

@@ -7,10 +7,10 @@ ghost use Rattle.gold_field.specs.declared.gold.TheConstants.{P};
 ghost use Rattle.lig_prover.specs.Proves.{IsProofOrRefusal};
 ghost use Rattle.circom_words.specs.Words.{meant_proving};
 ghost use Rattle.circom_files.specs.Accepted.{IsAcceptedFor, IsProofOf, WritesProof};
-ghost use Rattle.circom_files.specs.Proving.{IsProved, Proves, witness_of};
+ghost use Rattle.circom_files.specs.Proving.{IsProved, Proves};
 ghost use Rattle.circom_files.specs.Reply.{Says, proved};
 ghost use Rattle.circom_files.specs.Shown.{shown};
-ghost use Rattle.circom_files.specs.Steps.{Steps, StepsTo};
+ghost use Rattle.circom_files.specs.Steps.{StepsTo};
 ghost use Rattle.circom_files.specs.declared.outcome.Outcome.TheVariants.{Made};
 
 use crate::inputs::witness_in;

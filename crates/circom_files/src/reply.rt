@@ -12,7 +12,7 @@ use wit_input::write_publics;
 
 /// What the program answers: the exit status, all that it puts, and the file that it writes before,
 /// if any.
-#[derive(Debug, Drop)]
+#[derive(Drop)]
 pub struct Reply<'w> {
     pub status: u8,
     pub text: Items<u8>,
@@ -20,14 +20,15 @@ pub struct Reply<'w> {
 }
 
 /// A file that is written.
-#[derive(Debug, Drop)]
+#[derive(Drop)]
 pub struct NewFile<'w> {
     pub name: &'w str,
     pub bytes: Items<u8>,
 }
 
 impl<'w> Reply<'w> {
-    ghost use Rattle.circom_files.specs.Reply.{usage, refused, checked, written, proved, published, audited, store_failed};
+    ghost use Rattle.circom_files.specs.Reply.{usage, refused, checked, written, proved, published};
+    ghost use Rattle.circom_files.specs.Reply.{audited, store_failed};
 
     /// A reply that writes no file.
     fn saying(status: u8, text: Vec<u8>) -> Reply<'w>

@@ -1,6 +1,5 @@
 ghost use Rattle.std.specs.Prelude.{◌≡◌};
-ghost use Rattle.circom_files.specs.Stops.{EndsBy};
-ghost use Rattle.circom_files.specs.Stops.{stop_of};
+ghost use Rattle.circom_files.specs.Stops.{EndsBy, stop_of};
 ghost use Rattle.circom_files.specs.declared.stop.Stop.TheVariants.{OutOfMemory};
 
 use crate::reply::Reply;
@@ -9,7 +8,7 @@ use out_io::IoFault;
 use std::alloc::{AllocError, Global};
 
 /// Why a command ends before its last step.
-#[derive(Debug, Drop)]
+#[derive(Drop)]
 pub enum Stop {
     Refused(Refusal),
     StoreFailed,

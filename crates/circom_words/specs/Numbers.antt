@@ -1,5 +1,6 @@
 -- A number among the words: one or more decimal digits, whose number is in a range. Zeros may lead.
-use Rattle.std.specs.Prelude.{ℕ, ◌+◌, ◌*◌, ◌&&◌, List, [], ◌∷◌, Option, Some, None, if◌then◌else◌, nat_lt, nat_le}
+use Rattle.std.specs.Prelude.{ℕ, ◌+◌, ◌*◌, ◌&&◌, List, [], ◌∷◌, Option, Some, None, if◌then◌else◌}
+use Rattle.std.specs.Prelude.{nat_lt, nat_le}
 use Rattle.std.specs.Char.{digit_value}
 
 -- the number that digits spell behind those of the number `before`

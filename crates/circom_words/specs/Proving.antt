@@ -1,7 +1,9 @@
 -- The lines of `prove`, `public` and `audit`, and the exit status of an audit.
 use Rattle.std.specs.Prelude.{ℕ, List, [], ◌∷◌, codes, decimal}
 use Rattle.lig_proof.specs.declared.verdict.Verdict.{Verdict}
-use Rattle.lig_proof.specs.declared.verdict.Verdict.TheVariants.{Accepted, PublicCount, Malformed, BadPath, Proximity, LinearSum, LinearColumn, QuadZero, QuadColumn}
+use Rattle.lig_proof.specs.declared.verdict.Verdict.TheVariants.{Accepted, PublicCount, Malformed}
+use Rattle.lig_proof.specs.declared.verdict.Verdict.TheVariants.{BadPath, Proximity, LinearSum}
+use Rattle.lig_proof.specs.declared.verdict.Verdict.TheVariants.{LinearColumn, QuadZero, QuadColumn}
 use Rattle.circom_words.specs.Lines.{line}
 
 abbrev pub proved_line : ℕ → List ℕ

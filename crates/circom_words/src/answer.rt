@@ -2,7 +2,7 @@ use iden_files::FileCause;
 use items::Items;
 
 /// Why a command refuses what it was given.
-#[derive(Debug, Drop)]
+#[derive(Drop)]
 pub enum Refusal {
     NoSuchFile {
         name: Items<u8>,
@@ -20,7 +20,7 @@ pub enum Refusal {
 }
 
 /// What is wrong with a JSON file of inputs, or of public values, whose name is then `public`.
-#[derive(Debug, Drop)]
+#[derive(Drop)]
 pub enum BadInput {
     NotJson,
     Missing {
@@ -41,7 +41,7 @@ pub enum BadInput {
 }
 
 /// What `check` finds.
-#[derive(Clone, Copy, Debug, PartialEq, Eq)]
+#[derive(Clone, Copy)]
 pub enum Verdict {
     /// There aren't as many values as wires.
     CountsDiffer { values: u64, wires: u32 },

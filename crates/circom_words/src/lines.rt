@@ -1,5 +1,6 @@
 ghost use Rattle.std.specs.Prelude.{◌≡◌, map, IfOk};
-ghost use Rattle.circom_words.specs.Lines.{line, usage_line, fault_line, compiled_line, bad_file_line, cause_text, count_line};
+ghost use Rattle.circom_words.specs.Lines.{line, usage_line, fault_line, compiled_line};
+ghost use Rattle.circom_words.specs.Lines.{bad_file_line, cause_text, count_line};
 
 use crate::answer::{BadInput, Refusal, Verdict};
 use crate::sources::source_line;

@@ -1,8 +1,12 @@
-ghost use Rattle.std.specs.Prelude.{◌≡◌, true, IfOk, option_map};
+ghost use Rattle.std.specs.Prelude.{◌≡◌, true, IfOk, option_map, Some};
 ghost use Rattle.clap.specs.Faults.{is_simple_and_free};
 ghost use Rattle.clap.specs.Simple.{app_of};
-ghost use Rattle.circom_words.specs.Words.{texts, found, given, folder, flag, check_form, compile_form, with_files, with_levels, check_in, compile_in, compile_with, is_set, level_in, options_in, meant_options, valued, seed, three_form, prove_form, public_form, audit_form, prove_in, public_in, audit_in, seed_of, seed_in, version_of, version_in};
-ghost use Rattle.std.specs.Prelude.{Some};
+ghost use Rattle.circom_words.specs.Words.{texts, found, given, folder, flag, check_form};
+ghost use Rattle.circom_words.specs.Words.{compile_form, with_files, with_levels, check_in};
+ghost use Rattle.circom_words.specs.Words.{compile_in, compile_with, is_set, level_in, options_in};
+ghost use Rattle.circom_words.specs.Words.{meant_options, valued, seed, three_form, prove_form};
+ghost use Rattle.circom_words.specs.Words.{public_form, audit_form, prove_in, public_in, audit_in};
+ghost use Rattle.circom_words.specs.Words.{seed_of, seed_in, version_of, version_in};
 ghost use Rattle.circom_words.specs.Matches.{rows_in, IsArg};
 
 use crate::number::number_in;
@@ -14,7 +18,7 @@ use lig_proof::Version;
 use std::alloc::{AllocError, Global};
 
 /// What the options of a command say.
-#[derive(Clone, Copy, Debug, PartialEq, Eq)]
+#[derive(Clone, Copy)]
 pub struct Options<'w> {
     /// Which linear constraints are solved.
     pub level: Level,
@@ -23,14 +27,14 @@ pub struct Options<'w> {
 }
 
 /// What the options of `prove` say.
-#[derive(Clone, Copy, Debug, PartialEq, Eq)]
+#[derive(Clone, Copy)]
 pub struct ProveOptions {
     pub seed: [u8; 32],
     pub version: Version,
 }
 
 /// What the words on the command line ask for.
-#[derive(Clone, Copy, Debug, PartialEq, Eq)]
+#[derive(Clone, Copy)]
 pub enum Command<'w> {
     Check {
         r1cs: &'w str,

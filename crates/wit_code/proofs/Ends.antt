@@ -1,12 +1,16 @@
 -- A run of well-formed code ends: with each instruction a number falls.
-use Rattle.std.proofs.Common.{◌≡◌, ℕ, zero, suc, ◌+◌, ◌*◌, ◌-◌, ◌<◌, ◌≤◌, Bool, true, false, cond, max, List, [], ◌∷◌, length, drop, replicate, Option, Some, None, refl, sym, ap, subst, ◌∙◌, arith, length-set, length-append, inl, inr}
+use Rattle.std.proofs.Common.{◌≡◌, ℕ, zero, suc, ◌+◌, ◌*◌, ◌-◌, ◌<◌, ◌≤◌, Bool, true, false, cond}
+use Rattle.std.proofs.Common.{max, List, [], ◌∷◌, length, drop, replicate, Option, Some, None, refl}
+use Rattle.std.proofs.Common.{sym, ap, subst, ◌∙◌, arith, length-set, length-append, inl, inr}
 use Rattle.std.proofs.lemmas.List.{length-replicate, length-take-le, length-drop}
 use Rattle.std.proofs.lemmas.Option.{slice_get_within, slice_get-get_or}
 use Rattle.std.specs.Prelude.{slice_get, slice_set, slice_range, ◌==◌, nat_lt, unwrap_or}
 use Rattle.std.proofs.lemmas.Bool.{cases_lt, ltb-true}
 use Rattle.gold_field.specs.Operators.{binary_of}
 use Rattle.wit_code.specs.declared.code.Op.{Op}
-use Rattle.wit_code.specs.declared.code.Op.TheVariants.{Const, Move, Read, Un, Bin, Bound, Load, Store, Jump, JumpZero, Turn, Call, Return, Check, Assert, Write}
+use Rattle.wit_code.specs.declared.code.Op.TheVariants.{Const, Move, Read, Un, Bin, Bound, Load}
+use Rattle.wit_code.specs.declared.code.Op.TheVariants.{Store, Jump, JumpZero, Turn, Call, Return}
+use Rattle.wit_code.specs.declared.code.Op.TheVariants.{Check, Assert, Write}
 use Rattle.wit_code.specs.declared.code.Proc.{Proc}
 use Rattle.wit_code.specs.declared.code.Stop.{Stop}
 use Rattle.wit_code.specs.declared.code.Stop.TheVariants.{FuelSpent}
@@ -14,7 +18,10 @@ use Rattle.wit_code.specs.declared.frames.Running.{Running}
 use Rattle.wit_code.specs.declared.frames.Running.TheVariants.{Own, Called}
 use Rattle.wit_code.specs.Code.{Leads, Fits, IsWellFormed}
 use Rattle.wit_code.specs.Frames.{Open}
-use Rattle.wit_code.specs.Table.{no_code, State, Outcome, Stopped, RunsTo, Next, Goes, Over, act, answer, code_of, exec, frame_of, go_on, jump_to, longest, most_steps, outcome_of, outcome_or, next_of, proc_at, put, put_result, slot_of, start_of, step, unless}
+use Rattle.wit_code.specs.Table.{no_code, State, Outcome, Stopped, RunsTo, Next, Goes, Over, act}
+use Rattle.wit_code.specs.Table.{answer, code_of, exec, frame_of, go_on, jump_to, longest}
+use Rattle.wit_code.specs.Table.{most_steps, outcome_of, outcome_or, next_of, proc_at, put}
+use Rattle.wit_code.specs.Table.{put_result, slot_of, start_of, step, unless}
 use Rattle.wit_code.specs.Seen.{IsThere, stands_of}
 
 -- a frame of some code, at one of its places

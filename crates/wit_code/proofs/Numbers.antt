@@ -1,25 +1,30 @@
 -- What well-formed code writes are numbers of the field, where those that it reads are.
-use Rattle.std.proofs.Common.{◌≡◌, ℕ, zero, suc, ◌+◌, ◌-◌, ◌<◌, Bool, true, false, cond, List, [], ◌∷◌, ◌++◌, length, All, replicate}
-use Rattle.std.proofs.Common.{Option, Some, None, refl, subst, arith, drop}
+use Rattle.std.proofs.Common.{◌≡◌, ℕ, zero, suc, ◌+◌, ◌-◌, ◌<◌, Bool, true, false, cond, List, []}
+use Rattle.std.proofs.Common.{◌∷◌, ◌++◌, length, All, replicate, Option, Some, None, refl, subst}
+use Rattle.std.proofs.Common.{arith, drop}
 use Rattle.std.specs.Prelude.{slice_get, slice_index, slice_range, unwrap_or, ◌==◌, nat_lt, not}
-use Rattle.std.proofs.lemmas.List.Elements.{All-head, All-tail, All-nil, All-cons, All-append, All-take, All-drop, All-replicate, All-set}
+use Rattle.std.proofs.lemmas.List.Elements.{All-head, All-tail, All-nil, All-cons, All-append}
+use Rattle.std.proofs.lemmas.List.Elements.{All-take, All-drop, All-replicate, All-set}
 use Rattle.gold_field.specs.declared.gold.TheConstants.{P}
 use Rattle.gold_field.specs.Operators.{binary_of, unary_of}
 use Rattle.gold_field.proofs.Answers.{binary_below, unary_below}
 use Rattle.wit_code.specs.declared.code.Op.{Op}
-use Rattle.wit_code.specs.declared.code.Op.TheVariants.{Const, Move, Read, Un, Bin, Bound, Load, Store, Jump, JumpZero}
-use Rattle.wit_code.specs.declared.code.Op.TheVariants.{Turn, Call, Return, Check, Assert, Write}
+use Rattle.wit_code.specs.declared.code.Op.TheVariants.{Const, Move, Read, Un, Bin, Bound, Load}
+use Rattle.wit_code.specs.declared.code.Op.TheVariants.{Store, Jump, JumpZero, Turn, Call, Return}
+use Rattle.wit_code.specs.declared.code.Op.TheVariants.{Check, Assert, Write}
 use Rattle.wit_code.specs.declared.code.Proc.{Proc}
 use Rattle.wit_code.specs.declared.code.Stands.{Stands}
 use Rattle.wit_code.specs.declared.code.Stands.TheVariants.{InStep, InProc}
 use Rattle.wit_code.specs.declared.code.Stop.{Stop}
-use Rattle.wit_code.specs.declared.code.Stop.TheVariants.{ConstraintFails, AssertFails, IndexOut, FuelSpent, TooDeep}
+use Rattle.wit_code.specs.declared.code.Stop.TheVariants.{ConstraintFails, AssertFails, IndexOut}
+use Rattle.wit_code.specs.declared.code.Stop.TheVariants.{FuelSpent, TooDeep}
 use Rattle.wit_code.specs.declared.frames.Running.{Running}
 use Rattle.wit_code.specs.declared.frames.Running.TheVariants.{Own, Called}
 use Rattle.wit_code.specs.Code.{IsWellFormed, Names}
 use Rattle.wit_code.specs.Frames.{Open}
-use Rattle.wit_code.specs.Table.{State, Wrote, Stopped, Next, Goes, Over, RunsTo, act, answer, call, code_of, exec}
-use Rattle.wit_code.specs.Table.{frame_of, go_on, in_frame, jump_to, next_of, no_code, proc_at, put, put_result, slot_of, start_of, step, unless}
+use Rattle.wit_code.specs.Table.{State, Wrote, Stopped, Next, Goes, Over, RunsTo, act, answer, call}
+use Rattle.wit_code.specs.Table.{code_of, exec, frame_of, go_on, in_frame, jump_to, next_of}
+use Rattle.wit_code.specs.Table.{no_code, proc_at, put, put_result, slot_of, start_of, step, unless}
 
 abbrev AreNumbers : List ℕ → Type 0
 AreNumbers xs = All (λ v. v < P) xs

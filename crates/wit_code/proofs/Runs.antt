@@ -1,18 +1,21 @@
 -- The code's steps are those of the table, from the start on.
-use Rattle.std.proofs.Common.{◌≡◌, ℕ, zero, suc, ◌<◌, List, [], ◌∷◌, length, Result, Ok, Err, refl, sym, ap, subst, ◌∙◌}
+use Rattle.std.proofs.Common.{◌≡◌, ℕ, zero, suc, ◌<◌, List, [], ◌∷◌, length, Result, Ok, Err, refl}
+use Rattle.std.proofs.Common.{sym, ap, subst, ◌∙◌}
 use Rattle.std.specs.Prelude.{slice_get}
 use Rattle.std.specs.declared.vec.Vec.{Vec}
 use Rattle.std.specs.declared.alloc.Global.{Global}
 use Rattle.wit_code.specs.declared.code.Op.{Op}
 use Rattle.wit_code.specs.declared.code.Proc.{Proc}
 use Rattle.wit_code.specs.declared.code.Stop.{Stop}
-use Rattle.wit_code.specs.declared.code.Stop.TheVariants.{ConstraintFails, AssertFails, ZeroDivisor, IndexOut, FuelSpent, TooDeep, OutOfMemory}
+use Rattle.wit_code.specs.declared.code.Stop.TheVariants.{ConstraintFails, AssertFails, ZeroDivisor}
+use Rattle.wit_code.specs.declared.code.Stop.TheVariants.{IndexOut, FuelSpent, TooDeep, OutOfMemory}
 use Rattle.wit_code.specs.declared.machine.Run.{Run}
 use Rattle.wit_code.specs.declared.machine.Flow.{Flow}
 use Rattle.wit_code.specs.declared.machine.Flow.TheVariants.{Stays, Moves, Ends}
 use Rattle.wit_code.specs.Code.{IsWellFormed, Names}
 use Rattle.wit_code.specs.Frames.{Open}
-use Rattle.wit_code.specs.Table.{State, Outcome, Wrote, Stopped, Next, Goes, Over, act, code_of, exec, next_of, outcome_of, start_of, step, RunsTo}
+use Rattle.wit_code.specs.Table.{State, Outcome, Wrote, Stopped, Next, Goes, Over, act, code_of}
+use Rattle.wit_code.specs.Table.{exec, next_of, outcome_of, start_of, step, RunsTo}
 use Rattle.wit_code.specs.Seen.{seen, Follows, NextFits, AnswersFit, IsOutcome, stands_of}
 use Rattle.wit_code.proofs.Ends.{AreFrames, IsGood, ends_so, falls, fits_at, measure, one_outcome}
 

@@ -1,7 +1,9 @@
 -- How frames lie on the stack of numbers: what is above the callers' frames is no part of them.
-use Rattle.std.proofs.Common.{◌≡◌, ℕ, ◌+◌, ◌-◌, ◌≤◌, List, [], ◌∷◌, ◌++◌, length, take, drop, refl, sym, ap, ◌∙◌, arith, append_assoc, length-drop}
+use Rattle.std.proofs.Common.{◌≡◌, ℕ, ◌+◌, ◌-◌, ◌≤◌, List, [], ◌∷◌, ◌++◌, length, take, drop, refl}
+use Rattle.std.proofs.Common.{sym, ap, ◌∙◌, arith, append_assoc, length-drop}
 use Rattle.std.specs.Prelude.{slice_set, slice_range}
-use Rattle.std.proofs.lemmas.List.{take-take, drop-take, drop-drop, drop-set-add, take-set-le, take-append-le, drop-append-le, take_at, drop_at}
+use Rattle.std.proofs.lemmas.List.{take-take, drop-take, drop-drop, drop-set-add, take-set-le}
+use Rattle.std.proofs.lemmas.List.{take-append-le, drop-append-le, take_at, drop_at}
 use Rattle.wit_code.specs.declared.frames.Caller.{Caller}
 use Rattle.wit_code.specs.Frames.{Open, Frames, open_of, opened, width_of}
 

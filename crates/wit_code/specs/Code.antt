@@ -3,7 +3,9 @@
 use Rattle.std.specs.Prelude.{◌≡◌, ℕ, ◌+◌, ◌<◌, ◌≤◌, List, Some, slice_get, length}
 use Rattle.gold_field.specs.declared.gold.TheConstants.{P}
 use Rattle.wit_code.specs.declared.code.Op.{Op}
-use Rattle.wit_code.specs.declared.code.Op.TheVariants.{Const, Move, Read, Un, Bin, Bound, Load, Store, Jump, JumpZero, Turn, Call, Return, Check, Assert, Write}
+use Rattle.wit_code.specs.declared.code.Op.TheVariants.{Const, Move, Read, Un, Bin, Bound, Load}
+use Rattle.wit_code.specs.declared.code.Op.TheVariants.{Store, Jump, JumpZero, Turn, Call, Return}
+use Rattle.wit_code.specs.declared.code.Op.TheVariants.{Check, Assert, Write}
 use Rattle.wit_code.specs.declared.code.Proc.{Proc}
 use Rattle.wit_code.specs.declared.code.Stands.{Stands}
 use Rattle.wit_code.specs.declared.code.Stands.TheVariants.{InStep, InProc}

@@ -1,8 +1,13 @@
 -- What the machine does: the table of its instructions as one step, and a run as a list of steps.
-use Rattle.std.specs.Prelude.{◌≡◌, ℕ, zero, suc, ◌+◌, ◌*◌, ◌-◌, max, Bool, true, false, not, ◌==◌, nat_lt, if◌then◌else◌, List, [], ◌∷◌, ◌++◌, Option, Some, None, unwrap_or, slice_get, slice_index, slice_set, slice_range, replicate, length}
+use Rattle.std.specs.Prelude.{◌≡◌, ℕ, zero, suc, ◌+◌, ◌*◌, ◌-◌, max, Bool, true, false, not, ◌==◌}
+use Rattle.std.specs.Prelude.{nat_lt, if◌then◌else◌, List, [], ◌∷◌, ◌++◌, Option, Some, None}
+use Rattle.std.specs.Prelude.{unwrap_or, slice_get, slice_index, slice_set, slice_range, replicate}
+use Rattle.std.specs.Prelude.{length}
 use Rattle.gold_field.specs.Operators.{unary_of, binary_of}
 use Rattle.wit_code.specs.declared.code.Op.{Op}
-use Rattle.wit_code.specs.declared.code.Op.TheVariants.{Const, Move, Read, Un, Bin, Bound, Load, Store, Jump, JumpZero, Turn, Call, Return, Check, Assert, Write}
+use Rattle.wit_code.specs.declared.code.Op.TheVariants.{Const, Move, Read, Un, Bin, Bound, Load}
+use Rattle.wit_code.specs.declared.code.Op.TheVariants.{Store, Jump, JumpZero, Turn, Call, Return}
+use Rattle.wit_code.specs.declared.code.Op.TheVariants.{Check, Assert, Write}
 use Rattle.wit_code.specs.declared.code.Proc.{Proc}
 use Rattle.wit_code.specs.declared.code.Stop.{Stop}
 use Rattle.wit_code.specs.declared.code.Stop.TheVariants.{ConstraintFails, AssertFails, ZeroDivisor}

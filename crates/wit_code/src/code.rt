@@ -3,7 +3,7 @@ use items::Items;
 
 /// One instruction. A slot is a place of the running frame, named by its number; `d` is the slot
 /// that gets the result, and `t` a place of the code.
-#[derive(Clone, Copy, Debug, PartialEq, Eq)]
+#[derive(Clone, Copy)]
 pub enum Op {
     /// `Const(d, v)`: the number `v`.
     Const(u32, Gold),
@@ -43,7 +43,7 @@ pub enum Op {
 
 /// Code with its frame: `slots` numbers, of which the first `params` are given and the others start
 /// at 0.
-#[derive(Debug, Drop)]
+#[derive(Drop)]
 pub struct Proc {
     pub params: u32,
     pub slots: u32,
@@ -52,7 +52,7 @@ pub struct Proc {
 
 /// One run-time statement: its code, the cells that it reads, in the order of `Read`'s places, and
 /// the cells that it writes, in the order of the code's `Write`s.
-#[derive(Debug, Drop)]
+#[derive(Drop)]
 pub struct Step {
     pub code: Proc,
     pub reads: Items<u32>,
@@ -60,7 +60,7 @@ pub struct Step {
 }
 
 /// Where code stands: in a step, which reads so many numbers, or in a procedure.
-#[derive(Clone, Copy, Debug, PartialEq, Eq)]
+#[derive(Clone, Copy)]
 pub enum Stands {
     InStep(usize),
     InProc,

@@ -1,4 +1,5 @@
-ghost use Rattle.std.specs.Prelude.{◌≡◌, ◌+◌, ◌-◌, ◌<◌, ◌≤◌, [], ◌∷◌, ◌++◌, length, slice_index, slice_set, slice_range, replicate, IfOk, OnOk, OnErr};
+ghost use Rattle.std.specs.Prelude.{◌≡◌, ◌+◌, ◌-◌, ◌<◌, ◌≤◌, [], ◌∷◌, ◌++◌, length, slice_index};
+ghost use Rattle.std.specs.Prelude.{slice_set, slice_range, replicate, IfOk, OnOk, OnErr};
 ghost use Rattle.wit_code.specs.Frames.{Closes};
 
 use gold_field::Gold;
@@ -6,14 +7,14 @@ use std::alloc::{AllocError, Global};
 use std::marker::Model;
 
 /// Whose code runs: the step's own, or that of a procedure, by its number.
-#[derive(Clone, Copy, Debug, PartialEq, Eq)]
+#[derive(Clone, Copy)]
 pub enum Running {
     Own,
     Called(u32),
 }
 
 /// How a call that waits goes on: in which code, at which place, and with the answer in which slot.
-#[derive(Clone, Copy, Debug, PartialEq, Eq)]
+#[derive(Clone, Copy)]
 pub struct Resume {
     pub running: Running,
     pub place: usize,
@@ -21,7 +22,7 @@ pub struct Resume {
 }
 
 /// A call that waits, with the number of its slots.
-#[derive(Clone, Copy, Debug, PartialEq, Eq)]
+#[derive(Clone, Copy)]
 pub struct Caller {
     pub resume: Resume,
     pub width: usize,

@@ -1,8 +1,12 @@
-ghost use Rattle.std.specs.Prelude.{◌==◌, if◌then◌else◌, nat_lt, not, ◌≡◌, ◌+◌, ◌<◌, ◌≤◌, ◌^◌, ◌-◌, Some, Ok, length, slice_get, IfOk};
+ghost use Rattle.std.specs.Prelude.{◌==◌, if◌then◌else◌, nat_lt, not, ◌≡◌, ◌+◌, ◌<◌, ◌≤◌, ◌^◌, ◌-◌};
+ghost use Rattle.std.specs.Prelude.{Some, Ok, length, slice_get, IfOk};
 ghost use Rattle.gold_field.specs.Operators.{binary_of};
 ghost use Rattle.wit_code.specs.Code.{IsWellFormed, Names};
-ghost use Rattle.wit_code.specs.Seen.{seen, Follows, IsThere, NextFits, stands_of, AnswersFit, IsOutcome, ParamsFit};
-ghost use Rattle.wit_code.specs.Table.{RunsTo, act, call, code_of, go_on, in_frame, jump_to, leave, outcome_of, pay, proc_at, put, put_result, slot_of, start_of, turn_of, unless, written_with};
+ghost use Rattle.wit_code.specs.Seen.{seen, Follows, IsThere, NextFits, stands_of, AnswersFit};
+ghost use Rattle.wit_code.specs.Seen.{IsOutcome, ParamsFit};
+ghost use Rattle.wit_code.specs.Table.{RunsTo, act, call, code_of, go_on, in_frame, jump_to, leave};
+ghost use Rattle.wit_code.specs.Table.{outcome_of, pay, put, put_result, slot_of, start_of};
+ghost use Rattle.wit_code.specs.Table.{turn_of, unless, written_with};
 
 use crate::code::{Op, Proc, Stop};
 use crate::frames::{Frames, Resume, Running};

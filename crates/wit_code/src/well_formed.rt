@@ -1,5 +1,6 @@
-ghost use Rattle.std.specs.Prelude.{◌≡◌, ◌+◌, ◌<◌, ◌≤◌, ◌↔◌, IsTrue, Some, not, length, slice_get};
-ghost use Rattle.wit_code.specs.Code.{AreProcs, EachFits, Fits, IsCode, IsWellFormed, Leads, MayCall, MayJump, MayRead, Names, StandsInProc, StandsInStep};
+ghost use Rattle.std.specs.Prelude.{◌≡◌, ◌+◌, ◌<◌, ◌≤◌, ◌↔◌, IsTrue, Some, not};
+ghost use Rattle.wit_code.specs.Code.{AreProcs, EachFits, Fits, IsCode, IsWellFormed, Leads};
+ghost use Rattle.wit_code.specs.Code.{MayCall, MayJump, MayRead, Names, StandsInProc, StandsInStep};
 
 use crate::code::{Op, Proc, Stands};
 use gold_field::P;
@@ -120,6 +121,6 @@ fn leads(body: &[Op], place: usize, to: usize) -> bool
     if place < to {
         to <= body.len()
     } else {
-        to < body.len() && body[to] == Op::Turn
+        to < body.len() && matches!(body[to], Op::Turn)
     }
 }

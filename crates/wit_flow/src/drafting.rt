@@ -11,7 +11,7 @@ use std::mem;
 use wit_code::Step;
 
 /// The strand that named a cell last, counted from 1, and where its steps find the cell.
-#[derive(Clone, Copy, Debug)]
+#[derive(Clone, Copy)]
 pub struct Mark {
     pub strand: u32,
     pub source: Source,
@@ -19,7 +19,7 @@ pub struct Mark {
 
 /// The strands of the steps before `first`, and the open one from `first` on, of `count` steps so
 /// far.
-#[derive(Debug, Drop)]
+#[derive(Drop)]
 pub struct Draft {
     pub strands: Items<Strand>,
     pub reads: Items<Items<u32>>,

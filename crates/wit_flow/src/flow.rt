@@ -5,14 +5,14 @@ use std::marker::Model;
 use wit_code::{Proc, Step, Stop};
 
 /// Consecutive steps that run as one: `count` of them, from step `first` on.
-#[derive(Clone, Copy, Debug, PartialEq, Eq)]
+#[derive(Clone, Copy)]
 pub struct Strand {
     pub first: u32,
     pub count: u32,
 }
 
 /// Where a step finds a number that it reads.
-#[derive(Clone, Copy, Debug, PartialEq, Eq)]
+#[derive(Clone, Copy)]
 pub enum Source {
     /// At this place of what its strand reads.
     Read(usize),
@@ -22,7 +22,7 @@ pub enum Source {
 
 /// Steps that are cut into strands. The type keeps the conditions of `cut`, what the strands and
 /// their graph are, and the rule by which they are cut.
-#[derive(Debug, Drop)]
+#[derive(Drop)]
 pub struct Flow {
     pub strands: Items<Strand>,
     pub steps: Items<Step>,
@@ -91,7 +91,7 @@ impl Flow {
 }
 
 /// How the run of a whole flow ends.
-#[derive(Debug, Drop)]
+#[derive(Drop)]
 pub enum Outcome {
     /// The value of every cell.
     Done(Items<Gold>),
@@ -105,7 +105,7 @@ pub enum Outcome {
 }
 
 /// How the run of a strand ends.
-#[derive(Debug, Drop)]
+#[derive(Drop)]
 pub enum StrandOut {
     /// The values of the cells that it writes, in the order of the graph's list.
     Values(Items<Gold>),

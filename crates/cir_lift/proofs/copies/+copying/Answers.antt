@@ -1,6 +1,7 @@
 use Rattle.std.proofs.Common.{refl}
+use Rattle.cir_ast.specs.Tree.{bare}
 use Rattle.cir_lift.proofs.Copied.{accessors_more, accessors_all, named_start, named_more}
-use Rattle.cir_lift.proofs.Copied.{named_all}
+use Rattle.cir_lift.proofs.Copied.{named_all, mapped_more}
 use Rattle.cir_lift.proofs.Trees.{call_copied, array_copied, place_copied, anonymous_copied}
 use Rattle.cir_lift.proofs.Trees.{listed_copied}
 use Rattle.cir_lift.proofs.copies.+copying.Goals as goal
@@ -14,6 +15,11 @@ pub expr-returns-in_ok-elements-in-Array : goal.expr-returns-in_ok-elements-in-A
 expr-returns-in_ok-elements-in-Array t c =
     array_copied _ _ _ _ c.in-Array.is c.in_ok-elements-in-Array.ensures
     c.as_slice-in-Array.ensures
+
+pub exprs-loop-e-preserved : goal.exprs-loop-e-preserved
+exprs-loop-e-preserved t c =
+    mapped_more bare bare _ _ _ _ _ _ _ c.loop-e-test.true c.e-item.is c.in_ok-e.ensures
+    c.in_ok-push.ensures.items c.loop-e.invariant
 
 pub place-loop-a-preserved : goal.place-loop-a-preserved
 place-loop-a-preserved t c =

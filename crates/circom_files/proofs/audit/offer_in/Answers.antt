@@ -8,8 +8,7 @@ use Rattle.circom_files.specs.Steps.{WereRead}
 use Rattle.circom_files.specs.declared.outcome.Offer.{Offer}
 use Rattle.circom_files.proofs.Reading.{from_now, ok_now}
 use Rattle.circom_files.proofs.Offering.{offer_bad_publics, offer_bad_r1cs, offer_read}
-use Rattle.circom_files.proofs.Offering.{offer_unread}
-use Rattle.circom_files.proofs.Offering.{offer_unread_proof, offer_unread_publics}
+use Rattle.circom_files.proofs.Offering.{offer_unread, offer_unread_proof, offer_unread_publics}
 use Rattle.circom_files.proofs.audit.offer_in.Goals as goal
 
 pub returns-in_err-bytes-clause-step : goal.returns-in_err-bytes-clause-step

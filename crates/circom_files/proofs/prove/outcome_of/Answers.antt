@@ -10,4 +10,5 @@ returns-in-Ok-clause-accepted g c = λ proof is.
     subst (IsAcceptedFor w) same
     (always_accepted c.args.options.version w c.args.options.seed c.in-Ok.proof.items
     c.proof_of.ensures.file c.requires.limits c.requires.numbers
-    (refusal_verdict w.file w.values ∙ ap verdict_on c.in-Ok.ensures.proved.satisfied) c.in-Ok.ensures.proved.made)
+    (refusal_verdict w.file w.values ∙ ap verdict_on c.in-Ok.ensures.proved.satisfied)
+    c.in-Ok.ensures.proved.made)

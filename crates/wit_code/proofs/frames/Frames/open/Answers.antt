@@ -1,4 +1,5 @@
-use Rattle.std.proofs.Common.{◌≡◌, length-append, ◌-◌, ◌++◌, length, length-drop, replicate, ap, ◌∙◌, ◌∷◌, ◌+◌, arith}
+use Rattle.std.proofs.Common.{◌≡◌, length-append, ◌-◌, ◌++◌, length, length-drop, replicate, ap}
+use Rattle.std.proofs.Common.{◌∙◌, ◌∷◌, ◌+◌, arith}
 use Rattle.std.specs.Prelude.{slice_range}
 use Rattle.wit_code.specs.Frames.{Frames, width_of}
 use Rattle.wit_code.proofs.Stack.{shown_open, width_of_push}

@@ -3,7 +3,7 @@ use Rattle.std.specs.Prelude.{map}
 use Rattle.std.proofs.lemmas.Option.{none-some, same_Some}
 use Rattle.cir_frame.specs.Shown.{part_of}
 use Rattle.cir_frame.proofs.Numbered.{none_led, led}
-use Rattle.cir_frame.proofs.declaring.may_be.Goals as goal
+use Rattle.cir_assign.proofs.creating.may_be.Goals as goal
 
 pub returns-in_default : goal.returns-in_default
 returns-in_default c =

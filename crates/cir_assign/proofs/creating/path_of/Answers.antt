@@ -1,6 +1,6 @@
 use Rattle.std.proofs.Common.{ℕ, List, [], ◌∷◌, ◌++◌, ◌∙◌, append_assoc}
 use Rattle.cir_meaning.specs.Places.{brackets}
-use Rattle.cir_frame.proofs.declaring.path_of.Goals as goal
+use Rattle.cir_assign.proofs.creating.path_of.Goals as goal
 
 pub returns : goal.returns
 returns c =
