@@ -1,4 +1,4 @@
-ghost use Rattle.std.specs.Prelude.{◌≡◌, ◌<◌, [], ◌∷◌, None, Some, IfOk, IfSome, length};
+ghost use Rattle.std.specs.Prelude.{◌≡◌, ◌+◌, ◌<◌, [], ◌∷◌, None, Some, IfOk, IfSome, length};
 ghost use Rattle.flow_core.specs.Counts.{IsIn};
 ghost use Rattle.flow_core.specs.Net.{reads_of, succs_of};
 ghost use Rattle.flow_core.specs.Flow.{Gives, Refuses, answer_of, HasValue};
@@ -6,6 +6,7 @@ ghost use Rattle.flow_core.specs.Events.{hold};
 ghost use Rattle.engine_tests.specs.Examples.{chain, pair};
 ghost use Rattle.flow_board.specs.Seats.{first_seat, after_step};
 
+use crate::checks::same;
 use flow_board::{Answers, Board, Words, WorkSeat};
 use flow_core::{Graph, GraphFault};
 use gold_field::Gold;
@@ -13,7 +14,6 @@ use items::Items;
 use std::alloc::{AllocError, Global};
 use std::process::Abort;
 use std::snapshot::Snapshot;
-use std::test::Fail;
 use std::thread::{Threads, join_mut};
 
 /// Stands for the answers 33 and 34 of a graph.
@@ -44,11 +44,10 @@ fn two_in_a_row(alloc: Global) -> Result<Graph, GraphFault>
     Graph::new(alloc, 3, reads, writes)
 }
 
-fn number(n: u64) -> Result<Gold, Fail>
-    ensures { IfOk result (λ g. g ≡ n) }
+fn number(n: u32) -> Gold
+    ensures { result ≡ n }
 {
-    let number = Gold::new(n).ok_or("no number of the field")?;
-    Ok(number)
+    Gold::from_wide(u128::from(n))
 }
 
 /// A board over that graph, where cell 0 starts with 3.
@@ -210,8 +209,8 @@ fn in_turn<R: Threads + Abort>(
     assert!(rt; ran_a.is_some());
     let ran_b = in_a_thread(rt, board, graph, &mut b, 1, second);
     assert!(rt; ran_b.is_some());
-    assert_eq!(rt; ran_a, Some((three, Some(1))));
-    assert_eq!(rt; ran_b, Some((first, None)));
+    same(rt, ran_a, Some((three, Some(1))));
+    same(rt, ran_b, Some((first, None)));
     (a, b)
 }
 
@@ -228,22 +227,39 @@ fn are_as_told(words: &Words, three: Gold, first: Gold, second: Gold) -> bool
         && words.least().is_none()
 }
 
-#[test]
-fn two_seats_hand_over_by_a_join(rt: HostRuntime) -> Result<(), Fail> {
-    let graph = two_in_a_row(rt.alloc())?;
-    graph.facts();
-    let three = number(3)?;
-    let first = number(33)?;
-    let second = number(34)?;
-    let (board, mut a) = chain_board(rt.alloc(), &graph, three)?;
-    let b = board.split(&mut a);
-    let (mut a, mut b) = in_turn(&rt, &board, &graph, (a, b), three, first, second);
-    assert!(rt; board.least(&mut a).is_none());
-    assert!(rt; board.least(&mut b).is_none());
+/// Each of two seats sees this least refusal. They are joined, and the board is closed.
+fn closed<A: Answers + Drop>(
+    rt: &impl Abort,
+    board: Board<'_, A>,
+    seats: (WorkSeat, WorkSeat),
+    least: Option<u32>,
+) -> Words
+    requires own { seats.0.place ≡ board }
+    requires own_b { seats.1.place ≡ board }
+    requires free { seats.0.holding ≡ None }
+    requires free_b { seats.1.holding ≡ None }
+    requires whole { seats.0.share + seats.1.share ≡ 65 }
+    ensures cells { result.cells ≡ board.entry.flow.net.cells }
+    ensures strands { result.strands ≡ board.entry.flow.net.strands }
+{
+    let (mut a, mut b) = seats;
+    same(rt, board.least(&mut a), least);
+    same(rt, board.least(&mut b), least);
     board.join(&mut a, b);
-    let words = board.close(a);
+    board.close(a)
+}
+
+#[test]
+fn two_seats_hand_over_by_a_join(rt: HostRuntime) {
+    let graph = two_in_a_row(rt.alloc()).ok().expect(&rt, "a graph");
+    graph.facts();
+    let (three, first, second) = (number(3), number(33), number(34));
+    let made = chain_board(rt.alloc(), &graph, three);
+    let (board, mut a) = made.expect(&rt, "memory");
+    let b = board.split(&mut a);
+    let seats = in_turn(&rt, &board, &graph, (a, b), three, first, second);
+    let words = closed(&rt, board, seats, None);
     assert!(rt; are_as_told(&words, three, first, second));
-    Ok(())
 }
 
 /// Stands for the answers of a graph whose strand 0 refuses and whose strand 1 gives 7.
@@ -328,20 +344,16 @@ fn take_and_refuse<A: Answers>(
 }
 
 #[test]
-fn a_refusal_stands_beside_a_done_strand(rt: HostRuntime) -> Result<(), Fail> {
-    let graph = two_apart(rt.alloc())?;
+fn a_refusal_stands_beside_a_done_strand(rt: HostRuntime) {
+    let graph = two_apart(rt.alloc()).ok().expect(&rt, "a graph");
     graph.facts();
-    let seven = number(7)?;
-    let (board, mut a) = pair_board(rt.alloc(), &graph)?;
+    let seven = number(7);
+    let (board, mut a) = pair_board(rt.alloc(), &graph).expect(&rt, "memory");
     let mut b = board.split(&mut a);
     take_and_publish(&rt, &board, &mut b, 1, seven);
     hand_over(&board, &graph, &mut b, 1, seven);
     take_and_refuse(&rt, &board, &mut a, 0);
-    assert_eq!(rt; board.least(&mut a), Some(0));
-    assert_eq!(rt; board.least(&mut b), Some(0));
-    board.join(&mut a, b);
-    let words = board.close(a);
-    assert_eq!(rt; words.cell(1), Some(seven));
-    assert_eq!(rt; words.least(), Some(0));
-    Ok(())
+    let words = closed(&rt, board, (a, b), Some(0));
+    same(&rt, words.cell(1), Some(seven));
+    same(&rt, words.least(), Some(0));
 }

@@ -1,9 +1,10 @@
+use crate::checks::same;
 use flow_core::{Event, Graph, GraphFault, State, quiet, step};
 use gold_field::Gold;
 use items::Items;
 use std::alloc::{AllocError, Global};
 use std::marker::Model;
-use std::test::Fail;
+use std::process::Abort;
 
 fn lists(alloc: Global, rows: &[&[u32]]) -> Result<Vec<Items<u32>>, AllocError> {
     let mut lists = Vec::new(alloc);
@@ -13,31 +14,41 @@ fn lists(alloc: Global, rows: &[&[u32]]) -> Result<Vec<Items<u32>>, AllocError> 
     Ok(lists)
 }
 
+fn graph(
+    alloc: Global,
+    cells: u32,
+    reads: &[&[u32]],
+    writes: &[&[u32]],
+) -> Result<Graph, GraphFault> {
+    let reads = lists(alloc, reads)?;
+    let writes = lists(alloc, writes)?;
+    Graph::new(alloc, cells, reads, writes)
+}
+
 /// Strand 0 reads cell 0 and writes cell 1, and strand 1 reads that and writes cell 2.
-fn two_in_a_row(alloc: Global) -> Result<Graph, GraphFault> {
-    let reads = lists(alloc, &[&[0], &[1]])?;
-    let writes = lists(alloc, &[&[1], &[2]])?;
-    Graph::new(alloc, 3, reads, writes)
+fn two_in_a_row<R: AllocGlobal + Abort>(rt: &R) -> Graph {
+    let made = graph(rt.alloc(), 3, &[&[0], &[1]], &[&[1], &[2]]).ok();
+    made.expect(rt, "a graph")
 }
 
 #[test]
-fn links_are_found(rt: HostRuntime) -> Result<(), Fail> {
-    let reads = lists(rt.alloc(), &[&[0], &[1, 0], &[1, 2]])?;
-    let writes = lists(rt.alloc(), &[&[1], &[2], &[3]])?;
-    let graph = Graph::new(rt.alloc(), 4, reads, writes)?;
-    assert_eq!(rt; graph.strands, 3);
-    assert_eq!(rt; graph.preds_of(2), [0, 1].as_slice());
-    assert_eq!(rt; graph.succs_of(0), [1, 2].as_slice());
-    Ok(())
+fn links_are_found(rt: HostRuntime) {
+    let made = graph(
+        rt.alloc(),
+        4,
+        &[&[0], &[1, 0], &[1, 2]],
+        &[&[1], &[2], &[3]],
+    );
+    let graph = made.ok().expect(&rt, "a graph");
+    assert!(rt; graph.strands == 3);
+    same(&rt, graph.preds_of(2), &[0, 1]);
+    same(&rt, graph.succs_of(0), &[1, 2]);
 }
 
 #[test]
-fn a_later_writer_is_unfit(rt: HostRuntime) -> Result<(), Fail> {
-    let reads = lists(rt.alloc(), &[&[1], &[]])?;
-    let writes = lists(rt.alloc(), &[&[0], &[1]])?;
-    let made = Graph::new(rt.alloc(), 2, reads, writes);
+fn a_later_writer_is_unfit(rt: HostRuntime) {
+    let made = graph(rt.alloc(), 2, &[&[1], &[]], &[&[0], &[1]]);
     assert!(rt; matches!(made, Err(GraphFault::Unfit)));
-    Ok(())
 }
 
 /// A graph with a state that fits it, of which a test's proof knows nothing more.
@@ -60,11 +71,11 @@ impl<'g> Model for Run<'g> {
 
 impl<'g> Run<'g> {
     /// The graph's cell 0 starts with 3, and its other two are empty.
-    fn start(alloc: Global, graph: &'g Graph) -> Result<Run<'g>, Fail> {
-        let three = Gold::new(3).ok_or("no number of the field")?;
-        let start = [Some(three), None, None];
-        let state = State::opening(alloc, graph, &start)?.ok_or("no start")?;
-        Ok(Run { graph, state })
+    fn start<R: AllocGlobal + Abort>(rt: &R, graph: &'g Graph) -> Run<'g> {
+        let start = [Some(Gold::from_wide(3)), None, None];
+        let state = State::opening(rt.alloc(), graph, &start).expect(rt, "memory");
+        let state = state.expect(rt, "a start");
+        Run { graph, state }
     }
 
     fn bring(&mut self, event: Event) -> bool {
@@ -84,59 +95,78 @@ impl<'g> Run<'g> {
     }
 }
 
+/// Each of the events is enabled, or isn't, as stands beside it.
+fn go(rt: &impl Abort, run: &mut Run<'_>, events: &[(Event, bool)]) {
+    for (event, is_enabled) in events {
+        assert!(rt; run.bring(*event) == *is_enabled);
+    }
+}
+
+// A worker takes strand 0 and runs it whole, and another refuses strand 1.
 #[test]
-fn one_after_the_other(rt: HostRuntime) -> Result<(), Fail> {
-    let graph = two_in_a_row(rt.alloc())?;
-    let mut run = Run::start(rt.alloc(), &graph)?;
-    let value = Gold::new(4).ok_or("no number of the field")?;
-    assert!(rt;
-        run.bring(Event::Take {
-            worker: 7,
-            strand: 0
-        })
-    );
-    assert!(rt; run.bring(Event::Publish { worker: 7, value }));
-    assert!(rt; run.bring(Event::Release { worker: 7 }));
-    assert!(rt; run.bring(Event::Finish { worker: 7 }));
-    assert!(rt; !run.is_quiet());
-    assert!(rt;
-        run.bring(Event::Take {
-            worker: 9,
-            strand: 1
-        })
-    );
-    assert!(rt; run.bring(Event::Refuse { worker: 9 }));
-    assert!(rt; run.is_quiet());
-    assert_eq!(rt; run.least(), Some(1));
-    assert_eq!(rt; run.cell(1), Some(value));
-    Ok(())
+fn one_after_the_other(rt: HostRuntime) {
+    let graph = two_in_a_row(&rt);
+    let mut run = Run::start(&rt, &graph);
+    let value = Gold::from_wide(4);
+    let first = [
+        (
+            Event::Take {
+                worker: 7,
+                strand: 0,
+            },
+            true,
+        ),
+        (Event::Publish { worker: 7, value }, true),
+        (Event::Release { worker: 7 }, true),
+        (Event::Finish { worker: 7 }, true),
+    ];
+    go(&rt, &mut run, &first);
+    same(&rt, run.is_quiet(), false);
+    let second = [
+        (
+            Event::Take {
+                worker: 9,
+                strand: 1,
+            },
+            true,
+        ),
+        (Event::Refuse { worker: 9 }, true),
+    ];
+    go(&rt, &mut run, &second);
+    same(&rt, run.is_quiet(), true);
+    same(&rt, (run.least(), run.cell(1)), (Some(1), Some(value)));
 }
 
 #[test]
-fn what_is_not_enabled(rt: HostRuntime) -> Result<(), Fail> {
-    let graph = two_in_a_row(rt.alloc())?;
-    let mut run = Run::start(rt.alloc(), &graph)?;
-    let value = Gold::new(4).ok_or("no number of the field")?;
-    assert!(rt;
-        !run.bring(Event::Take {
-            worker: 7,
-            strand: 1
-        })
-    );
-    assert!(rt;
-        run.bring(Event::Take {
-            worker: 7,
-            strand: 0
-        })
-    );
-    assert!(rt;
-        !run.bring(Event::Take {
-            worker: 9,
-            strand: 0
-        })
-    );
-    assert!(rt; !run.bring(Event::Release { worker: 7 }));
-    assert!(rt; run.bring(Event::Publish { worker: 7, value }));
-    assert!(rt; !run.bring(Event::Refuse { worker: 7 }));
-    Ok(())
+fn what_is_not_enabled(rt: HostRuntime) {
+    let graph = two_in_a_row(&rt);
+    let mut run = Run::start(&rt, &graph);
+    let value = Gold::from_wide(4);
+    let events = [
+        (
+            Event::Take {
+                worker: 7,
+                strand: 1,
+            },
+            false,
+        ),
+        (
+            Event::Take {
+                worker: 7,
+                strand: 0,
+            },
+            true,
+        ),
+        (
+            Event::Take {
+                worker: 9,
+                strand: 0,
+            },
+            false,
+        ),
+        (Event::Release { worker: 7 }, false),
+        (Event::Publish { worker: 7, value }, true),
+        (Event::Refuse { worker: 7 }, false),
+    ];
+    go(&rt, &mut run, &events);
 }

@@ -4,6 +4,8 @@
 #[cfg(test)]
 mod board;
 #[cfg(test)]
+mod checks;
+#[cfg(test)]
 mod events;
 #[cfg(test)]
 mod machine;

@@ -1,8 +1,10 @@
+use crate::checks::same;
+use gold_field::Constraint;
 use iden_files::{
     FileCause, FileFault, first_failing, read_r1cs, read_wtns, write_r1cs, write_wtns,
 };
-use std::alloc::{AllocError, Global};
-use std::test::Fail;
+use std::alloc::Global;
+use std::process::Abort;
 
 // c <== a*b: four wires, one constraint.
 static R1CS: [u8; 168] = [
@@ -30,16 +32,16 @@ static WTNS: [u8; 84] = [
 ];
 
 // The bytes with those from `at` on replaced.
-fn with_bytes(alloc: Global, bytes: &[u8], at: usize, new: &[u8]) -> Result<Vec<u8>, AllocError> {
-    let mut changed = Vec::new(alloc);
-    for (i, b) in bytes.iter().enumerate() {
-        if i >= at && i - at < new.len() {
-            changed.push(new[i - at])?;
-        } else {
-            changed.push(*b)?;
-        }
+fn with_bytes<R: AllocGlobal + Abort>(rt: &R, bytes: &[u8], at: usize, new: &[u8]) -> Vec<u8> {
+    let mut changed = Vec::from_slice(rt.alloc(), bytes).expect(rt, "memory");
+    for (place, byte) in changed.iter_mut().skip(at).zip(new) {
+        *place = *byte;
     }
-    Ok(changed)
+    changed
+}
+
+fn put(rt: &impl Abort, bytes: &mut Vec<u8>, more: &[u8]) {
+    bytes.extend_from_slice(more).expect(rt, "memory");
 }
 
 fn r1cs_fault(alloc: Global, bytes: &[u8]) -> Option<(FileCause, u64)> {
@@ -56,47 +58,42 @@ fn wtns_fault(alloc: Global, bytes: &[u8]) -> Option<(FileCause, u64)> {
     }
 }
 
-fn r1cs_with(alloc: Global, at: usize, new: &[u8]) -> Result<Option<(FileCause, u64)>, AllocError> {
-    let bytes = with_bytes(alloc, &R1CS, at, new)?;
-    Ok(r1cs_fault(alloc, &bytes))
+fn r1cs_with<R: AllocGlobal + Abort>(rt: &R, at: usize, new: &[u8]) -> Option<(FileCause, u64)> {
+    let bytes = with_bytes(rt, &R1CS, at, new);
+    r1cs_fault(rt.alloc(), &bytes)
 }
 
-fn wtns_with(alloc: Global, at: usize, new: &[u8]) -> Result<Option<(FileCause, u64)>, AllocError> {
-    let bytes = with_bytes(alloc, &WTNS, at, new)?;
-    Ok(wtns_fault(alloc, &bytes))
-}
-
-#[test]
-fn a_file_is_read_and_written_back(rt: HostRuntime) -> Result<(), Fail> {
-    let alloc = rt.alloc();
-    let Ok(file) = read_r1cs(alloc, &R1CS) else {
-        assert!(rt; false);
-        return Ok(());
-    };
-    assert_eq!(rt; (file.wires, file.outputs, file.public_inputs), (4, 1, 0));
-    assert_eq!(rt; (file.private_inputs, file.label_count), (2, 4));
-    assert_eq!(rt; write_r1cs(alloc, &file)?.as_slice(), R1CS.as_slice());
-    Ok(())
+fn wtns_with<R: AllocGlobal + Abort>(rt: &R, at: usize, new: &[u8]) -> Option<(FileCause, u64)> {
+    let bytes = with_bytes(rt, &WTNS, at, new);
+    wtns_fault(rt.alloc(), &bytes)
 }
 
 #[test]
-fn values_are_read_and_written_back(rt: HostRuntime) -> Result<(), Fail> {
-    let alloc = rt.alloc();
-    let Ok(values) = read_wtns(alloc, &WTNS) else {
-        assert!(rt; false);
-        return Ok(());
-    };
-    assert_eq!(rt; values.len(), 4);
-    assert_eq!(rt; values[1].get(), 33);
-    assert_eq!(rt; write_wtns(alloc, &values)?.as_slice(), WTNS.as_slice());
-    Ok(())
+fn a_file_is_read_and_written_back(rt: HostRuntime) {
+    let file = read_r1cs(rt.alloc(), &R1CS).ok().expect(&rt, "a file");
+    same(&rt, (file.wires, file.label_count), (4, 4));
+    same(
+        &rt,
+        (file.outputs, file.public_inputs, file.private_inputs),
+        (1, 0, 2),
+    );
+    let written = write_r1cs(rt.alloc(), &file).expect(&rt, "memory");
+    same(&rt, written.as_slice(), R1CS.as_slice());
+}
+
+#[test]
+fn values_are_read_and_written_back(rt: HostRuntime) {
+    let values = read_wtns(rt.alloc(), &WTNS).ok().expect(&rt, "values");
+    same(&rt, values.len(), 4);
+    same(&rt, values.get(1).map(|value| value.get()), Some(33));
+    let written = write_wtns(rt.alloc(), &values).expect(&rt, "memory");
+    same(&rt, written.as_slice(), WTNS.as_slice());
 }
 
 // Which constraint the values of the second file don't satisfy.
 fn failing(alloc: Global, r1cs: &[u8], wtns: &[u8]) -> Option<Option<u32>> {
-    let (Ok(file), Ok(values)) = (read_r1cs(alloc, r1cs), read_wtns(alloc, wtns)) else {
-        return None;
-    };
+    let file = read_r1cs(alloc, r1cs).ok()?;
+    let values = read_wtns(alloc, wtns).ok()?;
     if values.len() == file.wires as usize {
         Some(first_failing(&file, &values))
     } else {
@@ -105,27 +102,21 @@ fn failing(alloc: Global, r1cs: &[u8], wtns: &[u8]) -> Option<Option<u32>> {
 }
 
 #[test]
-fn the_failing_constraint_is_named(rt: HostRuntime) -> Result<(), Fail> {
-    let alloc = rt.alloc();
-    let other = with_bytes(alloc, &WTNS, 60, &[34])?;
-    assert_eq!(rt; failing(alloc, &R1CS, &WTNS), Some(None));
-    assert_eq!(rt; failing(alloc, &R1CS, &other), Some(Some(0)));
-    Ok(())
+fn the_failing_constraint_is_named(rt: HostRuntime) {
+    let other = with_bytes(&rt, &WTNS, 60, &[34]);
+    same(&rt, failing(rt.alloc(), &R1CS, &WTNS), Some(None));
+    same(&rt, failing(rt.alloc(), &R1CS, &other), Some(Some(0)));
 }
 
 #[test]
 fn cut_files_are_truncated(rt: HostRuntime) {
     for k in 0..R1CS.len() {
-        assert_eq!(rt;
-            r1cs_fault(rt.alloc(), &R1CS[..k]),
-            Some((FileCause::Truncated, k as u64))
-        );
+        let fault = r1cs_fault(rt.alloc(), &R1CS[..k]);
+        same(&rt, fault, Some((FileCause::Truncated, k as u64)));
     }
     for k in 0..WTNS.len() {
-        assert_eq!(rt;
-            wtns_fault(rt.alloc(), &WTNS[..k]),
-            Some((FileCause::Truncated, k as u64))
-        );
+        let fault = wtns_fault(rt.alloc(), &WTNS[..k]);
+        same(&rt, fault, Some((FileCause::Truncated, k as u64)));
     }
 }
 
@@ -155,63 +146,64 @@ static WTNS_REFUSALS: [Row; 8] = [
 ];
 
 #[test]
-fn changed_files_are_refused(rt: HostRuntime) -> Result<(), Fail> {
-    let alloc = rt.alloc();
-    for row in &R1CS_REFUSALS {
-        let (at, new, cause, offset) = *row;
-        let fault = r1cs_with(alloc, at, &new.to_le_bytes())?;
-        assert_eq!(rt; fault, Some((cause, offset)));
+fn changed_files_are_refused(rt: HostRuntime) {
+    for (at, new, cause, offset) in R1CS_REFUSALS.as_slice() {
+        let fault = r1cs_with(&rt, *at, &new.to_le_bytes());
+        same(&rt, fault, Some((*cause, *offset)));
     }
-    for row in &WTNS_REFUSALS {
-        let (at, new, cause, offset) = *row;
-        let fault = wtns_with(alloc, at, &new.to_le_bytes())?;
-        assert_eq!(rt; fault, Some((cause, offset)));
+    for (at, new, cause, offset) in WTNS_REFUSALS.as_slice() {
+        let fault = wtns_with(&rt, *at, &new.to_le_bytes());
+        same(&rt, fault, Some((*cause, *offset)));
     }
-    Ok(())
 }
 
 #[test]
-fn the_order_is_no_value(rt: HostRuntime) -> Result<(), Fail> {
+fn the_order_is_no_value(rt: HostRuntime) {
     let order = [1, 0, 0, 0, 0xff, 0xff, 0xff, 0xff];
-    let fault = r1cs_with(rt.alloc(), 84, &order)?;
-    assert_eq!(rt; fault, Some((FileCause::ValueTooLarge, 84)));
-    let fault = wtns_with(rt.alloc(), 60, &order)?;
-    assert_eq!(rt; fault, Some((FileCause::ValueTooLarge, 60)));
-    Ok(())
+    let fault = r1cs_with(&rt, 84, &order);
+    same(&rt, fault, Some((FileCause::ValueTooLarge, 84)));
+    let fault = wtns_with(&rt, 60, &order);
+    same(&rt, fault, Some((FileCause::ValueTooLarge, 60)));
 }
 
 // The file with one more section of this type, whose body is empty.
-fn with_section(alloc: Global, kind: u8) -> Result<Vec<u8>, AllocError> {
-    let mut bytes = with_bytes(alloc, &R1CS, 8, &[4])?;
-    bytes.extend_from_slice(&[kind, 0, 0, 0, 0, 0, 0, 0, 0, 0, 0, 0])?;
-    Ok(bytes)
+fn with_section<R: AllocGlobal + Abort>(rt: &R, kind: u8) -> Vec<u8> {
+    let mut bytes = with_bytes(rt, &R1CS, 8, &[4]);
+    put(rt, &mut bytes, &[kind, 0, 0, 0, 0, 0, 0, 0, 0, 0, 0, 0]);
+    bytes
 }
 
 #[test]
-fn sections_in_any_order(rt: HostRuntime) -> Result<(), Fail> {
-    let alloc = rt.alloc();
-    let mut turned = Vec::from_slice(alloc, &R1CS[..12])?;
-    turned.extend_from_slice(&R1CS[124..])?;
-    turned.extend_from_slice(&R1CS[64..124])?;
-    turned.extend_from_slice(&R1CS[12..64])?;
-    assert!(rt; read_r1cs(alloc, &turned).is_ok());
-    Ok(())
+fn sections_in_any_order(rt: HostRuntime) {
+    let mut turned = Vec::new(rt.alloc());
+    put(&rt, &mut turned, &R1CS[..12]);
+    put(&rt, &mut turned, &R1CS[124..]);
+    put(&rt, &mut turned, &R1CS[64..124]);
+    put(&rt, &mut turned, &R1CS[12..64]);
+    assert!(rt; read_r1cs(rt.alloc(), &turned).is_ok());
 }
 
 #[test]
-fn other_sections(rt: HostRuntime) -> Result<(), Fail> {
-    let alloc = rt.alloc();
-    let unknown = with_section(alloc, 9)?;
-    assert!(rt; read_r1cs(alloc, &unknown).is_ok());
-    let gates = with_section(alloc, 4)?;
-    assert_eq!(rt;
-        r1cs_fault(alloc, &gates),
-        Some((FileCause::CustomGates, 168))
+fn other_sections(rt: HostRuntime) {
+    let unknown = with_section(&rt, 9);
+    assert!(rt; read_r1cs(rt.alloc(), &unknown).is_ok());
+    let gates = with_section(&rt, 4);
+    same(
+        &rt,
+        r1cs_fault(rt.alloc(), &gates),
+        Some((FileCause::CustomGates, 168)),
     );
-    let mut tail = Vec::from_slice(alloc, &R1CS)?;
-    tail.push(0)?;
-    assert_eq!(rt; r1cs_fault(alloc, &tail), Some((FileCause::BadCount, 168)));
-    Ok(())
+}
+
+#[test]
+fn nothing_stands_behind_the_last_section(rt: HostRuntime) {
+    let mut tail = with_bytes(&rt, &R1CS, 0, &[]);
+    put(&rt, &mut tail, &[0]);
+    same(
+        &rt,
+        r1cs_fault(rt.alloc(), &tail),
+        Some((FileCause::BadCount, 168)),
+    );
 }
 
 // A section of one constraint over four wires, whose A is
@@ -226,17 +218,22 @@ static REPEATING: [u8; 84] = [
     0, 0, 0, 0, 0, 0, 0, 0, // no terms, twice
 ];
 
-#[test]
-fn repeated_wires_add_up(rt: HostRuntime) -> Result<(), Fail> {
-    let alloc = rt.alloc();
-    let mut bytes = with_bytes(alloc, &R1CS[..64], 8, &[2])?;
-    bytes.extend_from_slice(&REPEATING)?;
-    let file = read_r1cs(alloc, &bytes).ok().ok_or("the file is refused")?;
-    for k in file.constraints() {
-        assert_eq!(rt; k.a.as_slice().len(), 1);
-        for t in k.a.as_slice() {
-            assert_eq!(rt; (t.signal, t.coef.get()), (1, 11));
-        }
+// A is 11 * w[1] alone.
+fn is_sum(rt: &impl Abort, constraint: &Constraint) {
+    let terms = constraint.a.as_slice();
+    same(rt, terms.len(), 1);
+    for term in terms {
+        same(rt, (term.signal, term.coef.get()), (1, 11));
     }
-    Ok(())
+}
+
+#[test]
+fn repeated_wires_add_up(rt: HostRuntime) {
+    let mut bytes = with_bytes(&rt, &R1CS[..64], 8, &[2]);
+    put(&rt, &mut bytes, &REPEATING);
+    let file = read_r1cs(rt.alloc(), &bytes).ok().expect(&rt, "a file");
+    same(&rt, file.constraints().len(), 1);
+    for constraint in file.constraints() {
+        is_sum(&rt, constraint);
+    }
 }

@@ -1,61 +1,88 @@
+use crate::checks::same;
 use cir_values::{InputShape, Signals};
+use gold_field::Gold;
 use items::Items;
-use std::alloc::{AllocError, Global};
-use std::test::Fail;
+use std::process::Abort;
 use wit_input::{InputFault, read_input, read_publics, write_publics};
 
-// The table of `signal input in[2][2]; signal output out;`.
-fn table(alloc: Global) -> Result<Signals, AllocError> {
-    let mut inputs = Vec::new(alloc);
-    inputs.push(InputShape {
-        name: Items::from_slice(alloc, b"in")?,
+// `in[2][2]` behind one output.
+fn shape<R: AllocGlobal + Abort>(rt: &R) -> InputShape {
+    InputShape {
+        name: Items::from_slice(rt.alloc(), b"in").expect(rt, "memory"),
         first: 2,
         count: 4,
-    })?;
-    Ok(Signals {
-        names: Items::new(alloc),
+    }
+}
+
+// The table of `signal input in[2][2]; signal output out;`.
+fn table<R: AllocGlobal + Abort>(rt: &R) -> Signals {
+    let mut inputs = Vec::new(rt.alloc());
+    inputs.push(shape(rt)).expect(rt, "memory");
+    Signals {
+        names: Items::new(rt.alloc()),
         outputs: 1,
         public_inputs: 0,
         private_inputs: 4,
         inputs: Items::of(inputs),
-    })
+    }
 }
 
-// 0 and the numbers, or the number of the refusal and what it names.
-fn told(
-    alloc: Global,
-    read: Result<Vec<gold_field::Gold>, InputFault>,
-) -> Result<(u8, Vec<u64>), AllocError> {
-    let mut named = Vec::new(alloc);
-    let kind = match read {
-        Ok(values) => {
-            for value in values.as_slice() {
-                named.push(value.get())?;
-            }
-            0
-        }
-        Err(InputFault::NotJson) => 1,
-        Err(InputFault::Missing { input }) => {
-            named.push(u64::from(input))?;
+fn push(rt: &impl Abort, named: &mut Vec<u64>, number: u64) {
+    named.push(number).expect(rt, "memory");
+}
+
+// The number of the refusal, and what it names.
+fn refused(rt: &impl Abort, fault: &InputFault, named: &mut Vec<u64>) -> u8 {
+    match fault {
+        InputFault::NotJson => 1,
+        InputFault::Missing { input } => {
+            push(rt, named, u64::from(*input));
             2
         }
-        Err(InputFault::UnknownSignal { key }) => {
+        InputFault::UnknownSignal { key } => {
             for byte in key.as_slice() {
-                named.push(u64::from(*byte))?;
+                push(rt, named, u64::from(*byte));
             }
             3
         }
-        Err(InputFault::WrongCount { input, has, wants }) => {
-            named.extend_from_slice(&[u64::from(input), has, u64::from(wants)])?;
+        InputFault::WrongCount { input, has, wants } => {
+            push(rt, named, u64::from(*input));
+            push(rt, named, *has);
+            push(rt, named, u64::from(*wants));
             4
         }
-        Err(InputFault::BadNumber { input, index }) => {
-            named.extend_from_slice(&[u64::from(input), index])?;
+        InputFault::BadNumber { input, index } => {
+            push(rt, named, u64::from(*input));
+            push(rt, named, *index);
             5
         }
-        Err(InputFault::OutOfMemory) => return Err(AllocError),
+        InputFault::OutOfMemory => 6,
+    }
+}
+
+fn numbers(rt: &impl Abort, values: &[Gold], named: &mut Vec<u64>) {
+    for value in values {
+        push(rt, named, value.get());
+    }
+}
+
+// The answer of a reading is these numbers behind 0, or the refusal of this number that names them.
+fn tells<R: AllocGlobal + Abort>(
+    rt: &R,
+    read: &Result<Vec<Gold>, InputFault>,
+    kind: u8,
+    wanted: &[u64],
+) {
+    let mut named = Vec::new(rt.alloc());
+    let found = match read {
+        Ok(values) => {
+            numbers(rt, values, &mut named);
+            0
+        }
+        Err(fault) => refused(rt, fault, &mut named),
     };
-    Ok((kind, named))
+    same(rt, found, kind);
+    same(rt, named.as_slice(), wanted);
 }
 
 type Row = (&'static str, u8, &'static [u64]);
@@ -69,7 +96,8 @@ static INPUTS: [Row; 15] = [
         &[1, 18446744069414584320, 16, 0, 0],
     ),
     (
-        "{\"in\":[[[],\"340282366920938463463374607431768211455\"],[[18446744073709551615]],-1,\"-0\"]}",
+        "{\"in\":[[[],\"340282366920938463463374607431768211455\"],\
+            [[18446744073709551615]],-1,\"-0\"]}",
         0,
         &[1, 18446744065119617024, 4294967294, 18446744069414584320, 0],
     ),
@@ -91,16 +119,13 @@ static INPUTS: [Row; 15] = [
 ];
 
 #[test]
-fn inputs_are_read_or_refused_in_order(rt: HostRuntime) -> Result<(), Fail> {
-    let alloc = rt.alloc();
-    let table = table(alloc)?;
+fn inputs_are_read_or_refused_in_order(rt: HostRuntime) {
+    let table = table(&rt);
     assert!(rt; table.inputs.len() == 1);
     for (text, kind, named) in INPUTS.as_slice() {
-        let found = told(alloc, read_input(alloc, text.as_bytes(), &table))?;
-        assert_eq!(rt; found.0, *kind, "{text}");
-        assert_eq!(rt; found.1.as_slice(), *named, "{text}");
+        let read = read_input(rt.alloc(), text.as_bytes(), &table);
+        tells(&rt, &read, *kind, named);
     }
-    Ok(())
 }
 
 static PUBLICS: [Row; 6] = [
@@ -113,21 +138,19 @@ static PUBLICS: [Row; 6] = [
 ];
 
 #[test]
-fn public_files_are_read_and_written(rt: HostRuntime) -> Result<(), Fail> {
-    let alloc = rt.alloc();
+fn public_files_are_read(rt: HostRuntime) {
     for (text, kind, named) in PUBLICS.as_slice() {
-        let found = told(alloc, read_publics(alloc, text.as_bytes()))?;
-        assert_eq!(rt; found.0, *kind, "{text}");
-        assert_eq!(rt; found.1.as_slice(), *named, "{text}");
+        let read = read_publics(rt.alloc(), text.as_bytes());
+        tells(&rt, &read, *kind, named);
     }
+}
+
+#[test]
+fn public_files_are_written(rt: HostRuntime) {
     for text in ["[\"33\",\"3\"]", "[\"1\"]", "[]"] {
-        match read_publics(alloc, text.as_bytes()) {
-            Ok(values) => {
-                let written = write_publics(alloc, values.as_slice())?;
-                assert_eq!(rt; written.as_slice(), text.as_bytes());
-            }
-            Err(_) => assert!(rt; false, "{text}"),
-        }
+        let values = read_publics(rt.alloc(), text.as_bytes());
+        let values = values.ok().expect(&rt, "values");
+        let written = write_publics(rt.alloc(), &values).expect(&rt, "memory");
+        same(&rt, written.as_slice(), text.as_bytes());
     }
-    Ok(())
 }

@@ -1,9 +1,9 @@
-ghost use Rattle.std.specs.Prelude.{◌≡◌, [], ◌∷◌, IfOk};
+ghost use Rattle.std.specs.Prelude.{◌≡◌, [], ◌∷◌};
 
+use crate::checks::same;
 use flow_samples::{Link, chain, linked, wide};
 use gold_field::Gold;
-use std::alloc::Global;
-use std::test::Fail;
+use std::process::Abort;
 use wit_code::Stop;
 use wit_flow::{Flow, Outcome, run_one};
 
@@ -15,42 +15,37 @@ pub(crate) fn number(n: u64) -> Gold {
 }
 
 /// One more link, by the cell that it reads and the number that it adds.
-pub(crate) fn add(links: &mut Vec<Link>, from: u32, n: u64) -> Result<(), Fail> {
+pub(crate) fn add(rt: &impl Abort, links: &mut Vec<Link>, from: u32, n: u64) {
     let number = number(n);
-    links.push(Link { from, number })?;
-    Ok(())
+    links.push(Link { from, number }).expect(rt, "memory");
 }
 
-pub(crate) fn flow_of(alloc: Global, links: &[Link]) -> Result<Flow, Fail>
-    ensures { IfOk result (λ f. f.starts ≡ 0 ∷ []) }
+pub(crate) fn flow_of<R: AllocGlobal + Abort>(rt: &R, links: &[Link]) -> Flow
+    ensures { result.starts ≡ 0 ∷ [] }
 {
-    let made = linked(alloc, links)?;
-    let flow = made.ok_or("no flow")?;
-    Ok(flow)
+    let made = linked(rt.alloc(), links).expect(rt, "memory");
+    made.expect(rt, "a flow")
 }
 
-pub(crate) fn wide_flow(alloc: Global, steps: u32, n: u64) -> Result<Flow, Fail>
-    ensures { IfOk result (λ f. f.starts ≡ 0 ∷ []) }
+pub(crate) fn wide_flow<R: AllocGlobal + Abort>(rt: &R, steps: u32, n: u64) -> Flow
+    ensures { result.starts ≡ 0 ∷ [] }
 {
-    let made = wide(alloc, steps, number(n))?;
-    let flow = made.ok_or("no flow")?;
-    Ok(flow)
+    let made = wide(rt.alloc(), steps, number(n)).expect(rt, "memory");
+    made.expect(rt, "a flow")
 }
 
-pub(crate) fn chain_flow(alloc: Global, steps: u32, n: u64) -> Result<Flow, Fail>
-    ensures { IfOk result (λ f. f.starts ≡ 0 ∷ []) }
+pub(crate) fn chain_flow<R: AllocGlobal + Abort>(rt: &R, steps: u32, n: u64) -> Flow
+    ensures { result.starts ≡ 0 ∷ [] }
 {
-    let made = chain(alloc, steps, number(n))?;
-    let flow = made.ok_or("no flow")?;
-    Ok(flow)
+    let made = chain(rt.alloc(), steps, number(n)).expect(rt, "memory");
+    made.expect(rt, "a flow")
 }
 
 /// Runs a flow on one thread, with no fuel.
-pub(crate) fn in_order(alloc: Global, flow: &Flow, start: u64) -> Result<Outcome, Fail>
+pub(crate) fn in_order<R: AllocGlobal + Abort>(rt: &R, flow: &Flow, start: u64) -> Outcome
     requires { flow.now.starts ≡ 0 ∷ [] }
 {
-    let outcome = run_one(alloc, flow, &[number(start)], 0)?;
-    Ok(outcome)
+    run_one(rt.alloc(), flow, &[number(start)], 0).expect(rt, "memory")
 }
 
 /// The number in a cell, if it has one.
@@ -74,31 +69,37 @@ pub(crate) fn assert_at(outcome: &Outcome) -> Option<u32> {
     }
 }
 
+/// The cells have these numbers, or none.
+pub(crate) fn has(rt: &impl Abort, outcome: &Outcome, cells: &[(usize, Option<u64>)]) {
+    for (cell, number) in cells {
+        same(rt, value(outcome, *cell), *number);
+    }
+}
+
 // 3 + 16 * 2 = 35, and 35 + 16 * 10 = 195.
 #[test]
-fn each_step_reads_what_is_there(rt: HostRuntime) -> Result<(), Fail> {
+fn each_step_reads_what_is_there(rt: HostRuntime) {
     let mut links = Vec::new(rt.alloc());
-    add(&mut links, 0, 2)?;
-    add(&mut links, 1, 10)?;
-    let flow = flow_of(rt.alloc(), links.as_slice())?;
-    let outcome = in_order(rt.alloc(), &flow, 3)?;
-    assert_eq!(rt; assert_at(&outcome), None);
-    assert_eq!(rt; value(&outcome, 0), Some(3));
-    assert_eq!(rt; value(&outcome, 1), Some(35));
-    assert_eq!(rt; value(&outcome, 2), Some(195));
-    Ok(())
+    add(&rt, &mut links, 0, 2);
+    add(&rt, &mut links, 1, 10);
+    let flow = flow_of(&rt, links.as_slice());
+    let outcome = in_order(&rt, &flow, 3);
+    same(&rt, assert_at(&outcome), None);
+    has(
+        &rt,
+        &outcome,
+        &[(0, Some(3)), (1, Some(35)), (2, Some(195))],
+    );
 }
 
 // 16 + 16 = 32, and 16 - 16 stops.
 #[test]
-fn a_refusal_keeps_the_cells_before_it(rt: HostRuntime) -> Result<(), Fail> {
+fn a_refusal_keeps_the_cells_before_it(rt: HostRuntime) {
     let mut links = Vec::new(rt.alloc());
-    add(&mut links, 0, 1)?;
-    add(&mut links, 0, MINUS_ONE)?;
-    let flow = flow_of(rt.alloc(), links.as_slice())?;
-    let outcome = in_order(rt.alloc(), &flow, 16)?;
-    assert_eq!(rt; assert_at(&outcome), Some(1));
-    assert_eq!(rt; value(&outcome, 1), Some(32));
-    assert_eq!(rt; value(&outcome, 2), None);
-    Ok(())
+    add(&rt, &mut links, 0, 1);
+    add(&rt, &mut links, 0, MINUS_ONE);
+    let flow = flow_of(&rt, links.as_slice());
+    let outcome = in_order(&rt, &flow, 16);
+    same(&rt, assert_at(&outcome), Some(1));
+    has(&rt, &outcome, &[(1, Some(32)), (2, None)]);
 }

@@ -1,14 +1,13 @@
-ghost use Rattle.std.specs.Prelude.{◌≡◌, [], ◌∷◌, IfOk};
+ghost use Rattle.std.specs.Prelude.{◌≡◌, ◌<◌, ◌≤◌, [], ◌∷◌};
 
+use crate::checks::same;
 use crate::flow::{
-    MINUS_ONE, add, assert_at, chain_flow, flow_of, in_order, number, value, wide_flow,
+    MINUS_ONE, add, assert_at, chain_flow, flow_of, has, in_order, number, wide_flow,
 };
 use flow_engine::{Gate, OpenGate, run_many};
-use std::alloc::{AllocError, AllocGlobal, Global};
 use std::process::Abort;
 use std::sync::Wait;
 use std::sync::atomic::{AtomicU64, Ordering};
-use std::test::Fail;
 use std::thread::Threads;
 use wit_flow::{Flow, Outcome};
 
@@ -35,51 +34,62 @@ fn strands_of(flow: &Flow) -> u32 {
     flow.graph.strands
 }
 
+/// Runs a flow on so many workers, with a gate before each strand.
+fn on_workers<R: Threads + Wait + AllocGlobal + Sync + Abort, G: Gate>(
+    rt: &R,
+    flow: &Flow,
+    start: u64,
+    workers: u32,
+    gate: &G,
+) -> Outcome
+    requires starts { flow.now.starts ≡ 0 ∷ [] }
+    requires some { 0 < workers }
+    requires few { workers ≤ 64 }
+{
+    run_many(rt, flow, &[number(start)], 0, workers, gate).expect(rt, "memory")
+}
+
 /// Runs a flow on one thread and on 1, 4 and 64 workers, which must give the same outcome.
 fn on_all<R: Threads + Wait + AllocGlobal + Sync + Abort>(
     rt: &R,
     flow: &Flow,
     start: u64,
-) -> Result<Outcome, Fail>
+) -> Outcome
     requires { flow.now.starts ≡ 0 ∷ [] }
 {
-    let one = in_order(rt.alloc(), flow, start)?;
+    let one = in_order(rt, flow, start);
     for workers in [1u32, 4, 64] {
-        let many = run_many(rt, flow, &[number(start)], 0, workers, &OpenGate)?;
-        assert!(rt; are_same(&one, &many), "{workers} workers");
+        let many = on_workers(rt, flow, start, workers, &OpenGate);
+        assert!(rt; are_same(&one, &many));
     }
-    Ok(one)
+    one
 }
 
 // 5 + 16 in each cell.
 #[test]
-fn a_wide_flow_on_many_workers(rt: HostRuntime) -> Result<(), Fail> {
-    let flow = wide_flow(rt.alloc(), 200, 1)?;
-    assert_eq!(rt; strands_of(&flow), 200);
-    let outcome = on_all(&rt, &flow, 5)?;
-    assert_eq!(rt; value(&outcome, 200), Some(21));
-    Ok(())
+fn a_wide_flow_on_many_workers(rt: HostRuntime) {
+    let flow = wide_flow(&rt, 200, 1);
+    same(&rt, strands_of(&flow), 200);
+    let outcome = on_all(&rt, &flow, 5);
+    has(&rt, &outcome, &[(200, Some(21))]);
 }
 
 // 5 + 16 * 1000, by strands of 256 steps.
 #[test]
-fn a_chain_on_many_workers(rt: HostRuntime) -> Result<(), Fail> {
-    let flow = chain_flow(rt.alloc(), 1000, 1)?;
-    assert_eq!(rt; strands_of(&flow), 4);
-    let outcome = on_all(&rt, &flow, 5)?;
-    assert_eq!(rt; value(&outcome, 1000), Some(16005));
-    Ok(())
+fn a_chain_on_many_workers(rt: HostRuntime) {
+    let flow = chain_flow(&rt, 1000, 1);
+    same(&rt, strands_of(&flow), 4);
+    let outcome = on_all(&rt, &flow, 5);
+    has(&rt, &outcome, &[(1000, Some(16005))]);
 }
 
 // 4800 is 16 * 300, and the step that comes to 0 stands inside the second strand.
 #[test]
-fn a_step_stops_within_a_strand(rt: HostRuntime) -> Result<(), Fail> {
-    let flow = chain_flow(rt.alloc(), 600, MINUS_ONE)?;
-    let outcome = on_all(&rt, &flow, 4800)?;
-    assert_eq!(rt; assert_at(&outcome), Some(299));
-    assert_eq!(rt; value(&outcome, 299), Some(16));
-    assert_eq!(rt; value(&outcome, 300), None);
-    Ok(())
+fn a_step_stops_within_a_strand(rt: HostRuntime) {
+    let flow = chain_flow(&rt, 600, MINUS_ONE);
+    let outcome = on_all(&rt, &flow, 4800);
+    same(&rt, assert_at(&outcome), Some(299));
+    has(&rt, &outcome, &[(299, Some(16)), (300, None)]);
 }
 
 const LOOKS: u32 = 100_000_000;
@@ -117,35 +127,46 @@ impl Gate for Meeting {
 }
 
 // Two steps that stop, between one before them and one behind that.
-fn two_stops(alloc: Global) -> Result<Flow, Fail>
-    ensures { IfOk result (λ f. f.starts ≡ 0 ∷ []) }
+fn two_stops<R: AllocGlobal + Abort>(rt: &R) -> Flow
+    ensures { result.starts ≡ 0 ∷ [] }
 {
-    let mut links = Vec::new(alloc);
-    add(&mut links, 0, 1)?;
-    add(&mut links, 0, MINUS_ONE)?;
-    add(&mut links, 0, MINUS_ONE)?;
-    add(&mut links, 1, 1)?;
-    flow_of(alloc, links.as_slice())
+    let mut links = Vec::new(rt.alloc());
+    add(rt, &mut links, 0, 1);
+    add(rt, &mut links, 0, MINUS_ONE);
+    add(rt, &mut links, 0, MINUS_ONE);
+    add(rt, &mut links, 1, 1);
+    flow_of(rt, links.as_slice())
+}
+
+impl Meeting {
+    fn new() -> Meeting {
+        Meeting {
+            first: AtomicU64::new(0),
+            second: AtomicU64::new(0),
+            alone: AtomicU64::new(0),
+        }
+    }
+
+    // How often each of the two has entered, and how often without the other.
+    fn entered(&self) -> (u64, u64, u64) {
+        (
+            self.first.load(Ordering::SeqCst),
+            self.second.load(Ordering::SeqCst),
+            self.alone.load(Ordering::SeqCst),
+        )
+    }
 }
 
 // Both strands refuse, and the lesser is the answer. Neither an order of the strands on one thread
 // nor the caller's own run gets them past the gate.
 #[test]
-fn two_strands_run_at_once(rt: HostRuntime) -> Result<(), Fail> {
-    let flow = two_stops(rt.alloc())?;
-    let gate = Meeting {
-        first: AtomicU64::new(0),
-        second: AtomicU64::new(0),
-        alone: AtomicU64::new(0),
-    };
-    let outcome = run_many(&rt, &flow, &[number(16)], 0, 8, &gate)?;
-    assert_eq!(rt; gate.first.load(Ordering::SeqCst), 1);
-    assert_eq!(rt; gate.second.load(Ordering::SeqCst), 1);
-    assert_eq!(rt; gate.alone.load(Ordering::SeqCst), 0);
-    assert_eq!(rt; assert_at(&outcome), Some(1));
-    assert_eq!(rt; value(&outcome, 1), Some(32));
-    assert_eq!(rt; value(&outcome, 2), None);
-    Ok(())
+fn two_strands_run_at_once(rt: HostRuntime) {
+    let flow = two_stops(&rt);
+    let gate = Meeting::new();
+    let outcome = on_workers(&rt, &flow, 16, 8, &gate);
+    same(&rt, gate.entered(), (1, 1, 0));
+    same(&rt, assert_at(&outcome), Some(1));
+    has(&rt, &outcome, &[(1, Some(32)), (2, None)]);
 }
 
 /// Counts how often each strand enters.
@@ -160,23 +181,23 @@ impl Gate for Counts {
     }
 }
 
-fn no_counts(alloc: Global, strands: u32) -> Result<Counts, AllocError> {
-    let mut counts = Vec::new(alloc);
+fn no_counts<R: AllocGlobal + Abort>(rt: &R, strands: u32) -> Counts {
+    let mut counts = Vec::new(rt.alloc());
     for made in 0..strands {
-        counts.push(AtomicU64::new(0))?;
+        counts.push(AtomicU64::new(0)).expect(rt, "memory");
     }
-    Ok(Counts(counts))
+    Counts(counts)
 }
 
 /// A tree: each step reads what the step at half its place wrote, and is a strand of its own.
-fn tree(alloc: Global, steps: u32) -> Result<Flow, Fail>
-    ensures { IfOk result (λ f. f.starts ≡ 0 ∷ []) }
+fn tree<R: AllocGlobal + Abort>(rt: &R, steps: u32) -> Flow
+    ensures { result.starts ≡ 0 ∷ [] }
 {
-    let mut links = Vec::new(alloc);
+    let mut links = Vec::new(rt.alloc());
     for place in 0..steps {
-        add(&mut links, place / 2, 1)?;
+        add(rt, &mut links, place / 2, 1);
     }
-    flow_of(alloc, links.as_slice())
+    flow_of(rt, links.as_slice())
 }
 
 // Whether each strand has entered just once.
@@ -190,13 +211,11 @@ fn are_all_once(gate: &Counts) -> bool {
 }
 
 #[test]
-fn each_strand_is_run_by_a_worker(rt: HostRuntime) -> Result<(), Fail> {
-    let flow = tree(rt.alloc(), 100)?;
-    assert_eq!(rt; strands_of(&flow), 100);
-    let gate = no_counts(rt.alloc(), 100)?;
-    let many = run_many(&rt, &flow, &[number(5)], 0, 8, &gate)?;
-    let one = in_order(rt.alloc(), &flow, 5)?;
-    assert!(rt; are_same(&one, &many));
+fn each_strand_is_run_by_a_worker(rt: HostRuntime) {
+    let flow = tree(&rt, 100);
+    same(&rt, strands_of(&flow), 100);
+    let gate = no_counts(&rt, 100);
+    let many = on_workers(&rt, &flow, 5, 8, &gate);
+    assert!(rt; are_same(&in_order(&rt, &flow, 5), &many));
     assert!(rt; are_all_once(&gate));
-    Ok(())
 }

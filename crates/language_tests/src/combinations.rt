@@ -1,74 +1,65 @@
+use crate::checks::same;
 use cir_lc::{Quad, add, normal, scale, times};
-use gold_field::{Gold, Lc, P, Term};
-use std::alloc::{AllocError, Global};
+use gold_field::{Constraint, Gold, Lc, P, Term};
 use std::process::Abort;
-use std::test::Fail;
 
-fn signal(alloc: Global, signal: u32) -> Result<Lc, AllocError> {
-    let mut terms = Vec::new(alloc);
-    terms.push(Term {
-        signal,
-        coef: Gold::ONE,
-    })?;
-    Ok(Lc::of(terms))
+// A signal, as often as this.
+fn multiple<R: AllocGlobal + Abort>(rt: &R, signal: u32, factor: Gold) -> Lc {
+    let coef = Gold::ONE;
+    let terms = Vec::from_slice(rt.alloc(), &[Term { signal, coef }]).expect(rt, "memory");
+    scale(rt.alloc(), &Lc::of(terms), factor).expect(rt, "memory")
+}
+
+fn signal<R: AllocGlobal + Abort>(rt: &R, signal: u32) -> Lc {
+    multiple(rt, signal, Gold::ONE)
+}
+
+fn sum<R: AllocGlobal + Abort>(rt: &R, left: &Lc, right: &Lc) -> Lc {
+    add(rt.alloc(), left, right).expect(rt, "memory")
 }
 
 fn expect_terms(rt: &impl Abort, f: &Lc, wanted: &[(u32, u64)]) {
     let terms = f.as_slice();
-    assert_eq!(rt; terms.len(), wanted.len());
-    for (term, (signal, coef)) in terms.iter().zip(wanted) {
-        assert_eq!(rt; term.signal, *signal);
-        assert_eq!(rt; term.coef.get(), *coef);
+    same(rt, terms.len(), wanted.len());
+    for (term, pair) in terms.iter().zip(wanted) {
+        same(rt, (term.signal, term.coef.get()), *pair);
     }
 }
 
 // (2 * x1 + 3 * x2) + ((p - 2) * x1 + 5) is 5 + 3 * x2.
 #[test]
-fn a_sum_drops_what_cancels(rt: HostRuntime) -> Result<(), Fail> {
-    let alloc = rt.alloc();
+fn a_sum_drops_what_cancels(rt: HostRuntime) {
     let two = Gold::from_wide(2);
-    let x1 = signal(alloc, 1)?;
-    let x2 = signal(alloc, 2)?;
-    let one = signal(alloc, 0)?;
-    let left = add(
-        alloc,
-        &scale(alloc, &x1, two)?,
-        &scale(alloc, &x2, Gold::from_wide(3))?,
-    )?;
-    let right = add(
-        alloc,
-        &scale(alloc, &x1, two.neg())?,
-        &scale(alloc, &one, Gold::from_wide(5))?,
-    )?;
-    expect_terms(&rt, &add(alloc, &left, &right)?, &[(0, 5), (2, 3)]);
-    Ok(())
+    let twice = multiple(&rt, 1, two);
+    let left = sum(&rt, &twice, &multiple(&rt, 2, Gold::from_wide(3)));
+    let less = multiple(&rt, 1, two.neg());
+    let right = sum(&rt, &less, &multiple(&rt, 0, Gold::from_wide(5)));
+    expect_terms(&rt, &sum(&rt, &left, &right), &[(0, 5), (2, 3)]);
+}
+
+// The constraint that a product is signal 1.
+fn product<R: AllocGlobal + Abort>(rt: &R, left: &Lc, right: &Lc) -> Constraint {
+    let Quad { a, b, c: _ } = times(rt.alloc(), left, right).expect(rt, "memory");
+    let c = signal(rt, 1);
+    normal(rt.alloc(), &Quad { a, b, c }).expect(rt, "memory")
 }
 
 // The constraint of `c <== a * b` where c, a, b are signals 1, 2, 3.
 #[test]
-fn a_product_has_both_factors(rt: HostRuntime) -> Result<(), Fail> {
-    let alloc = rt.alloc();
-    let minus_a = scale(alloc, &signal(alloc, 2)?, Gold::ONE.neg())?;
-    let product = times(alloc, &minus_a, &signal(alloc, 3)?)?;
-    let Quad { a, b, c: _ } = product;
-    let c = signal(alloc, 1)?;
-    let n = normal(alloc, &Quad { a, b, c })?;
+fn a_product_has_both_factors(rt: HostRuntime) {
+    let minus_a = multiple(&rt, 2, Gold::ONE.neg());
+    let n = product(&rt, &minus_a, &signal(&rt, 3));
     expect_terms(&rt, &n.a, &[(2, P - 1)]);
     expect_terms(&rt, &n.b, &[(3, 1)]);
     expect_terms(&rt, &n.c, &[(1, P - 1)]);
-    Ok(())
 }
 
 // 7 * x2 + x1 has no product.
 #[test]
-fn a_constant_factor_leaves_no_product(rt: HostRuntime) -> Result<(), Fail> {
-    let alloc = rt.alloc();
-    let seven = scale(alloc, &signal(alloc, 0)?, Gold::from_wide(7))?;
-    let Quad { a, b, c: _ } = times(alloc, &seven, &signal(alloc, 2)?)?;
-    let c = signal(alloc, 1)?;
-    let n = normal(alloc, &Quad { a, b, c })?;
+fn a_constant_factor_leaves_no_product(rt: HostRuntime) {
+    let seven = multiple(&rt, 0, Gold::from_wide(7));
+    let n = product(&rt, &seven, &signal(&rt, 2));
     expect_terms(&rt, &n.a, &[]);
     expect_terms(&rt, &n.b, &[]);
     expect_terms(&rt, &n.c, &[(1, P - 1), (2, P - 7)]);
-    Ok(())
 }

@@ -1,11 +1,11 @@
-use crate::loading::store_of;
+use crate::checks::same;
+use crate::loading::{expect_place, store_of};
 use cir_ast::{Form, Kind, Refusal, Which};
 use cir_compile::{CompileFault, Level, compile};
 use iden_files::write_r1cs;
-use std::alloc::Global;
-use std::test::Fail;
+use std::process::Abort;
 
-const PRODUCT: &str = "template Mul() {
+static PRODUCT: &str = "template Mul() {
   signal input a;
   signal input b;
   signal output c;
@@ -29,18 +29,17 @@ static PRODUCT_FILE: [u8; 168] = [
 ];
 
 #[test]
-fn a_product_is_written(rt: HostRuntime) -> Result<(), Fail> {
-    let alloc = rt.alloc();
-    let mut store = store_of(alloc, PRODUCT)?;
-    let file = compile(alloc, &mut store, "t.circom", None, Level::O0)?;
-    let bytes = write_r1cs(alloc, &file)?;
-    assert!(rt; bytes.as_slice() == PRODUCT_FILE.as_slice());
-    Ok(())
+fn a_product_is_written(rt: HostRuntime) {
+    let mut store = store_of(&rt, PRODUCT);
+    let file = compile(rt.alloc(), &mut store, "t.circom", None, Level::O0);
+    let file = file.ok().expect(&rt, "a file");
+    let bytes = write_r1cs(rt.alloc(), &file).expect(&rt, "memory");
+    same(&rt, bytes.as_slice(), PRODUCT_FILE.as_slice());
 }
 
-// The refusal of a template with these statements, on its third line.
-fn refusal(alloc: Global, statements: &str) -> Result<Refusal, Fail> {
-    let source = format!(in alloc;
+// A source of a template with these statements, on its third line.
+fn source_with<R: AllocGlobal + Abort>(rt: &R, statements: &str) -> String {
+    let source = format!(in rt.alloc();
         "template T() {{
   signal input a; signal input b; signal output c;
 {statements}
@@ -54,118 +53,137 @@ function sized(n) {{ var v[1 + 1]; return n; }}
 function first(v) {{ return v[0]; }}
 component main = T();
 "
-    )?;
-    let mut store = store_of(alloc, source.as_str())?;
-    match compile(alloc, &mut store, "t.circom", None, Level::O0) {
-        Err(CompileFault::Refused(refusal)) => Ok(refusal),
-        _ => Err(Fail::new("not refused")),
+    );
+    source.expect(rt, "memory")
+}
+
+// The refusal of that source.
+fn refusal<R: AllocGlobal + Abort>(rt: &R, statements: &str) -> Refusal {
+    let source = source_with(rt, statements);
+    let mut store = store_of(rt, source.as_str());
+    match compile(rt.alloc(), &mut store, "t.circom", None, Level::O0) {
+        Err(CompileFault::Refused(refusal)) => refusal,
+        _ => panic!(rt; "not refused"),
     }
 }
 
-fn left_out(form: Form) -> Kind {
-    Kind::NotInProfile { form }
-}
+const SIGNALS: Kind = Kind::Limit {
+    which: Which::Signals,
+    count: 1048579,
+};
 
 // Each row has statements, the kind of their refusal, its line and column, and the path there.
+static REFUSALS: [(&str, Kind, (u32, u32), &str); 25] = [
+    ("a <== b;", Kind::WrongKind, (3, 1), "-"),
+    ("c <== T;", Kind::WrongKind, (3, 1), "-"),
+    ("c <== a; c === d;", Kind::UnknownName, (3, 10), "-"),
+    (
+        "component d = S(); d.w <== a;",
+        Kind::UnknownName,
+        (3, 20),
+        "main",
+    ),
+    (
+        "component d = S(); c <== d.z;",
+        Kind::WrongKind,
+        (3, 20),
+        "main",
+    ),
+    (
+        "signal s; if (a) { s <== 1; }",
+        Kind::UnknownControl,
+        (3, 20),
+        "main",
+    ),
+    ("var u[a];", Kind::UnknownIndex, (3, 1), "main"),
+    ("c <== a*b*a;", Kind::NonQuadratic, (3, 1), "main"),
+    ("signal s; c <== s;", Kind::ReadBeforeWrite, (3, 11), "main"),
+    ("c <== a; c <== b;", Kind::SecondWrite, (3, 10), "main"),
+    (" signal s; c <== a;", Kind::NeverWritten, (3, 2), "main"),
+    (
+        "c <== a; component d = S();",
+        Kind::InputsMissing,
+        (3, 10),
+        "main",
+    ),
+    ("var w[2]; c <== w[2];", Kind::OutOfBounds, (3, 11), "main"),
+    (" c <-- a / 0;", Kind::ZeroDivisor, (3, 2), "main"),
+    (
+        "c <== a; assert(1 == 2);",
+        Kind::AssertFalse,
+        (3, 10),
+        "main",
+    ),
+    (" signal s[1048576];", SIGNALS, (3, 2), "main"),
+    ("c <== f(1);", Kind::TooDeep, (8, 3), "main"),
+    (
+        "component d[2]; d[0] = S(); d[1] = U(1);",
+        Kind::NotInProfile {
+            form: Form::MixedComponents,
+        },
+        (3, 29),
+        "main",
+    ),
+    (
+        "var v = 1 + [1];",
+        Kind::NotInProfile {
+            form: Form::LiteralPlace,
+        },
+        (3, 1),
+        "main",
+    ),
+    (
+        "if (a) { log(1); }",
+        Kind::NotInProfile {
+            form: Form::LogPlace,
+        },
+        (3, 10),
+        "main",
+    ),
+    (
+        "c <-- pair(a);",
+        Kind::NotInProfile {
+            form: Form::RunArray,
+        },
+        (3, 1),
+        "main",
+    ),
+    (
+        "c <-- sized(a);",
+        Kind::NotInProfile {
+            form: Form::RunDimension,
+        },
+        (3, 1),
+        "main",
+    ),
+    (
+        "c <-- first([a, b]);",
+        Kind::NotInProfile {
+            form: Form::LiteralPlace,
+        },
+        (3, 1),
+        "main",
+    ),
+    (
+        " var x[2] = 1; c <== a;",
+        Kind::ShapeDiffers,
+        (3, 2),
+        "main",
+    ),
+    (
+        " signal s[2]; s <== [a];",
+        Kind::ShapeDiffers,
+        (3, 15),
+        "main",
+    ),
+];
+
 #[test]
-fn refusals_stand_at_their_statements(rt: HostRuntime) -> Result<(), Fail> {
-    let signals = Kind::Limit {
-        which: Which::Signals,
-        count: 1048579,
-    };
-    for (statements, kind, place, path) in [
-        ("a <== b;", Kind::WrongKind, (3, 1), "-"),
-        ("c <== T;", Kind::WrongKind, (3, 1), "-"),
-        ("c <== a; c === d;", Kind::UnknownName, (3, 10), "-"),
-        (
-            "component d = S(); d.w <== a;",
-            Kind::UnknownName,
-            (3, 20),
-            "main",
-        ),
-        (
-            "component d = S(); c <== d.z;",
-            Kind::WrongKind,
-            (3, 20),
-            "main",
-        ),
-        (
-            "signal s; if (a) { s <== 1; }",
-            Kind::UnknownControl,
-            (3, 20),
-            "main",
-        ),
-        ("var u[a];", Kind::UnknownIndex, (3, 1), "main"),
-        ("c <== a*b*a;", Kind::NonQuadratic, (3, 1), "main"),
-        ("signal s; c <== s;", Kind::ReadBeforeWrite, (3, 11), "main"),
-        ("c <== a; c <== b;", Kind::SecondWrite, (3, 10), "main"),
-        (" signal s; c <== a;", Kind::NeverWritten, (3, 2), "main"),
-        (
-            "c <== a; component d = S();",
-            Kind::InputsMissing,
-            (3, 10),
-            "main",
-        ),
-        ("var w[2]; c <== w[2];", Kind::OutOfBounds, (3, 11), "main"),
-        (" c <-- a / 0;", Kind::ZeroDivisor, (3, 2), "main"),
-        (
-            "c <== a; assert(1 == 2);",
-            Kind::AssertFalse,
-            (3, 10),
-            "main",
-        ),
-        (" signal s[1048576];", signals, (3, 2), "main"),
-        ("c <== f(1);", Kind::TooDeep, (8, 3), "main"),
-        (
-            "component d[2]; d[0] = S(); d[1] = U(1);",
-            left_out(Form::MixedComponents),
-            (3, 29),
-            "main",
-        ),
-        (
-            "var v = 1 + [1];",
-            left_out(Form::LiteralPlace),
-            (3, 1),
-            "main",
-        ),
-        (
-            "if (a) { log(1); }",
-            left_out(Form::LogPlace),
-            (3, 10),
-            "main",
-        ),
-        ("c <-- pair(a);", left_out(Form::RunArray), (3, 1), "main"),
-        (
-            "c <-- sized(a);",
-            left_out(Form::RunDimension),
-            (3, 1),
-            "main",
-        ),
-        (
-            "c <-- first([a, b]);",
-            left_out(Form::LiteralPlace),
-            (3, 1),
-            "main",
-        ),
-        (
-            " var x[2] = 1; c <== a;",
-            Kind::ShapeDiffers,
-            (3, 2),
-            "main",
-        ),
-        (
-            " signal s[2]; s <== [a];",
-            Kind::ShapeDiffers,
-            (3, 15),
-            "main",
-        ),
-    ] {
-        let refusal = refusal(rt.alloc(), statements)?;
-        let at = refusal.place;
-        assert_eq!(rt; refusal.kind, kind, "{statements}");
-        assert_eq!(rt; (at.line, at.column), place, "{statements}");
-        assert!(rt; at.path.as_slice() == path.as_bytes(), "{statements}");
-        assert!(rt; at.file.as_slice() == b"t.circom".as_slice());
+fn refusals_stand_at_their_statements(rt: HostRuntime) {
+    for (statements, kind, (line, column), path) in REFUSALS.as_slice() {
+        let refusal = refusal(&rt, statements);
+        same(&rt, (refusal.kind, *statements), (*kind, *statements));
+        expect_place(&rt, &refusal, *line, *column, "t.circom");
+        same(&rt, refusal.place.path.as_slice(), path.as_bytes());
     }
-    Ok(())
 }

@@ -1,7 +1,7 @@
+use crate::checks::same;
 use crate::loading::program_of;
 use cir_ast::program::{Block, Program, StatementForm};
 use cir_known::{UnknownFault, allowed_unknown, assigned};
-use std::test::Fail;
 
 // The block of the `if` that ends the first template.
 fn conditional(program: &Program) -> Option<&Block> {
@@ -16,62 +16,63 @@ fn conditional(program: &Program) -> Option<&Block> {
     }
 }
 
-#[test]
-fn outer_variables_are_assigned(rt: HostRuntime) -> Result<(), Fail> {
-    let alloc = rt.alloc();
-    for (source, wanted) in [
-        (
-            "template T(x, y, z) { if (x) { var t; z = 1; t = 2; { y++; } } }
+// A source, and the variables that its last `if` assigns.
+static ASSIGNED: [(&str, &[u32]); 2] = [
+    (
+        "template T(x, y, z) { if (x) { var t; z = 1; t = 2; { y++; } } }
             component main = T(1, 2, 3);",
-            [1u32, 2].as_slice(),
-        ),
-        (
-            "template T(i, s, u) { if (i) {
+        &[1, 2],
+    ),
+    (
+        "template T(i, s, u) { if (i) {
                 for (u = 8; 1; s += 4) { i--; i = 2; }
                 for (var k = 9; 1; k++) s = 4;
             } }
             component main = T(1, 2, 3);",
-            [0, 1, 2].as_slice(),
-        ),
-    ] {
-        let program = program_of(alloc, source)?;
-        let block = conditional(&program).ok_or("no block")?;
-        assert_eq!(rt; assigned(alloc, block)?.as_slice(), wanted);
-        assert_eq!(rt; allowed_unknown(block), Ok(()));
-    }
-    Ok(())
-}
+        &[0, 1, 2],
+    ),
+];
 
 #[test]
-fn the_first_fault_is_named(rt: HostRuntime) -> Result<(), Fail> {
-    let step = UnknownFault::Control {
-        line: 2,
-        column: 21,
-    };
-    let log = UnknownFault::Log {
-        line: 2,
-        column: 21,
-    };
-    for (source, wanted) in [
-        (
-            "template T() { signal output a; signal output b; if (1) {
+fn outer_variables_are_assigned(rt: HostRuntime) {
+    for (source, wanted) in ASSIGNED.as_slice() {
+        let program = program_of(&rt, source);
+        let block = conditional(&program).expect(&rt, "a block");
+        let found = assigned(rt.alloc(), block).expect(&rt, "memory");
+        same(&rt, found.as_slice(), *wanted);
+        same(&rt, allowed_unknown(block), Ok(()));
+    }
+}
+
+static FAULTS: [(&str, UnknownFault); 2] = [
+    (
+        "template T() { signal output a; signal output b; if (1) {
  for (var i = 0; 1; a <== 1) b <== 2;
 } }
 component main = T();",
-            step,
-        ),
-        (
-            "template T(x) { if (x) {
+        UnknownFault::Control {
+            line: 2,
+            column: 21,
+        },
+    ),
+    (
+        "template T(x) { if (x) {
  if (1) x = 1; else log();
  assert(x);
 } }
 component main = T(1);",
-            log,
-        ),
-    ] {
-        let program = program_of(rt.alloc(), source)?;
-        let block = conditional(&program).ok_or("no block")?;
-        assert_eq!(rt; allowed_unknown(block), Err(wanted));
+        UnknownFault::Log {
+            line: 2,
+            column: 21,
+        },
+    ),
+];
+
+#[test]
+fn the_first_fault_is_named(rt: HostRuntime) {
+    for (source, wanted) in FAULTS.as_slice() {
+        let program = program_of(&rt, source);
+        let block = conditional(&program).expect(&rt, "a block");
+        same(&rt, allowed_unknown(block), Err(*wanted));
     }
-    Ok(())
 }

@@ -1,15 +1,13 @@
-use cir_ast::tree::{Accessor, Arrow, Binary, Expr, Inputs, Unary};
+use crate::checks::same;
+use cir_ast::tree::{Accessor, Arrow, Binary, Expr, Inputs, NamedInput, Unary};
 use cir_expression::{Reader, Stop};
 use cir_lexer::lex;
 use cir_token::{Text, Token};
-use std::alloc::{AllocError, Global};
-use std::test::Fail;
+use std::process::Abort;
 
-fn tokens_of(alloc: Global, source: &str) -> Result<Vec<Token>, Fail> {
-    if source.len() > 4096 {
-        return Err(Fail::new("the source is long"));
-    }
-    Ok(lex(alloc, source.as_bytes())?)
+fn tokens_of<R: AllocGlobal + Abort>(rt: &R, source: &str) -> Vec<Token> {
+    assert!(rt; source.len() <= 4096);
+    lex(rt.alloc(), source.as_bytes()).ok().expect(rt, "tokens")
 }
 
 fn symbol_of(op: Binary) -> &'static str {
@@ -37,194 +35,215 @@ fn symbol_of(op: Binary) -> &'static str {
     }
 }
 
-fn push_name(name: &Text, out: &mut String) -> Result<(), AllocError> {
-    for byte in name.as_slice() {
-        out.push(char::from(*byte))?;
+fn sign_of(op: Unary) -> &'static str {
+    match op {
+        Unary::Negate => "{-",
+        Unary::Not => "{!",
+        Unary::Complement => "{~",
     }
-    Ok(())
+}
+
+fn put(rt: &impl Abort, out: &mut String, text: &str) {
+    out.push_str(text).expect(rt, "memory");
+}
+
+fn put_name(rt: &impl Abort, out: &mut String, name: &Text) {
+    for byte in name.as_slice() {
+        out.push(char::from(*byte)).expect(rt, "memory");
+    }
+}
+
+fn put_number(rt: &impl Abort, out: &mut String, number: u128) {
+    let written: Result<_, _> = write!(out, "{number}");
+    written.expect(rt, "memory");
 }
 
 // Writes an expression with each operation in braces; what lies deeper than this as `~`.
-fn shape(e: &Expr, depth: u32, out: &mut String) -> Result<(), AllocError> {
+#[cycle(shapes)]
+fn shape(rt: &impl Abort, e: &Expr, depth: u32, out: &mut String) {
     if depth == 0 {
-        return out.push('~');
+        put(rt, out, "~");
+        return;
     }
+    let depth = depth - 1;
     match e {
-        Expr::Number(n) => write!(out, "{n}"),
+        Expr::Number(n) => put_number(rt, out, *n),
         Expr::Place(place) => {
-            push_name(&place.name, out)?;
-            for accessor in place.accessors.as_slice() {
-                match accessor {
-                    Accessor::Index(inner) => {
-                        out.push('[')?;
-                        shape(inner, depth - 1, out)?;
-                        out.push(']')?;
-                    }
-                    Accessor::Member(name) => {
-                        out.push('.')?;
-                        push_name(name, out)?;
-                    }
-                }
-            }
-            Ok(())
+            put_name(rt, out, &place.name);
+            accessors(rt, place.accessors.as_slice(), depth, out);
         }
         Expr::Call(parallel, name, _, arguments) => {
-            if *parallel {
-                out.push_str("parallel ")?;
-            }
-            push_name(name, out)?;
-            out.push('(')?;
-            for argument in arguments.as_slice() {
-                shape(argument, depth - 1, out)?;
-                out.push(';')?;
-            }
-            out.push(')')
+            put(rt, out, if *parallel { "parallel " } else { "" });
+            put_name(rt, out, name);
+            shapes(rt, "(", arguments.as_slice(), depth, out);
+            put(rt, out, ")");
         }
         Expr::Anonymous(anonymous) => {
-            push_name(&anonymous.name, out)?;
-            out.push('(')?;
-            for argument in anonymous.arguments.as_slice() {
-                shape(argument, depth - 1, out)?;
-                out.push(';')?;
-            }
-            out.push_str(")(")?;
-            match &anonymous.inputs {
-                Inputs::Listed(values) => {
-                    for value in values.as_slice() {
-                        shape(value, depth - 1, out)?;
-                        out.push(';')?;
-                    }
-                }
-                Inputs::Named(inputs) => {
-                    for input in inputs.as_slice() {
-                        push_name(&input.name, out)?;
-                        out.push_str(match input.arrow {
-                            Arrow::Assign => "<--",
-                            Arrow::Constrain => "<==",
-                        })?;
-                        shape(&input.value, depth - 1, out)?;
-                        out.push(';')?;
-                    }
-                }
-            }
-            out.push(')')
+            put_name(rt, out, &anonymous.name);
+            shapes(rt, "(", anonymous.arguments.as_slice(), depth, out);
+            inputs(rt, &anonymous.inputs, depth, out);
+            put(rt, out, ")");
         }
         Expr::Parentheses(inner) => {
-            out.push('(')?;
-            shape(inner, depth - 1, out)?;
-            out.push(')')
+            part(rt, "(", inner, depth, out);
+            put(rt, out, ")");
         }
         Expr::Array(elements) => {
-            out.push('[')?;
-            for element in elements.as_slice() {
-                shape(element, depth - 1, out)?;
-                out.push(';')?;
-            }
-            out.push(']')
+            shapes(rt, "[", elements.as_slice(), depth, out);
+            put(rt, out, "]");
         }
         Expr::Unary(op, inner) => {
-            out.push_str(match op {
-                Unary::Negate => "{-",
-                Unary::Not => "{!",
-                Unary::Complement => "{~",
-            })?;
-            shape(inner, depth - 1, out)?;
-            out.push('}')
+            part(rt, sign_of(*op), inner, depth, out);
+            put(rt, out, "}");
         }
         Expr::Binary(op, left, right) => {
-            out.push('{')?;
-            shape(left, depth - 1, out)?;
-            out.push_str(symbol_of(*op))?;
-            shape(right, depth - 1, out)?;
-            out.push('}')
+            part(rt, "{", left, depth, out);
+            part(rt, symbol_of(*op), right, depth, out);
+            put(rt, out, "}");
         }
         Expr::Choice(condition, chosen, other) => {
-            out.push('{')?;
-            shape(condition, depth - 1, out)?;
-            out.push('?')?;
-            shape(chosen, depth - 1, out)?;
-            out.push(':')?;
-            shape(other, depth - 1, out)?;
-            out.push('}')
+            part(rt, "{", condition, depth, out);
+            part(rt, "?", chosen, depth, out);
+            part(rt, ":", other, depth, out);
+            put(rt, out, "}");
         }
     }
 }
 
-// The shape of the expression at the front, a space, and how many tokens stand behind it; or nothing.
-fn reads(alloc: Global, source: &str, room: u16) -> Result<String, Fail> {
-    let tokens = tokens_of(alloc, source)?;
-    let mut out = String::new(alloc);
+// An expression behind this text.
+#[cycle(shapes)]
+fn part(rt: &impl Abort, front: &str, e: &Expr, depth: u32, out: &mut String) {
+    put(rt, out, front);
+    shape(rt, e, depth, out);
+}
+
+// Expressions behind this text, with a semicolon behind each.
+#[cycle(shapes)]
+fn shapes(rt: &impl Abort, front: &str, list: &[Expr], depth: u32, out: &mut String) {
+    put(rt, out, front);
+    for e in list {
+        shape(rt, e, depth, out);
+        put(rt, out, ";");
+    }
+}
+
+#[cycle(shapes)]
+fn accessors(rt: &impl Abort, list: &[Accessor], depth: u32, out: &mut String) {
+    for accessor in list {
+        match accessor {
+            Accessor::Index(inner) => {
+                part(rt, "[", inner, depth, out);
+                put(rt, out, "]");
+            }
+            Accessor::Member(name) => {
+                put(rt, out, ".");
+                put_name(rt, out, name);
+            }
+        }
+    }
+}
+
+#[cycle(shapes)]
+fn inputs(rt: &impl Abort, inputs: &Inputs, depth: u32, out: &mut String) {
+    match inputs {
+        Inputs::Listed(values) => shapes(rt, ")(", values.as_slice(), depth, out),
+        Inputs::Named(inputs) => {
+            put(rt, out, ")(");
+            for input in inputs.as_slice() {
+                named(rt, input, depth, out);
+            }
+        }
+    }
+}
+
+#[cycle(shapes)]
+fn named(rt: &impl Abort, input: &NamedInput, depth: u32, out: &mut String) {
+    put_name(rt, out, &input.name);
+    let arrow = match input.arrow {
+        Arrow::Assign => "<--",
+        Arrow::Constrain => "<==",
+    };
+    part(rt, arrow, &input.value, depth, out);
+    put(rt, out, ";");
+}
+
+// The shape of the expression at the front, a space, and how many tokens stand behind it; or
+// nothing.
+fn reads<R: AllocGlobal + Abort>(rt: &R, source: &str, room: u16) -> String {
+    let tokens = tokens_of(rt, source);
+    let mut out = String::new(rt.alloc());
     let mut reader = Reader {
         rest: tokens.as_slice(),
     };
-    let read: Result<Expr, Stop> = reader.expression(alloc, u32::from(room));
+    let read: Result<Expr, Stop> = reader.expression(rt.alloc(), u32::from(room));
     match read {
         Ok(e) => {
-            shape(&e, 16, &mut out)?;
-            let left = reader.rest.len();
-            write!(out, " {left}")?;
-            Ok(out)
+            shape(rt, &e, 16, &mut out);
+            put(rt, &mut out, " ");
+            put_number(rt, &mut out, reader.rest.len() as u128);
         }
-        Err(Stop::NoTree) => Ok(out),
-        Err(Stop::OutOfMemory) => Err(Fail::new("out of memory")),
+        Err(stop) => assert!(rt; matches!(stop, Stop::NoTree)),
+    }
+    out
+}
+
+// A source and its shape, where there is one.
+type Row = (&'static str, &'static str);
+
+fn have_shapes<R: AllocGlobal + Abort>(rt: &R, rows: &[Row]) {
+    for (source, wanted) in rows {
+        let found = reads(rt, source, 256);
+        same(rt, found.as_str(), *wanted);
     }
 }
 
-#[test]
-fn operators_group_by_their_levels(rt: HostRuntime) -> Result<(), Fail> {
-    let alloc = rt.alloc();
-    for (source, wanted) in [
-        ("-a**2", "{{-a}**2} 0"),
-        ("1 << 2 + 3", "{1<<{2+3}} 0"),
-        ("a && b || c && !d", "{{a&&b}||{c&&{!d}}} 0"),
-        ("a - b - c * d", "{{a-b}-{c*d}} 0"),
-        ("a | b ^ c & d == e", "{{a|{b^{c&d}}}==e} 0"),
-        ("a ? b : c ? d : e", "{a?b:{c?d:e}} 0"),
-        ("a ? b ? c : d : e < f", "{a?{b?c:d}:{e<f}} 0"),
-    ] {
-        assert_eq!(rt; reads(alloc, source, 256)?.as_str(), wanted);
-    }
-    Ok(())
-}
+static OPERATORS: [Row; 7] = [
+    ("-a**2", "{{-a}**2} 0"),
+    ("1 << 2 + 3", "{1<<{2+3}} 0"),
+    ("a && b || c && !d", "{{a&&b}||{c&&{!d}}} 0"),
+    ("a - b - c * d", "{{a-b}-{c*d}} 0"),
+    ("a | b ^ c & d == e", "{{a|{b^{c&d}}}==e} 0"),
+    ("a ? b : c ? d : e", "{a?b:{c?d:e}} 0"),
+    ("a ? b ? c : d : e < f", "{a?{b?c:d}:{e<f}} 0"),
+];
 
 #[test]
-fn operands_have_their_forms(rt: HostRuntime) -> Result<(), Fail> {
-    let alloc = rt.alloc();
-    for (source, wanted) in [
-        ("a[1].b[2]", "a[1].b[2] 0"),
-        ("f()", "f() 0"),
-        ("parallel f(1, 2)", "parallel f(1;2;) 0"),
-        ("[1, [2]]", "[1;[2;];] 0"),
-        ("(a + 1) * ~(b)", "{({a+1})*{~(b)}} 0"),
-        ("A(1)(a, b) + 2", "{A(1;)(a;b;)+2} 0"),
-        ("A()(x <== a, y <-- 1)", "A()(x<==a;y<--1;) 0"),
-        ("A()()", "A()() 0"),
-        ("A()(x <== a, 1)", ""),
-        ("a b", "a 1"),
-        ("f(1,)", ""),
-        ("[]", ""),
-        ("(a", ""),
-        ("a[1", ""),
-        ("parallel a", ""),
-        ("a ? b", ""),
-        ("", ""),
-    ] {
-        assert_eq!(rt; reads(alloc, source, 256)?.as_str(), wanted);
-    }
-    Ok(())
+fn operators_group_by_their_levels(rt: HostRuntime) {
+    have_shapes(&rt, &OPERATORS);
 }
 
+static OPERANDS: [Row; 17] = [
+    ("a[1].b[2]", "a[1].b[2] 0"),
+    ("f()", "f() 0"),
+    ("parallel f(1, 2)", "parallel f(1;2;) 0"),
+    ("[1, [2]]", "[1;[2;];] 0"),
+    ("(a + 1) * ~(b)", "{({a+1})*{~(b)}} 0"),
+    ("A(1)(a, b) + 2", "{A(1;)(a;b;)+2} 0"),
+    ("A()(x <== a, y <-- 1)", "A()(x<==a;y<--1;) 0"),
+    ("A()()", "A()() 0"),
+    ("A()(x <== a, 1)", ""),
+    ("a b", "a 1"),
+    ("f(1,)", ""),
+    ("[]", ""),
+    ("(a", ""),
+    ("a[1", ""),
+    ("parallel a", ""),
+    ("a ? b", ""),
+    ("", ""),
+];
+
 #[test]
-fn a_tree_is_no_higher_than_its_room(rt: HostRuntime) -> Result<(), Fail> {
-    let alloc = rt.alloc();
-    for (source, height) in [
-        ("((a))", 3),
-        ("a[b[1]]", 3),
-        ("f(1, -2)", 3),
-        ("a + b + c", 3),
-    ] {
-        assert_eq!(rt; reads(alloc, source, height - 1)?.as_str(), "");
-        assert!(rt; !reads(alloc, source, height)?.is_empty());
+fn operands_have_their_forms(rt: HostRuntime) {
+    have_shapes(&rt, &OPERANDS);
+}
+
+// Each is 3 high.
+static HIGH: [&str; 4] = ["((a))", "a[b[1]]", "f(1, -2)", "a + b + c"];
+
+#[test]
+fn a_tree_is_no_higher_than_its_room(rt: HostRuntime) {
+    for source in HIGH.as_slice() {
+        same(&rt, reads(&rt, source, 2).is_empty(), true);
+        same(&rt, reads(&rt, source, 3).is_empty(), false);
     }
-    Ok(())
 }

@@ -1,6 +1,9 @@
+use crate::checks::same;
 use crate::loading::program_of;
-use cir_ast::program::{Direction, Expr, Meant, Simple, Spot, Statement, StatementForm};
-use std::test::Fail;
+use cir_ast::program::{
+    Direction, Expr, Function, Meant, Simple, Spot, Statement, StatementForm, Template,
+};
+use std::process::Abort;
 
 // Whether the expression is a name of this meaning.
 fn reads(expression: &Expr, meant: Meant) -> bool {
@@ -40,31 +43,39 @@ fn equates(statement: &Statement, left: Meant, right: Meant) -> bool {
     }
 }
 
-#[test]
-fn places_and_meanings_are_found(rt: HostRuntime) -> Result<(), Fail> {
-    let source = "function f(n) {\n  var x = n;\n  return x;\n}
-        template T() { signal input a; signal b; b === a; } component main = T();";
-    let program = program_of(rt.alloc(), source)?;
-    let function = program.functions.get(0).ok_or("a function")?;
-    assert_eq!(rt;
-        (function.file, function.spot),
-        (0, Spot { line: 1, column: 1 })
-    );
-    assert_eq!(rt; function.variables, 2);
+fn spot_is(rt: &impl Abort, spot: Spot, line: u32, column: u32) {
+    same(rt, (spot.line, spot.column), (line, column));
+}
+
+// The function of the source below.
+fn function_is_placed(rt: &impl Abort, function: &Function) {
+    same(rt, (function.file, function.variables), (0, 2));
+    spot_is(rt, function.spot, 1, 1);
     let statements = function.body.statements.as_slice();
-    assert_eq!(rt; statements.len(), 2);
-    assert_eq!(rt; statements[0].spot, Spot { line: 2, column: 3 });
-    assert_eq!(rt; statements[1].spot, Spot { line: 3, column: 3 });
+    assert!(rt; statements.len() == 2);
+    spot_is(rt, statements[0].spot, 2, 3);
+    spot_is(rt, statements[1].spot, 3, 3);
     assert!(rt; declares(&statements[0], Meant::Variable(1), Meant::Variable(0)));
     assert!(rt; returns(&statements[1], Meant::Variable(1)));
-    let template = program.templates.get(0).ok_or("a template")?;
-    assert_eq!(rt;
-        (template.variables, template.signals, template.components),
-        (0, 2, 0)
-    );
+}
+
+// Its template.
+fn template_is_placed(rt: &impl Abort, template: &Template) {
+    let counts = (template.variables, template.signals, template.components);
+    same(rt, counts, (0, 2, 0));
     let statements = template.body.statements.as_slice();
-    assert_eq!(rt; statements.len(), 3);
+    same(rt, statements.len(), 3);
+    let last = statements.last().expect(rt, "a statement");
     let left = Meant::Signal(Direction::Inner, 1);
-    assert!(rt; equates(&statements[2], left, Meant::Signal(Direction::Input, 0)));
-    Ok(())
+    assert!(rt; equates(last, left, Meant::Signal(Direction::Input, 0)));
+}
+
+static SOURCE: &str = "function f(n) {\n  var x = n;\n  return x;\n}
+        template T() { signal input a; signal b; b === a; } component main = T();";
+
+#[test]
+fn places_and_meanings_are_found(rt: HostRuntime) {
+    let program = program_of(&rt, SOURCE);
+    function_is_placed(&rt, program.functions.get(0).expect(&rt, "a function"));
+    template_is_placed(&rt, program.templates.get(0).expect(&rt, "a template"));
 }

@@ -1,137 +1,111 @@
+use crate::checks::same;
 use crate::proving::{proof_of, wrong_product, wrong_side};
-use crate::samples::{PRODUCT, bytes_of, file_of, golds};
+use crate::samples::{PRODUCT, bytes_of, file_of, golds, put};
 use gold_field::P;
 use lig_auditor::audit;
 use lig_proof::{Verdict, Version};
-use std::test::Fail;
+use std::process::Abort;
 use std::thread::Threads;
 
-fn audited<R: Threads + AllocGlobal + Sync>(
+/// The verdict on bytes that are offered as a proof of a circuit, with these public values.
+pub fn audited<R: Threads + AllocGlobal + Sync + Abort>(
     rt: &R,
     circuit: &str,
     publics: &[u64],
     proof: &[u8],
-) -> Result<Verdict, Fail> {
-    let alloc = rt.alloc();
-    let bytes = bytes_of(alloc, circuit)?;
-    let file = file_of(alloc, circuit)?;
-    let values = golds(alloc, publics)?;
-    Ok(audit(rt, &bytes, &file, &values, proof)?)
+) -> Verdict {
+    let bytes = bytes_of(rt, circuit);
+    let file = file_of(rt, circuit);
+    let values = golds(rt, publics);
+    audit(rt, &bytes, &file, &values, proof).expect(rt, "memory")
 }
 
-// The verdict on bytes that are offered as a proof of `c <== a * b`.
-fn verdict<R: Threads + AllocGlobal + Sync>(
+// Ends the test unless this is the verdict on them as a proof of `c <== a * b`.
+fn has_verdict<R: Threads + AllocGlobal + Sync + Abort>(
     rt: &R,
     publics: &[u64],
     proof: &[u8],
-) -> Result<Verdict, Fail> {
-    audited(rt, PRODUCT, publics, proof)
+    verdict: Verdict,
+) {
+    same(rt, audited(rt, PRODUCT, publics, proof), verdict);
 }
 
-/// The verdict on the proof that these values satisfy a circuit, with these public values.
-pub fn verdict_on<R: Threads + AllocGlobal + Sync>(
-    rt: &R,
-    circuit: &str,
-    values: &[u64],
-    publics: &[u64],
-) -> Result<Verdict, Fail> {
-    let proof = proof_of(rt, Version::Two, circuit, values, [0; 32])?;
-    audited(rt, circuit, publics, &proof)
-}
-
-fn true_proof<R: Threads + AllocGlobal + Sync>(rt: &R, version: Version) -> Result<Vec<u8>, Fail> {
+fn true_proof<R: Threads + AllocGlobal + Sync + Abort>(rt: &R, version: Version) -> Vec<u8> {
     proof_of(rt, version, PRODUCT, &[1, 33, 3, 11], [0; 32])
 }
 
-// With other bytes from a place on.
-fn put(bytes: &mut [u8], place: usize, new: &[u8]) {
-    for (i, byte) in new.iter().enumerate() {
-        if i < bytes.len() && place < bytes.len() - i {
-            bytes[place + i] = *byte;
-        }
-    }
+#[test]
+fn true_proofs_are_accepted(rt: HostRuntime) {
+    let first = true_proof(&rt, Version::One);
+    has_verdict(&rt, &[33], &first, Verdict::Accepted);
+    let second = true_proof(&rt, Version::Two);
+    has_verdict(&rt, &[33], &second, Verdict::Accepted);
 }
 
 #[test]
-fn true_proofs_are_accepted(rt: HostRuntime) -> Result<(), Fail> {
-    let first = true_proof(&rt, Version::One)?;
-    assert_eq!(rt; verdict(&rt, &[33], &first)?, Verdict::Accepted);
-    let second = true_proof(&rt, Version::Two)?;
-    assert_eq!(rt; verdict(&rt, &[33], &second)?, Verdict::Accepted);
-    Ok(())
-}
-
-#[test]
-fn other_public_values_are_rejected(rt: HostRuntime) -> Result<(), Fail> {
-    let proof = true_proof(&rt, Version::One)?;
-    assert_eq!(rt; verdict(&rt, &[], &proof)?, Verdict::PublicCount);
-    assert_eq!(rt;
-        verdict(&rt, &[34], &proof)?,
-        Verdict::BadPath { opened: 0 }
-    );
-    Ok(())
+fn other_public_values_are_rejected(rt: HostRuntime) {
+    let proof = true_proof(&rt, Version::One);
+    has_verdict(&rt, &[], &proof, Verdict::PublicCount);
+    has_verdict(&rt, &[34], &proof, Verdict::BadPath { opened: 0 });
 }
 
 // A prover whose values of a side aren't what the wires give: only their sum shows it.
 #[test]
-fn a_wrong_side_is_rejected(rt: HostRuntime) -> Result<(), Fail> {
-    let first = wrong_side(&rt, Version::One)?;
-    assert_eq!(rt; verdict(&rt, &[33], &first)?, Verdict::LinearSum);
-    let second = wrong_side(&rt, Version::Two)?;
-    assert_eq!(rt; verdict(&rt, &[33], &second)?, Verdict::LinearSum);
-    Ok(())
+fn a_wrong_side_is_rejected(rt: HostRuntime) {
+    let first = wrong_side(&rt, Version::One);
+    has_verdict(&rt, &[33], &first, Verdict::LinearSum);
+    let second = wrong_side(&rt, Version::Two);
+    has_verdict(&rt, &[33], &second, Verdict::LinearSum);
 }
 
 #[test]
-fn a_wrong_product_is_rejected(rt: HostRuntime) -> Result<(), Fail> {
-    let first = wrong_product(&rt, Version::One)?;
-    assert_eq!(rt; verdict(&rt, &[34], &first)?, Verdict::QuadZero);
-    let second = wrong_product(&rt, Version::Two)?;
-    assert_eq!(rt; verdict(&rt, &[34], &second)?, Verdict::QuadZero);
-    Ok(())
+fn a_wrong_product_is_rejected(rt: HostRuntime) {
+    let first = wrong_product(&rt, Version::One);
+    has_verdict(&rt, &[34], &first, Verdict::QuadZero);
+    let second = wrong_product(&rt, Version::Two);
+    has_verdict(&rt, &[34], &second, Verdict::QuadZero);
 }
 
 // Where changed bytes are no proof.
-fn check_lengths<R: Threads + AllocGlobal + Sync>(
-    rt: &R,
-    proof: &mut Vec<u8>,
-) -> Result<bool, Fail> {
+fn check_lengths<R: Threads + AllocGlobal + Sync + Abort>(rt: &R, version: Version) {
+    let mut proof = true_proof(rt, version);
     let whole = proof.len() as u64;
-    proof.push(0)?;
-    let longer = verdict(rt, &[33], proof)?;
+    proof.push(0).expect(rt, "memory");
+    has_verdict(rt, &[33], &proof, Verdict::Malformed { offset: whole });
     proof.truncate(100);
-    let cut = verdict(rt, &[33], proof)?;
-    Ok(longer == Verdict::Malformed { offset: whole } && cut == Verdict::Malformed { offset: 100 })
+    has_verdict(rt, &[33], &proof, Verdict::Malformed { offset: 100 });
 }
 
 #[test]
-fn other_lengths_are_malformed(rt: HostRuntime) -> Result<(), Fail> {
-    assert!(rt; check_lengths(&rt, &mut true_proof(&rt, Version::One)?)?);
-    assert!(rt; check_lengths(&rt, &mut true_proof(&rt, Version::Two)?)?);
-    Ok(())
+fn other_lengths_are_malformed(rt: HostRuntime) {
+    check_lengths(&rt, Version::One);
+    check_lengths(&rt, Version::Two);
 }
 
-// A value of the field's order or more, in the first column.
+// The verdict on a true proof with other bytes in its first column.
+fn has_changed<R: Threads + AllocGlobal + Sync + Abort>(
+    rt: &R,
+    version: Version,
+    new: &[u8],
+    verdict: Verdict,
+) {
+    let mut proof = true_proof(rt, version);
+    put(&mut proof, 18472, new);
+    has_verdict(rt, &[33], &proof, verdict);
+}
+
+// A value of the field's order or more.
 #[test]
-fn unreduced_words_are_malformed(rt: HostRuntime) -> Result<(), Fail> {
-    for version in [Version::One, Version::Two] {
-        let mut proof = true_proof(&rt, version)?;
-        put(&mut proof, 18472, &P.to_le_bytes());
-        let malformed = Verdict::Malformed { offset: 18472 };
-        assert_eq!(rt; verdict(&rt, &[33], &proof)?, malformed);
-    }
-    Ok(())
+fn unreduced_words_are_malformed(rt: HostRuntime) {
+    let order = P.to_le_bytes();
+    let malformed = Verdict::Malformed { offset: 18472 };
+    has_changed(&rt, Version::One, &order, malformed);
+    has_changed(&rt, Version::Two, &order, malformed);
 }
 
 #[test]
-fn changed_columns_lead_astray(rt: HostRuntime) -> Result<(), Fail> {
-    for version in [Version::One, Version::Two] {
-        let mut proof = true_proof(&rt, version)?;
-        put(&mut proof, 18472, &[0; 8]);
-        assert_eq!(rt;
-            verdict(&rt, &[33], &proof)?,
-            Verdict::BadPath { opened: 0 }
-        );
-    }
-    Ok(())
+fn changed_columns_lead_astray(rt: HostRuntime) {
+    let astray = Verdict::BadPath { opened: 0 };
+    has_changed(&rt, Version::One, &[0; 8], astray);
+    has_changed(&rt, Version::Two, &[0; 8], astray);
 }

@@ -7,6 +7,8 @@ mod audits;
 #[cfg(test)]
 mod chain;
 #[cfg(test)]
+mod checks;
+#[cfg(test)]
 mod field;
 #[cfg(test)]
 mod layout;

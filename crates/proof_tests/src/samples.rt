@@ -1,13 +1,11 @@
-ghost use Rattle.std.specs.Prelude.{IfOk};
 ghost use Rattle.iden_files.specs.File.{InLimits};
 
 use gold_field::Gold;
 use iden_files::{R1cs, read_r1cs};
-use std::alloc::Global;
-use std::test::Fail;
+use std::process::Abort;
 
 // `c <== a * b`, with the wires 1, c, a and b.
-pub const PRODUCT: &str = "\
+pub static PRODUCT: &str = "\
     72316373010000000300000001000000280000000000000008000000\
     01000000ffffffff0400000001000000000000000200000004000000\
     00000000010000000200000030000000000000000100000002000000\
@@ -16,7 +14,7 @@ pub const PRODUCT: &str = "\
     00000000010000000000000002000000000000000300000000000000";
 
 // Fourteen wires, three of them public, and twelve constraints.
-pub const BITS: &str = "\
+pub static BITS: &str = "\
     72316373010000000300000001000000280000000000000008000000\
     01000000ffffffff0e0000000100000002000000000000000e000000\
     000000000c00000002000000a0020000000000000100000005000000\
@@ -51,31 +49,45 @@ pub const BITS: &str = "\
     00000000";
 
 // Wire 0 alone.
-pub const EMPTY: &str = "\
+pub static EMPTY: &str = "\
     72316373010000000300000001000000280000000000000008000000\
     01000000ffffffff0100000000000000000000000000000001000000\
     00000000000000000200000000000000000000000300000008000000\
     000000000000000000000000";
 
-pub fn bytes_of(alloc: Global, text: &str) -> Result<Vec<u8>, Fail> {
-    Ok(hex::decode(alloc, text).ok().ok_or("hexadecimal")?)
+pub fn bytes_of<R: AllocGlobal + Abort>(rt: &R, text: &str) -> Vec<u8> {
+    hex::decode(rt.alloc(), text).ok().expect(rt, "hexadecimal")
 }
 
-pub fn file_of(alloc: Global, text: &str) -> Result<R1cs, Fail>
-    ensures { IfOk result InLimits }
+pub fn hex_of<R: AllocGlobal + Abort>(rt: &R, bytes: &[u8]) -> String {
+    hex::encode(rt.alloc(), bytes).expect(rt, "memory")
+}
+
+pub fn file_of<R: AllocGlobal + Abort>(rt: &R, text: &str) -> R1cs
+    ensures { InLimits result }
 {
-    let bytes = bytes_of(alloc, text)?;
-    Ok(read_r1cs(alloc, &bytes).ok().ok_or("a file")?)
+    let bytes = bytes_of(rt, text);
+    read_r1cs(rt.alloc(), &bytes).ok().expect(rt, "a file")
 }
 
-pub fn gold(n: u64) -> Result<Gold, Fail> {
-    Ok(Gold::new(n).ok_or("not below p")?)
+/// A number below p.
+pub fn gold(n: u64) -> Gold {
+    Gold::from_wide(u128::from(n))
 }
 
-pub fn golds(alloc: Global, numbers: &[u64]) -> Result<Vec<Gold>, Fail> {
-    let mut values = Vec::new(alloc);
+pub fn golds<R: AllocGlobal + Abort>(rt: &R, numbers: &[u64]) -> Vec<Gold> {
+    let mut values = Vec::new(rt.alloc());
     for number in numbers {
-        values.push(gold(*number)?)?;
+        values.push(gold(*number)).expect(rt, "memory");
     }
-    Ok(values)
+    values
+}
+
+/// Writes other bytes from a place on.
+pub fn put(bytes: &mut [u8], place: usize, new: &[u8]) {
+    for (i, byte) in new.iter().enumerate() {
+        if i < bytes.len() && place < bytes.len() - i {
+            bytes[place + i] = *byte;
+        }
+    }
 }

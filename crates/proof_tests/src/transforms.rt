@@ -1,11 +1,11 @@
 ghost use Rattle.std.specs.Prelude.{length};
 ghost use Rattle.gold_ntt.specs.Transform.{IsLength};
 
+use crate::checks::same;
 use crate::samples::gold;
 use gold_field::Gold;
 use gold_ntt::{coset_ntt, eval, intt, mul, ntt, root};
 use std::process::Abort;
-use std::test::Fail;
 
 static COEFFICIENTS_8: [u64; 8] = [
     3486784401,
@@ -110,45 +110,38 @@ static ROOTS: [(u32, u64); 9] = [
     (32, 1753635133440165772),
 ];
 
-fn fill(room: &mut [Gold], list: &[u64]) -> Result<(), Fail> {
+fn fill(room: &mut [Gold], list: &[u64]) {
     for (place, n) in room.iter_mut().zip(list) {
-        *place = gold(*n)?;
+        *place = gold(*n);
     }
-    Ok(())
 }
 
-fn same(rt: &impl Abort, room: &[Gold], list: &[u64]) -> Result<(), Fail> {
-    assert_eq!(rt; room.len(), list.len());
+fn are(rt: &impl Abort, room: &[Gold], list: &[u64]) {
+    same(rt, room.len(), list.len());
     for (place, n) in room.iter().zip(list) {
-        assert_eq!(rt; place.get(), *n);
+        same(rt, place.get(), *n);
     }
-    Ok(())
 }
 
 // The three transforms and a value against numbers that plain sums gave.
-fn agree(
-    rt: &impl Abort,
-    room: &mut [Gold],
-    coefs: &[u64],
-    values: &[u64],
-    coset: &[u64],
-) -> Result<(), Fail>
+fn agree(rt: &impl Abort, room: &mut [Gold], coefs: &[u64], values: &[u64], coset: &[u64])
     requires { IsLength (length room.old) }
 {
-    fill(room, coefs)?;
+    fill(room, coefs);
     ntt(room);
-    same(rt, room, values)?;
+    are(rt, room, values);
     intt(room);
-    same(rt, room, coefs)?;
-    assert_eq!(rt; eval(room, gold(7)?).get(), *coset.first().ok_or("empty")?);
+    are(rt, room, coefs);
+    let at_seven = eval(room, gold(7)).get();
+    same(rt, Some(at_seven), coset.first().copied());
     coset_ntt(room);
-    same(rt, room, coset)
+    are(rt, room, coset);
 }
 
 #[test]
-fn transforms_agree_with_plain_sums(rt: HostRuntime) -> Result<(), Fail> {
+fn transforms_agree_with_plain_sums(rt: HostRuntime) {
     let mut room = [Gold::ZERO; 8];
-    agree(&rt, &mut room, &COEFFICIENTS_8, &VALUES_8, &COSET_VALUES_8)?;
+    agree(&rt, &mut room, &COEFFICIENTS_8, &VALUES_8, &COSET_VALUES_8);
     let mut room = [Gold::ZERO; 16];
     agree(
         &rt,
@@ -156,33 +149,31 @@ fn transforms_agree_with_plain_sums(rt: HostRuntime) -> Result<(), Fail> {
         &COEFFICIENTS_16,
         &VALUES_16,
         &COSET_VALUES_16,
-    )
+    );
 }
 
 #[test]
-fn one_has_the_value_1_everywhere(rt: HostRuntime) -> Result<(), Fail> {
+fn one_has_the_value_1_everywhere(rt: HostRuntime) {
     let mut room = [Gold::ONE, Gold::ZERO, Gold::ZERO, Gold::ZERO];
     ntt(&mut room);
-    same(&rt, &room, &[1, 1, 1, 1])
+    are(&rt, &room, &[1, 1, 1, 1]);
 }
 
 #[test]
-fn the_square_of_1_and_x(rt: HostRuntime) -> Result<(), Fail> {
+fn the_square_of_1_and_x(rt: HostRuntime) {
     let one_and_x = [Gold::ONE, Gold::ONE];
-    let square = mul(rt.alloc(), &one_and_x, &one_and_x)?;
-    same(&rt, &square, &[1, 2, 1])?;
-    let none = mul(rt.alloc(), &one_and_x, &[])?;
-    same(&rt, &none, &[])
+    let square = mul(rt.alloc(), &one_and_x, &one_and_x).expect(&rt, "memory");
+    are(&rt, &square, &[1, 2, 1]);
+    let none = mul(rt.alloc(), &one_and_x, &[]).expect(&rt, "memory");
+    are(&rt, &none, &[]);
 }
 
 #[test]
-fn roots_have_their_orders(rt: HostRuntime) -> Result<(), Fail> {
-    for row in &ROOTS {
-        let (e, number) = *row;
-        if e <= 32 {
-            assert_eq!(rt; root(e).get(), number);
+fn roots_have_their_orders(rt: HostRuntime) {
+    for (e, number) in ROOTS.as_slice() {
+        if *e <= 32 {
+            same(&rt, root(*e).get(), *number);
         }
     }
-    assert_eq!(rt; root(32).pow(2147483648).get(), 18446744069414584320);
-    Ok(())
+    same(&rt, root(32).pow(2147483648).get(), 18446744069414584320);
 }

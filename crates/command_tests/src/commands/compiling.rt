@@ -1,11 +1,11 @@
 // `compile` on circuits of the whole language.
-use super::{line_of, line_over, run_words, wtns};
+use super::checks::same;
+use super::{put_file, run_words, says, sources, wtns};
 use out_io::MemStore;
-use std::alloc::Global;
-use std::test::Fail;
+use std::process::Abort;
 
 // Templates that the circuits below include.
-const LIBRARY: &str = "template Operators() {
+static LIBRARY: &str = "template Operators() {
   signal output out[11];
   out[0] <== 9223372034707292160 < 9223372034707292161; out[1] <== ~0; out[2] <== 3 << 63;
   out[3] <== 1/2; out[4] <== 1\\2; out[5] <== 3 - 5; out[6] <== 5 % 3; out[7] <== 2**64;
@@ -58,86 +58,141 @@ template Tuples() {
 }
 ";
 
-// A source of the library and this main component.
-fn with_library(alloc: Global, main: &str) -> Result<String, Fail> {
-    let source = format!(in alloc; "include \"lib.circom\"; component main = {main};")?;
-    Ok(source)
-}
-
-// Each row has the level, the main component, and the numbers of wires and of constraints.
-#[test]
-fn circuits_have_their_wires_and_constraints(rt: HostRuntime) -> Result<(), Fail> {
-    let alloc = rt.alloc();
-    for (level, main, wires, constraints) in [
-        ("", "Operators()", 12, 11),
-        ("", "IsZero()", 4, 2),
-        ("", "Num2Bits(64)", 66, 65),
-        ("", "LessThan(8)", 14, 12),
-        (" --O2", "LessThan(8)", 11, 9),
-        ("", "Two()", 6, 2),
-        ("", "Choice(1)", 3, 1),
-        (" --O0", "Chain(1000)", 1003, 1001),
-        ("", "Chain(1000)", 3, 1),
-        ("", "Deep(255)", 3, 1),
-        ("", "Table()", 3, 1),
-        (" --O0", "Anonymous()", 10, 7),
-        ("", "Anonymous()", 7, 4),
-        (" --O0", "Tuples()", 15, 12),
-    ] {
-        let words = format!(in alloc; "compile t.circom m.r1cs{level}")?;
-        let source = with_library(alloc, main)?;
-        let files = [("t.circom", source.as_str()), ("lib.circom", LIBRARY)];
-        let said = line_over(&rt, alloc, words.as_str(), files.as_slice())?;
-        let wanted = format!(in alloc; "compiled: wires {wires}, constraints {constraints}\n")?;
-        assert_eq!(rt; said.as_slice(), wanted.as_bytes(), "{main}");
-    }
-    Ok(())
-}
-
-// A store of the library, of a comparison, and of values for its wires.
-fn comparison(alloc: Global, values: &[u8]) -> Result<MemStore, Fail> {
-    let mut store = MemStore::new(alloc);
-    let source = "include \"lib.circom\"; component main {public [in]} = LessThan(8);";
-    for (name, bytes) in [("t.circom", source), ("lib.circom", LIBRARY)] {
-        let bytes = Vec::from_slice(alloc, bytes.as_bytes())?;
-        store.files.insert(String::from_str(alloc, name)?, bytes)?;
-    }
-    let values = wtns(alloc, values)?;
+// A store of the library and of a source that includes it and ends with this main component.
+fn with_library<R: AllocGlobal + Abort>(rt: &R, main: &str) -> MemStore {
+    let mut store = sources(rt, &[("lib.circom", LIBRARY)]);
+    let source = format!(in rt.alloc(); "include \"lib.circom\"; component main {main};");
+    let source = source.expect(rt, "memory");
+    put_file(rt, &mut store, "t.circom", source.as_bytes());
     store
-        .files
-        .insert(String::from_str(alloc, "m.wtns")?, values)?;
-    Ok(store)
+}
+
+// Each row has the level, the main component, and the line: the numbers of wires and constraints.
+static CIRCUITS: [(&str, &str, &str); 14] = [
+    (
+        "compile t.circom m.r1cs",
+        "= Operators()",
+        "compiled: wires 12, constraints 11\n",
+    ),
+    (
+        "compile t.circom m.r1cs",
+        "= IsZero()",
+        "compiled: wires 4, constraints 2\n",
+    ),
+    (
+        "compile t.circom m.r1cs",
+        "= Num2Bits(64)",
+        "compiled: wires 66, constraints 65\n",
+    ),
+    (
+        "compile t.circom m.r1cs",
+        "= LessThan(8)",
+        "compiled: wires 14, constraints 12\n",
+    ),
+    (
+        "compile t.circom m.r1cs --O2",
+        "= LessThan(8)",
+        "compiled: wires 11, constraints 9\n",
+    ),
+    (
+        "compile t.circom m.r1cs",
+        "= Two()",
+        "compiled: wires 6, constraints 2\n",
+    ),
+    (
+        "compile t.circom m.r1cs",
+        "= Choice(1)",
+        "compiled: wires 3, constraints 1\n",
+    ),
+    (
+        "compile t.circom m.r1cs --O0",
+        "= Chain(1000)",
+        "compiled: wires 1003, constraints 1001\n",
+    ),
+    (
+        "compile t.circom m.r1cs",
+        "= Chain(1000)",
+        "compiled: wires 3, constraints 1\n",
+    ),
+    (
+        "compile t.circom m.r1cs",
+        "= Deep(255)",
+        "compiled: wires 3, constraints 1\n",
+    ),
+    (
+        "compile t.circom m.r1cs",
+        "= Table()",
+        "compiled: wires 3, constraints 1\n",
+    ),
+    (
+        "compile t.circom m.r1cs --O0",
+        "= Anonymous()",
+        "compiled: wires 10, constraints 7\n",
+    ),
+    (
+        "compile t.circom m.r1cs",
+        "= Anonymous()",
+        "compiled: wires 7, constraints 4\n",
+    ),
+    (
+        "compile t.circom m.r1cs --O0",
+        "= Tuples()",
+        "compiled: wires 15, constraints 12\n",
+    ),
+];
+
+#[test]
+fn circuits_have_their_wires_and_constraints(rt: HostRuntime) {
+    for (words, main, line) in CIRCUITS.as_slice() {
+        let mut store = with_library(&rt, main);
+        says(&rt, words, &mut store, 0, line);
+    }
 }
 
 // 3 is less than 5; that it isn't fails at the last constraint, which says what the output is.
+static COMPARISONS: [([u8; 14], u8, &str); 2] = [
+    (
+        [1, 1, 3, 5, 254, 0, 1, 1, 1, 1, 1, 1, 1, 0],
+        0,
+        "satisfied\n",
+    ),
+    (
+        [1, 0, 3, 5, 254, 0, 1, 1, 1, 1, 1, 1, 1, 0],
+        2,
+        "unsatisfied: constraint 11\n",
+    ),
+];
+
 #[test]
-fn values_satisfy_what_is_compiled(rt: HostRuntime) -> Result<(), Fail> {
-    let alloc = rt.alloc();
-    for (less, line) in [(1, "satisfied\n"), (0, "unsatisfied: constraint 11\n")] {
-        let values = [1, less, 3, 5, 254, 0, 1, 1, 1, 1, 1, 1, 1, 0];
-        let mut store = comparison(alloc, values.as_slice())?;
-        let compiled = run_words(&rt, alloc, "compile t.circom m.r1cs", &mut store, false)?;
-        assert_eq!(rt; compiled.status, 0);
-        let checked = run_words(&rt, alloc, "check m.r1cs m.wtns", &mut store, false)?;
-        assert_eq!(rt; checked.text.as_slice(), line.as_bytes());
+fn values_satisfy_what_is_compiled(rt: HostRuntime) {
+    for (values, status, line) in COMPARISONS.as_slice() {
+        let mut store = with_library(&rt, "{public [in]} = LessThan(8)");
+        put_file(&rt, &mut store, "m.wtns", &wtns(&rt, values));
+        let compiled = run_words(&rt, "compile t.circom m.r1cs", &mut store);
+        same(&rt, compiled.status, 0);
+        says(&rt, "check m.r1cs m.wtns", &mut store, *status, line);
     }
-    Ok(())
 }
 
 // The template itself is the first one that is open.
-const DEEP: &str = "template R(n) { signal input x; signal output y; component c; \
+static DEEP: &str = "template R(n) { signal input x; signal output y; component c; \
     if (n == 0) { y <== x; } else { c = R(n-1); c.x <== x; y <== c.y; } }\n\
     component main = R(256);\n";
 
-#[test]
-fn templates_stand_256_deep_at_most(rt: HostRuntime) -> Result<(), Fail> {
-    let alloc = rt.alloc();
-    let mut wanted = String::from_str(alloc, "refused: E20 TooDeep at t.circom:1:95 in main")?;
+// The refusal of that source.
+fn too_deep<R: AllocGlobal + Abort>(rt: &R) -> String {
+    let front = "refused: E20 TooDeep at t.circom:1:95 in main";
+    let mut line = String::from_str(rt.alloc(), front).expect(rt, "memory");
     for _level in 0..255 {
-        wanted.push_str(".c")?;
+        line.push_str(".c").expect(rt, "memory");
     }
-    wanted.push_str("\n")?;
-    let said = line_of(&rt, alloc, DEEP)?;
-    assert_eq!(rt; said.as_slice(), wanted.as_bytes());
-    Ok(())
+    line.push_str("\n").expect(rt, "memory");
+    line
+}
+
+#[test]
+fn templates_stand_256_deep_at_most(rt: HostRuntime) {
+    let mut store = sources(&rt, &[("t.circom", DEEP)]);
+    let line = too_deep(&rt);
+    says(&rt, "compile t.circom m.r1cs", &mut store, 1, line.as_str());
 }

@@ -1,8 +1,9 @@
 // `prove`, `public` and `audit` on the circuit c = a * b, whose one public value is c.
-use super::{R1CS, run_words, store};
+use super::checks::same;
+use super::{R1CS, is_fault, is_lost, put_file, run_words, says, store};
 use out_io::MemStore;
-use std::alloc::Global;
-use std::test::Fail;
+use std::process::Abort;
+use std::thread::Threads;
 
 const PROVE: &str = "prove m.r1cs m.wtns m.proof --seed \
     0000000000000000000000000000000000000000000000000000000000000000";
@@ -10,183 +11,169 @@ const PROVE: &str = "prove m.r1cs m.wtns m.proof --seed \
 const FIRST: &str = "prove m.r1cs m.wtns m.proof --proof 1 --seed \
     0000000000000000000000000000000000000000000000000000000000000000";
 
-fn put(alloc: Global, store: &mut MemStore, name: &str, bytes: &[u8]) -> Result<(), Fail> {
-    store.files.insert(
-        String::from_str(alloc, name)?,
-        Vec::from_slice(alloc, bytes)?,
-    )?;
-    Ok(())
-}
-
 // The proof that the command leaves.
-fn proof_in(alloc: Global, store: &MemStore) -> Result<Vec<u8>, Fail> {
-    match store.files.get("m.proof") {
-        Some(bytes) => Ok(Vec::from_slice(alloc, bytes.as_slice())?),
-        None => Err(Fail::new("no proof")),
-    }
+fn proof_in<R: AllocGlobal + Abort>(rt: &R, store: &MemStore) -> Vec<u8> {
+    let proof = store.files.get("m.proof").expect(rt, "a proof");
+    Vec::from_slice(rt.alloc(), proof.as_slice()).expect(rt, "memory")
 }
 
-// The bytes with the lowest bit of one of them turned.
-fn turned(alloc: Global, bytes: &[u8], at: usize) -> Result<Vec<u8>, Fail> {
-    let mut changed = Vec::from_slice(alloc, bytes)?;
-    if let Some(byte) = changed.get_mut(at) {
+// Runs a command that makes a proof, which is accepted. The answer is how many bytes it has.
+fn makes_a_proof<R: Threads + AllocGlobal + Sync + Abort>(
+    rt: &R,
+    words: &str,
+    store: &mut MemStore,
+) -> usize {
+    let ran = run_words(rt, words, store);
+    same(rt, (ran.status, ran.puts), (0, 1));
+    let bytes = proof_in(rt, store).len();
+    let line = format!(in rt.alloc(); "proved: bytes {bytes}\n").expect(rt, "memory");
+    same(rt, ran.text.as_slice(), line.as_bytes());
+    says(rt, "audit m.r1cs m.json m.proof", store, 0, "accepted\n");
+    bytes
+}
+
+#[test]
+fn a_proof_is_made_and_accepted(rt: HostRuntime) {
+    let mut store = store(&rt, &R1CS, &[1, 33, 3, 11]);
+    let line = "public: values 1\n";
+    says(&rt, "public m.r1cs m.wtns m.json", &mut store, 0, line);
+    same(&rt, makes_a_proof(&rt, FIRST, &mut store), 56872);
+    assert!(rt; makes_a_proof(&rt, PROVE, &mut store) != 56872);
+}
+
+// The verdict on a proof with these public values is a rejection, by this line.
+fn is_rejected<R: Threads + AllocGlobal + Sync + Abort>(
+    rt: &R,
+    store: &mut MemStore,
+    publics: &str,
+    proof: &[u8],
+    line: &str,
+) {
+    put_file(rt, store, "m.json", publics.as_bytes());
+    put_file(rt, store, "m.proof", proof);
+    says(rt, "audit m.r1cs m.json m.proof", store, 2, line);
+}
+
+// A store with the proof of the values 1, 33, 3 and 11, and that proof.
+fn proved<R: Threads + AllocGlobal + Sync + Abort>(rt: &R) -> (MemStore, Vec<u8>) {
+    let mut store = store(rt, &R1CS, &[1, 33, 3, 11]);
+    same(rt, run_words(rt, FIRST, &mut store).status, 0);
+    let proof = proof_in(rt, &store);
+    (store, proof)
+}
+
+#[test]
+fn the_first_test_that_fails_is_named(rt: HostRuntime) {
+    let (mut store, mut proof) = proved(&rt);
+    let count = "rejected: 1 PublicCount\n";
+    is_rejected(&rt, &mut store, "[\"33\",\"3\"]", &proof, count);
+    is_rejected(&rt, &mut store, "[34, 3, 11]", b"no proof", count);
+    proof.push(0).expect(&rt, "memory");
+    let longer = "rejected: 2 Malformed at byte 56872\n";
+    is_rejected(&rt, &mut store, "[33]", &proof, longer);
+    proof.truncate(100);
+    let cut = "rejected: 2 Malformed at byte 100\n";
+    is_rejected(&rt, &mut store, "[33]", &proof, cut);
+}
+
+// Turns the lowest bit of one of the bytes.
+fn turn(bytes: &mut [u8], at: usize) {
+    if let Some(byte) = bytes.get_mut(at) {
         *byte ^= 1;
     }
-    Ok(changed)
 }
 
 #[test]
-fn a_proof_is_made_and_accepted(rt: HostRuntime) -> Result<(), Fail> {
-    let alloc = rt.alloc();
-    let mut store = store(alloc, &R1CS, &[1, 33, 3, 11])?;
-    let said = run_words(&rt, alloc, "public m.r1cs m.wtns m.json", &mut store, false)?;
-    assert_eq!(rt; said.status, 0);
-    assert_eq!(rt; said.text.as_slice(), b"public: values 1\n".as_slice());
-    for words in [FIRST, PROVE] {
-        let said = run_words(&rt, alloc, words, &mut store, false)?;
-        assert_eq!(rt; (said.status, said.puts), (0, 1));
-        let proof = proof_in(alloc, &store)?;
-        let bytes = proof.len();
-        let line = format!(in alloc; "proved: bytes {bytes}\n")?;
-        assert_eq!(rt; said.text.as_slice(), line.as_bytes());
-        assert_eq!(rt; bytes == 56872, words == FIRST);
-        let said = run_words(&rt, alloc, "audit m.r1cs m.json m.proof", &mut store, false)?;
-        assert_eq!(rt; said.text.as_slice(), b"accepted\n".as_slice());
-        assert_eq!(rt; (said.status, said.puts), (0, 1));
-    }
-    Ok(())
+fn a_changed_column_is_off_its_path(rt: HostRuntime) {
+    let (mut store, mut proof) = proved(&rt);
+    turn(&mut proof, 25272);
+    let line = "rejected: 3 BadPath 17\n";
+    is_rejected(&rt, &mut store, "[33]", &proof, line);
+}
+
+// The status of `audit` on a proof with these public values.
+fn status_on<R: Threads + AllocGlobal + Sync + Abort>(
+    rt: &R,
+    store: &mut MemStore,
+    publics: &str,
+    proof: &[u8],
+) -> u8 {
+    put_file(rt, store, "m.json", publics.as_bytes());
+    put_file(rt, store, "m.proof", proof);
+    run_words(rt, "audit m.r1cs m.json m.proof", store).status
 }
 
 #[test]
-fn the_first_test_that_fails_is_named(rt: HostRuntime) -> Result<(), Fail> {
-    let alloc = rt.alloc();
-    let mut store = store(alloc, &R1CS, &[1, 33, 3, 11])?;
-    run_words(&rt, alloc, FIRST, &mut store, false)?;
-    let proof = proof_in(alloc, &store)?;
-    let mut longer = Vec::from_slice(alloc, proof.as_slice())?;
-    longer.push(0)?;
-    let column = turned(alloc, proof.as_slice(), 25272)?;
-    let cut = proof.as_slice().get(..100).ok_or("cut")?;
-    for (publics, bytes, line) in [
-        ("[33]", column.as_slice(), "rejected: 3 BadPath 17\n"),
-        (
-            "[33]",
-            longer.as_slice(),
-            "rejected: 2 Malformed at byte 56872\n",
-        ),
-        ("[33]", cut, "rejected: 2 Malformed at byte 100\n"),
-        (
-            "[\"33\",\"3\"]",
-            proof.as_slice(),
-            "rejected: 1 PublicCount\n",
-        ),
-        (
-            "[34, 3, 11]",
-            b"no proof".as_slice(),
-            "rejected: 1 PublicCount\n",
-        ),
-    ] {
-        put(alloc, &mut store, "m.json", publics.as_bytes())?;
-        put(alloc, &mut store, "m.proof", bytes)?;
-        let said = run_words(&rt, alloc, "audit m.r1cs m.json m.proof", &mut store, false)?;
-        assert_eq!(rt; said.text.as_slice(), line.as_bytes());
-        assert_eq!(rt; said.status, 2, "{line}");
-    }
-    let polynomial = turned(alloc, proof.as_slice(), 40)?;
-    for (publics, bytes) in [("[34]", proof.as_slice()), ("[33]", polynomial.as_slice())] {
-        put(alloc, &mut store, "m.json", publics.as_bytes())?;
-        put(alloc, &mut store, "m.proof", bytes)?;
-        let said = run_words(&rt, alloc, "audit m.r1cs m.json m.proof", &mut store, false)?;
-        assert_eq!(rt; said.status, 2, "{publics}");
-    }
-    Ok(())
+fn other_publics_and_polynomials_are_rejected(rt: HostRuntime) {
+    let (mut store, mut proof) = proved(&rt);
+    same(&rt, status_on(&rt, &mut store, "[34]", &proof), 2);
+    turn(&mut proof, 40);
+    same(&rt, status_on(&rt, &mut store, "[33]", &proof), 2);
 }
 
+// The words, the values, the status and the line.
+static UNPROVED: [(&str, &[u8], u8, &str); 7] = [
+    (PROVE, &[1, 34, 3, 11], 2, "unsatisfied: constraint 0\n"),
+    (PROVE, &[2, 33, 3, 11], 2, "unsatisfied: wire 0\n"),
+    (PROVE, &[1, 33, 3], 1, "refused: 3 values for 4 wires\n"),
+    (
+        "public m.r1cs m.wtns m.proof",
+        &[2, 33, 3, 11],
+        2,
+        "unsatisfied: wire 0\n",
+    ),
+    (
+        "audit m.r1cs bad.json m.wtns",
+        &[1],
+        1,
+        "refused: I5 BadNumber public 1\n",
+    ),
+    (
+        "audit m.r1cs m.r1cs m.wtns",
+        &[1],
+        1,
+        "refused: I1 NotJson\n",
+    ),
+    (
+        "audit m.r1cs good.json m.proof",
+        &[1],
+        1,
+        "refused: m.proof: no such file\n",
+    ),
+];
+
 #[test]
-fn what_is_not_proved_or_audited_is_said(rt: HostRuntime) -> Result<(), Fail> {
-    let alloc = rt.alloc();
-    for (words, values, status, line) in [
-        (
-            PROVE,
-            [1, 34, 3, 11].as_slice(),
-            2,
-            "unsatisfied: constraint 0\n",
-        ),
-        (PROVE, [2, 33, 3, 11].as_slice(), 2, "unsatisfied: wire 0\n"),
-        (
-            PROVE,
-            [1, 33, 3].as_slice(),
-            1,
-            "refused: 3 values for 4 wires\n",
-        ),
-        (
-            "public m.r1cs m.wtns m.proof",
-            [2, 33, 3, 11].as_slice(),
-            2,
-            "unsatisfied: wire 0\n",
-        ),
-        (
-            "audit m.r1cs bad.json m.wtns",
-            [1].as_slice(),
-            1,
-            "refused: I5 BadNumber public 1\n",
-        ),
-        (
-            "audit m.r1cs m.r1cs m.wtns",
-            [1].as_slice(),
-            1,
-            "refused: I1 NotJson\n",
-        ),
-        (
-            "audit m.r1cs good.json m.proof",
-            [1].as_slice(),
-            1,
-            "refused: m.proof: no such file\n",
-        ),
-    ] {
-        let mut store = store(alloc, &R1CS, values)?;
-        put(alloc, &mut store, "bad.json", b"[1, 2.5]")?;
-        put(alloc, &mut store, "good.json", b"[\"33\"]")?;
-        let said = run_words(&rt, alloc, words, &mut store, false)?;
-        assert_eq!(rt; said.text.as_slice(), line.as_bytes());
-        assert_eq!(rt; (said.status, said.puts), (status, 1), "{line}");
-        assert!(rt; !store.files.contains_key("m.proof"), "{line}");
+fn what_is_not_proved_or_audited_is_said(rt: HostRuntime) {
+    for (words, values, status, line) in UNPROVED.as_slice() {
+        let mut store = store(&rt, &R1CS, values);
+        put_file(&rt, &mut store, "bad.json", b"[1, 2.5]");
+        put_file(&rt, &mut store, "good.json", b"[\"33\"]");
+        says(&rt, words, &mut store, *status, line);
+        same(&rt, store.files.contains_key("m.proof"), false);
     }
-    Ok(())
 }
 
 // A store whose call of this number fails.
-fn failing(alloc: Global, fail: u32) -> Result<MemStore, Fail> {
-    let mut store = store(alloc, &R1CS, &[1, 33, 3, 11])?;
-    put(alloc, &mut store, "m.json", b"[33]")?;
-    put(alloc, &mut store, "m.bytes", b"no proof")?;
-    store.fail.push(fail)?;
-    Ok(store)
+fn failing<R: AllocGlobal + Abort>(rt: &R, fail: u32) -> MemStore {
+    let mut store = store(rt, &R1CS, &[1, 33, 3, 11]);
+    put_file(rt, &mut store, "m.json", b"[33]");
+    put_file(rt, &mut store, "m.bytes", b"no proof");
+    store.fail.push(fail).expect(rt, "memory");
+    store
 }
 
+static FAILING: [&str; 3] = [
+    PROVE,
+    "public m.r1cs m.wtns m.proof",
+    "audit m.r1cs m.json m.bytes",
+];
+
 #[test]
-fn each_call_that_fails_is_a_fault(rt: HostRuntime) -> Result<(), Fail> {
-    let alloc = rt.alloc();
-    for words in [
-        PROVE,
-        "public m.r1cs m.wtns m.proof",
-        "audit m.r1cs m.json m.bytes",
-    ] {
+fn each_call_that_fails_is_a_fault(rt: HostRuntime) {
+    for words in FAILING.as_slice() {
         for fail in 0..3 {
-            let mut store = failing(alloc, fail)?;
-            let ran = run_words(&rt, alloc, words, &mut store, false)?;
-            assert_eq!(rt;
-                (ran.status, ran.asked, ran.puts),
-                (3, fail + 1, 1),
-                "{words}"
-            );
-            assert_eq!(rt; ran.text.as_slice(), b"fault: store\n".as_slice());
-            assert!(rt; !store.files.contains_key("m.proof"), "{words}");
+            is_fault(&rt, words, &mut failing(&rt, fail), fail, "m.proof");
         }
-        let mut store = failing(alloc, 3)?;
-        let lost = run_words(&rt, alloc, words, &mut store, true)?;
-        assert_eq!(rt; (lost.status, lost.asked, lost.puts), (3, 3, 1), "{words}");
-        assert!(rt; lost.text.is_empty(), "{words}");
+        is_lost(&rt, words, &mut failing(&rt, 3), 3);
     }
-    Ok(())
 }

@@ -7,7 +7,7 @@ name-requires g c =
     record {
       first = omega arith;
       entry = record { instance = 0; base = 99 ∷ []; place = 0 };
-      there = ap (λ ns. slice_get ns (1 - 1)) c.in_ok-signals.ensures;
+      there = ap (λ ns. slice_get ns (1 - 1)) c.one_signal-signals.ensures;
       named = record {
         declared = 99 ∷ [];
         dims = [];

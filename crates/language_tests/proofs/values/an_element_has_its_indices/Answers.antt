@@ -12,7 +12,7 @@ name-requires g c =
     record {
       first = omega arith;
       entry = record { instance = 0; base = spelled-with (50 ∷ []); place = 2 };
-      there = ap (λ ns. slice_get ns (1 - 1)) c.in_ok-signals.ensures;
+      there = ap (λ ns. slice_get ns (1 - 1)) c.one_signal-signals.ensures;
       named = record {
         declared = declared;
         dims = 2 ∷ 2 ∷ [];
