@@ -30,7 +30,7 @@ use Rattle.wit_lower.specs.Fits.{EndFits, UnlessCalled, IsCalled, HaveShape, Fit
 use Rattle.wit_lower.specs.Fits.{PlaceFits}
 use Rattle.wit_lower.proofs.Shows.{KnownAt}
 use Rattle.wit_lower.proofs.Exprs.{Agree, agree_more, agree_all}
-use Rattle.wit_lower.proofs.Parts.{part_read, slots_are}
+use Rattle.wit_lower.proofs.Parts.{part_read, slots_are, all_large}
 use Rattle.wit_lower.proofs.Places.{left_is, places_are}
 use Rattle.cir_emit.proofs.Lists.{Both, both, from_long, map_long}
 
@@ -115,7 +115,22 @@ single_result : (m : Ran Numbers) (go : ℕ → ℕ → Ran Numbers) (x : Number
 single_result m go x e h =
     let r = both m (λ y. go (the_number y.0) y.1) x e in h (the_number r.first.0) r.first.1 x r.rest
 
--- arrays of one shape
+-- arrays of one shape; those that are too large have no numbers
+rows_shape : (n : ℕ) (dims items : List ℕ) → length items ≡ suc n * slots_of dims
+    → HasShape (suc n ∷ dims) (made (suc n ∷ dims) items)
+rows_shape n dims items e = at (is_too_large dims) refl
+  where
+    at : (b : Bool) → is_too_large dims ≡ b → HasShape (suc n ∷ dims) (made (suc n ∷ dims) items)
+    at true large =
+        let all : is_too_large (suc n ∷ dims) ≡ true = all_large n dims large in
+        record {
+          dims_are = refl;
+          long = ap (λ b. length (cond b [] items)) all
+              ∙ sym (ap (λ b. cond b 0 (elements (suc n ∷ dims))) all);
+        }
+    at false small =
+        made_shape (suc n ∷ dims) items (e ∙ ap (λ m. suc n * m) (slots_are dims small))
+
 flat_long : (dims : List ℕ) (ds : List Numbers) → AllByRecursion (HasShape dims) ds
     → length (flat_map (λ d. d.items) ds) ≡ length ds * slots_of dims
 flat_long dims [] h = sym (zero-mul (slots_of dims))
@@ -124,14 +139,13 @@ flat_long dims (d ∷ ds) h =
     omega (arith, h.0.long, flat_long dims ds h.1, suc-mul (length ds) (slots_of dims))
 
 gathered_shape : (dims : List ℕ) (n : ℕ) (ds : List Numbers) → AllByRecursion (HasShape dims) ds
-    → length ds ≡ suc n → is_too_large dims ≡ false → HasShape (suc n ∷ dims) (gathered_numbers ds)
-gathered_shape dims n [] h len small = cc
-gathered_shape dims n (d ∷ ds) h len small =
+    → length ds ≡ suc n → HasShape (suc n ∷ dims) (gathered_numbers ds)
+gathered_shape dims n [] h len = cc
+gathered_shape dims n (d ∷ ds) h len =
     subst (λ m. HasShape (m ∷ dims) (gathered_numbers (d ∷ ds))) len
     (subst (λ xs. HasShape (length (d ∷ ds) ∷ dims)
     (made (length (d ∷ ds) ∷ xs) (flat_map (λ e. e.items) (d ∷ ds)))) (sym h.0.dims_are)
-    (made_shape (length (d ∷ ds) ∷ dims) (flat_map (λ e. e.items) (d ∷ ds))
-    (flat_long dims (d ∷ ds) h ∙ ap (λ m. length (d ∷ ds) * m) (slots_are dims small))))
+    (rows_shape (length ds) dims (flat_map (λ e. e.items) (d ∷ ds)) (flat_long dims (d ∷ ds) h)))
 
 -- what a store and an environment have is of its home's shape
 pub record Shapely (g : Ground) (homes : Homes) (env : Environment) (store : Store) : Type 0 where
@@ -301,13 +315,13 @@ module _ (g : Ground) (homes : Homes) (env : Environment) (store : Store)
     expr_shape (Anonymous parallel name m arguments inputs) u x fits e = absurd fits
     expr_shape (Parentheses a) u x fits e = expr_shape a u x fits e
     expr_shape (Array none) u x fits e = absurd fits
-    expr_shape (Array (more a es)) u x (fa, all, same, literal) e =
+    expr_shape (Array (more a es)) u x (fa, all, same) e =
         let dims : List ℕ = shape_of g homes a in
         let r = both (numbers_in env store (more a es) u)
         (λ y. gives (gathered_numbers y.0) y.1) x e in
         let h = exprs_shape dims (more a es) u r.first (fa, all) (refl, same) r.is in
         given (suc (count_of es) ∷ dims) (gathered_numbers r.first.0) r.first.1 x
-        (gathered_shape dims (count_of es) r.first.0 h.0 h.1 literal.part) r.rest
+        (gathered_shape dims (count_of es) r.first.0 h.0 h.1) r.rest
     expr_shape (Unary o a) u x fits e =
         single_result (number_in env store a u)
         (λ n v. gives (single (number_by (unary_of o) n)) v) x e

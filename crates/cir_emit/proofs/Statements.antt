@@ -452,6 +452,7 @@ module _ (g : Ground) (first : Homes) (Loaded : Reading → Type 0) (Whole : ℕ
         let firsts : List Wanted = first_wanted f in
         let after : List Wanted = wanted_in body ++ assign_wanted a in
         let rest = all_back (λ w. Covered w.expr) firsts _ covered in
+        let last : Scope = scope_behind g inner body in
         let out : IsOuter inner.homes = outer_first f s ff outer in
         twin_next (Pair inner.homes) (FlowPair s.homes) (step_first one f x u)
         (step_first two f y u)
@@ -464,19 +465,19 @@ module _ (g : Ground) (first : Homes) (Loaded : Reading → Type 0) (Whole : ℕ
         twin_weaker (FlowPair inner.homes) (FlowPair s.homes) _ _
         (turns_pair (suc v) inner.homes c _ _ p q v
         (λ p1 q1 v1 pair2. test_same inner.homes out p1 q1 pair2 c v1 fc rest.0)
-        (λ p1 q1 v1 pair2. twin_next (FlowPair inner.homes) (FlowPair inner.homes)
+        (λ p1 q1 v1 pair2. twin_next (FlowPair last.homes) (FlowPair inner.homes)
         (step_statement one body p1 v1) (step_statement two body q1 v1)
         (λ w. step_going w.0 w.1 (λ p1 v1. step_goes (step_assign one a p1 v1)))
         (λ w. step_going w.0 w.1 (λ p1 v1. step_goes (step_assign two a p1 v1)))
-        (inner_of body inner (step_statement one body p1 v1) (step_statement two body q1 v1) fb
         (statement_pair body inner out p1 q1 v1 fb
-        (all_front (λ w. Covered w.expr) (wanted_in body) (assign_wanted a) rest.1) pair2))
-        (λ w1 w2 v2 ew flow. twin_going (FlowPair inner.homes) inner.homes w1 w2 v2
+        (all_front (λ w. Covered w.expr) (wanted_in body) (assign_wanted a) rest.1) pair2)
+        (λ w1 w2 v2 ew flow. inner_of body inner _ _ fb
+        (twin_going (FlowPair last.homes) last.homes w1 w2 v2
         (λ p1 v1. step_goes (step_assign one a p1 v1))
         (λ p1 v1. step_goes (step_assign two a p1 v1)) flow
-        (λ p3 q3 pair3. goes_pair inner.homes (step_assign one a p3 v2) (step_assign two a q3 v2)
-        (plain_pair inner.homes out (plain a) p3 q3 v2 fa
-        (all_back (λ w. Covered w.expr) (wanted_in body) (assign_wanted a) rest.1) pair3))))
+        (λ p3 q3 pair3. goes_pair last.homes (step_assign one a p3 v2) (step_assign two a q3 v2)
+        (plain_pair last.homes (outer_behind body inner fb out) (plain a) p3 q3 v2 fa
+        (all_back (λ w. Covered w.expr) (wanted_in body) (assign_wanted a) rest.1) pair3)))))
         pair1)
         (λ w1 w2 flow. leave_flow f s w1 w2 ff flow))
     statement_pair (Return spot e) s outer x y u fits covered pair = absurd fits.0

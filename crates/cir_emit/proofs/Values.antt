@@ -288,7 +288,7 @@ module _ (g : Ground) (first : Homes) (Loaded : Reading → Type 0) (Whole : ℕ
     expr_same (Anonymous parallel name m arguments inputs) u fits covered = refl
     expr_same (Parentheses e) u fits covered = expr_same e u fits covered
     expr_same (Array none) u fits covered = refl
-    expr_same (Array (more e es)) u (fe, all, same, literal) covered =
+    expr_same (Array (more e es)) u (fe, all, same) covered =
         ap (λ m. next m (λ x. gives (gathered_numbers x.0) x.1))
         (exprs_same (more e es) u (fe, all) covered)
     expr_same (Unary o a) u (fits, shape) covered =

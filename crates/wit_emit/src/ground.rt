@@ -48,6 +48,7 @@ pub struct Called {
     pub items: Items<u64>,
 }
 
+#[derive(Drop)]
 pub struct Ground<'a> {
     pub alloc: Global,
     /// The procedures, by their function and the shapes of its arguments.

@@ -31,8 +31,8 @@ use Rattle.wit_lower.specs.Pieces.{choice_code, constants}
 use Rattle.wit_lower.specs.Values.{shape_of, shapes_of, size_of, place_shape, part_shape, expr_code}
 use Rattle.wit_lower.specs.Values.{exprs_code, place_code, number_of, call_code, count_of}
 use Rattle.wit_lower.specs.Values.{called_shape, unless_called}
-use Rattle.wit_lower.specs.Fits.{AreLaid, UnlessCalled, IsCalled, HasHome, EndFits, IsLiteral}
-use Rattle.wit_lower.specs.Fits.{HaveShape, Sides, Fits, AllFit, PlaceFits}
+use Rattle.wit_lower.specs.Fits.{AreLaid, UnlessCalled, IsCalled, HasHome, EndFits, HaveShape}
+use Rattle.wit_lower.specs.Fits.{Sides, Fits, AllFit, PlaceFits}
 use Rattle.wit_lower.proofs.Does.{Setting, Does, does_next, does_same, does_weaker, gives as there}
 use Rattle.wit_lower.proofs.Does.{misses, HasAt, has_front, has_back}
 use Rattle.wit_lower.proofs.Frames.{Below, below_itself, below_then, row_below}
@@ -40,7 +40,7 @@ use Rattle.wit_lower.proofs.Spots.{Spot, here, body_at, IsWide, step_at, at_stat
 use Rattle.wit_lower.proofs.Pieces.{bounds_do, constants_go}
 use Rattle.wit_lower.proofs.Shows.{Carries, CarriesSome, CarriesFound, Shows, Lies, lies}
 use Rattle.wit_lower.proofs.Shows.{shows_below}
-use Rattle.wit_lower.proofs.Parts.{Valued, stored_does, wired_does, slots_are}
+use Rattle.wit_lower.proofs.Parts.{Valued, stored_does, wired_does, slots_are, rows_made}
 use Rattle.wit_lower.proofs.Operators.{Moved, valued_moved, valued_number, valued_later}
 use Rattle.wit_lower.proofs.Operators.{number_does, either_does, put_number, unless_map, lazy_does}
 
@@ -209,22 +209,18 @@ module _ (g : Ground) (homes : Homes) (dims : List ℕ) where
 
 gathered_is : (g : Ground) (homes : Homes) (e : Expr Meant) (es : Exprs Meant) (f : List ℕ)
     (a : ℕ) → HaveShape g homes (shape_of g homes e) es
-    → IsLiteral (suc (count_of es)) (shape_of g homes e)
     → gathered_numbers (args_of (shapes_of g homes (more e es)) f a)
     ≡ record {
       dims = shape_of g homes (Array (more e es));
       items = row f a (slots_of (shape_of g homes (Array (more e es))));
     }
-gathered_is g homes e es f a h l =
+gathered_is g homes e es f a h =
     let dims : List ℕ = shape_of g homes e in
-    let n : ℕ = suc (count_of es) in
     let flat : flat_map (λ d. d.items) (args_of (shapes_of g homes (more e es)) f a)
-    ≡ row f a (n * slots_of dims) = flat_row g homes dims (more e es) f a (refl, h) in
-    let size : n * slots_of dims ≡ slots_of (n ∷ dims) =
-    ap (λ x. n * x) (slots_are dims l.part) ∙ sym (slots_are (n ∷ dims) l.whole) in
-    ap₂ (λ c xs. made (suc c ∷ dims) xs)
-    (args_count g homes dims es f (a + slots_of dims)) (flat ∙ ap (row f a) size) ∙
-    ap (λ b. record { dims = n ∷ dims; items = cond b [] (row f a (slots_of (n ∷ dims))) }) l.whole
+    ≡ row f a (suc (count_of es) * slots_of dims) =
+    flat_row g homes dims (more e es) f a (refl, h) in
+    ap₂ (λ c xs. made (suc c ∷ dims) xs) (args_count g homes dims es f (a + slots_of dims)) flat ∙
+    rows_made (count_of es) dims f a
 
 module _ (k : Setting) (sp : Spot) (params : ℕ → ℕ) (width : ℕ)
     (wide : IsWide params width (body_at k sp)) (g : Ground) (env : Environment) (homes : Homes)
@@ -599,7 +595,7 @@ module _ (k : Setting) (sp : Spot) (params : ℕ → ℕ) (width : ℕ)
     expr_does (Parentheses e) top p f u le len shows fits at =
         expr_does e top p f u le len shows fits at
     expr_does (Array none) top p f u le len shows fits at = absurd fits
-    expr_does (Array (more e es)) top p f u le len shows (fe, all, same, literal) at =
+    expr_does (Array (more e es)) top p f u le len shows (fe, all, same) at =
         let q : ℕ = p + length (exprs_code g homes top p (more e es)) in
         let dims : List ℕ = shape_of g homes (Array (more e es)) in
         does_next k (Valueds sp top q (shapes_of g homes (more e es)) f u)
@@ -611,7 +607,7 @@ module _ (k : Setting) (sp : Spot) (params : ℕ → ℕ) (width : ℕ)
           is = y.is;
           same = y.same;
           value = ap gathered_numbers y.values ∙
-              gathered_is g homes e es y.slots top same literal;
+              gathered_is g homes e es y.slots top same;
           less = y.less;
         })
     expr_does (Unary o a) top p f u le len shows (fits, shape) at =

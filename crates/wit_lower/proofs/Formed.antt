@@ -350,7 +350,7 @@ module _ (stands : Stands) (body : List Op) (g : Ground) (homes : Homes) where
     expr_formed (Anonymous parallel name m arguments inputs) top p fits at = absurd fits
     expr_formed (Parentheses e) top p fits at = expr_formed e top p fits at
     expr_formed (Array none) top p fits at = absurd fits
-    expr_formed (Array (more e es)) top p (fe, all, same, literal) at =
+    expr_formed (Array (more e es)) top p (fe, all, same) at =
         exprs_formed (more e es) top p (fe, all) at
     expr_formed (Unary o a) top p (fits, shape) at =
         let one : Code = expr_code g homes top p a in

@@ -211,7 +211,8 @@ module _ (stands : Stands) (body : List Op) (g : Ground) (free : ℕ → Type 0)
         let q : ℕ = p + length one in
         let two : Code = statement_code g inner (q + 2) b in
         let r : ℕ = q + 2 + length two in
-        let three : Code = assign_code g inner r a in
+        let last : Scope = scope_behind g inner b in
+        let three : Code = assign_code g last r a in
         let turn : Code = two ++ three in
         let test : Code = test_code g inner (q + 2 + length turn) c in
         let loop : Code = turned inner.top q turn test in
@@ -222,7 +223,7 @@ module _ (stands : Stands) (body : List Op) (g : Ground) (free : ℕ → Type 0)
         (turned_formed g.keys stands body inner.top q turn test at1
         (formed_append g.keys stands body (q + 2) two three
         (statement_formed b inner (q + 2) fb (has_front body (q + 2) two three at2))
-        (plain_formed inner (plain a) r fa (has_back body (q + 2) two three at2)))
+        (plain_formed last (plain a) r fa (has_back body (q + 2) two three at2)))
         (expr_formed stands body g inner.homes c inner.top (q + 2 + length turn) fc
         (test_at body inner.top q turn test at1)))
     statement_formed (Return spot e) s p (returns, (fe, se)) at =

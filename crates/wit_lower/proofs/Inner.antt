@@ -404,12 +404,13 @@ module _ (g : Ground) where
         let q : ℕ = p + length one in
         let two : Code = statement_code g inner (q + 2) b in
         let r : ℕ = q + 2 + length two in
-        let turn : Code = two ++ assign_code g inner r a in
+        let last : Scope = scope_behind g inner b in
+        let turn : Code = two ++ assign_code g last r a in
         let test : Code = test_code g inner (q + 2 + length turn) c in
         whole_append p one (turned inner.top q turn test) (first_whole s x p)
         (turned_whole inner.top q turn test
-        (whole_append (q + 2) two (assign_code g inner r a) (statement_whole b inner (q + 2))
-        (plain_whole inner (plain a) r))
+        (whole_append (q + 2) two (assign_code g last r a) (statement_whole b inner (q + 2))
+        (plain_whole last (plain a) r))
         (expr_whole inner.homes c inner.top (q + 2 + length turn)))
     statement_whole (Return spot e) s p =
         whole_append p (expr_code g s.homes s.top p e) (op.Return s.top ∷ [])

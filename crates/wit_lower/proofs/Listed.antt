@@ -155,7 +155,7 @@ module _ (free : ℕ → Type 0) (Ends : Type 0) (g : Ground) (all : List ℕ) w
           fc,
           statement_listed (first_scope g s x) body (back (assign_writes a) (writes body) all more)
               (back (first_declares x) (declares body) all d) fb,
-          assign_listed (first_scope g s x).homes a
+          assign_listed (scope_behind g (first_scope g s x) body).homes a
               (front (assign_writes a) (writes body) all more) fa,
         )
     statement_listed s (Return spot e) w d fits = fits

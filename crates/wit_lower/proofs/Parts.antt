@@ -1,9 +1,10 @@
 -- A part of an array that is read comes to the free slots.
-use Rattle.std.proofs.Common.{◌≡◌, ℕ, zero, suc, ◌+◌, ◌<◌, ◌≤◌, Bool, true, false, cond, List, []}
-use Rattle.std.proofs.Common.{◌++◌, length, map, drop, Option, Some, Result, Ok, Err, refl, sym, ap}
-use Rattle.std.proofs.Common.{ap₂, subst, ◌∙◌, arith, length-append, inl, inr, ◌⊎◌}
+use Rattle.std.proofs.Common.{◌≡◌, ℕ, zero, suc, ◌+◌, ◌*◌, ◌<◌, ◌≤◌, Bool, true, false, cond, List}
+use Rattle.std.proofs.Common.{[], ◌∷◌, ◌++◌, length, map, drop, Option, Some, Result, Ok, Err, refl}
+use Rattle.std.proofs.Common.{sym, ap, ap₂, subst, ◌∙◌, arith, length-append, suc-mul, inl, inr}
+use Rattle.std.proofs.Common.{◌⊎◌}
 use Rattle.std.specs.Prelude.{slice_index, unwrap_or, max, fold}
-use Rattle.std.proofs.lemmas.Bool.{ltb-false}
+use Rattle.std.proofs.lemmas.Bool.{ltb-false, ltb-true, lt-ltb}
 use Rattle.gold_field.specs.declared.gold.TheConstants.{P}
 use Rattle.wit_code.specs.declared.code.Op.{Op}
 use Rattle.wit_code.specs.Table.{State}
@@ -46,6 +47,45 @@ made_row dims f b = at (is_too_large dims)
 
 pub slots_are : (dims : List ℕ) → is_too_large dims ≡ false → slots_of dims ≡ elements dims
 slots_are dims e = ap (λ b. cond b 0 (elements dims)) e
+
+fold_more : (a b : ℕ) (dims : List ℕ) → a ≤ b → fold max a dims ≤ fold max b dims
+fold_more a b [] h = h
+fold_more a b (d ∷ ds) h = fold_more (max a d) (max b d) ds (omega arith)
+
+-- a list of arrays that are too large is too large
+pub all_large : (n : ℕ) (dims : List ℕ) → is_too_large dims ≡ true → is_too_large (suc n ∷ dims) ≡ true
+all_large n dims large =
+    let less : 1048576 < max (elements dims) (fold max 0 dims) =
+    ltb-true 1048576 (max (elements dims) (fold max 0 dims)) large in
+    let times : suc n * elements dims ≡ n * elements dims + elements dims =
+    suc-mul n (elements dims) in
+    let folds : fold max 0 dims ≤ fold max (max 0 (suc n)) dims =
+    fold_more 0 (max 0 (suc n)) dims (omega arith) in
+    lt-ltb 1048576 (max (suc n * elements dims) (fold max (max 0 (suc n)) dims))
+    (omega (arith, less, times, folds))
+
+-- arrays one behind the other; those that are too large have no numbers
+pub rows_made : (n : ℕ) (dims f : List ℕ) (b : ℕ)
+    → made (suc n ∷ dims) (row f b (suc n * slots_of dims))
+    ≡ record { dims = suc n ∷ dims; items = row f b (slots_of (suc n ∷ dims)) }
+rows_made n dims f b = at (is_too_large dims) refl
+  where
+    at : (t : Bool) → is_too_large dims ≡ t → ◌≡◌ {A = Numbers}
+        (made (suc n ∷ dims) (row f b (suc n * slots_of dims)))
+        record { dims = suc n ∷ dims; items = row f b (slots_of (suc n ∷ dims)) }
+    at true large =
+        let all : is_too_large (suc n ∷ dims) ≡ true = all_large n dims large in
+        ap (λ t. record {
+          dims = suc n ∷ dims;
+          items = cond t [] (row f b (suc n * slots_of dims));
+        }) all
+        ∙ sym (ap (λ t. record {
+          dims = suc n ∷ dims;
+          items = row f b (cond t 0 (elements (suc n ∷ dims)));
+        }) all)
+    at false small =
+        ap (λ x. made (suc n ∷ dims) (row f b (suc n * x))) (slots_are dims small)
+        ∙ made_row (suc n ∷ dims) f b
 
 pub few_elements : (dims : List ℕ) → is_too_large dims ≡ false → elements dims < P
 few_elements dims e =

@@ -516,7 +516,8 @@ module _ (k : Setting) (sp : Spot) (params : ℕ → ℕ) (width : ℕ)
         let q1 : ℕ = p + length one in
         let two : Code = statement_code g inner (q1 + 2) body in
         let q2 : ℕ = q1 + 2 + length two in
-        let three : Code = assign_code g inner q2 a in
+        let last : Scope = scope_behind g inner body in
+        let three : Code = assign_code g last q2 a in
         let b : Code = two ++ three in
         let t : Code = test_code g inner (q1 + 2 + length b) c in
         let loop : Code = turned inner.top q1 b t in
@@ -537,20 +538,25 @@ module _ (k : Setting) (sp : Spot) (params : ℕ → ℕ) (width : ℕ)
         (here sp q1 kept.slots y.1) (step_turns (suc y.1) env c turn y.0 y.1)
         (loop_does inner laid1 c turn q1 b h1 fc
         (λ store1 f1 u1 fix1 shows1 len1.
-        flow_does (scope_behind g inner body).homes inner.homes (step_statement env body store1 u1)
+        flow_does last.homes inner.homes (step_statement env body store1 u1)
         (λ store3 u4. step_goes (step_assign env a store3 u4)) q2 (q1 + 2 + length b) f1 f1 u1 u1
         (here sp (q1 + 2) f1 u1)
         (statement_does body inner laid1 (q1 + 2) fb (has_front (body_at k sp) (q1 + 2) two three
         hb)
         store1 f1 u1 fix1 shows1 len1) (omega arith)
         (λ store3 f3 u3 fix3 shows3 size3 le3.
-        goes_does inner.homes (step_assign env a store3 u3) (q2 + length three)
-        (q1 + 2 + length b) f1 f3 u1 u3 (here sp q2 f3 u3)
-        (plain_does k sp params width wide g g.known env calls fixed free known stays room inner
-        laid1 (plain a) store3 q2 f3 u3 fa fix3
-        (outer g env free Ends body inner store3 f3 fb shows3) (size3 ∙ len1)
-        (has_back (body_at k sp) (q1 + 2) two three hb)) size3 le3
-        (omega (arith, length-append two three))))
+        does_weaker k (Flowed fixed g env sp last.homes (q1 + 2 + length b) f3 u3)
+        (Flowed fixed g env sp inner.homes (q1 + 2 + length b) f1 u1) (here sp q2 f3 u3)
+        (step_goes (step_assign env a store3 u3))
+        (goes_does last.homes (step_assign env a store3 u3) (q2 + length three)
+        (q1 + 2 + length b) f3 f3 u3 u3 (here sp q2 f3 u3)
+        (plain_does k sp params width wide g g.known env calls fixed free known stays room last
+        (behind_laid g env free Ends body inner laid1 fb) (plain a) store3 q2 f3 u3 fa fix3 shows3
+        (size3 ∙ len1) (has_back (body_at k sp) (q1 + 2) two three hb)) refl (omega arith)
+        (omega (arith, length-append two three)))
+        (λ z w fl. flowed_later fixed g env sp last.homes inner.homes (q1 + 2 + length b)
+        (q1 + 2 + length b) f1 f3 u1 u3 z w fl
+        (λ st sl sh. outer g env free Ends body inner st sl fb sh) size3 le3 refl)))
         y.0 kept.slots y.1 kept.stays kept.shows (kept.size ∙ len))
         (λ z w fl. flowed_later fixed g env sp inner.homes s.homes (q1 + length loop) end f
         kept.slots u y.1 z w fl (λ st sl sh. first_outer g env free Ends x s st sl fx sh) kept.size

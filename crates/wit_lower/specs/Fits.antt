@@ -22,7 +22,7 @@ use Rattle.cir_meaning.specs.Operators.{operator_of}
 use Rattle.cir_meaning.specs.Writing.{plain}
 use Rattle.cir_meaning.specs.Reached.{indices_count}
 use Rattle.wit_lower.specs.Statements.{known_dims, variable_scope, first_scope, scope_behind}
-use Rattle.wit_lower.specs.Values.{shape_of, shapes_of, count_of, number_of}
+use Rattle.wit_lower.specs.Values.{shape_of, shapes_of, number_of}
 
 -- the homes stand one behind the other, and no array is too large
 abbrev pub AreLaid : Homes → (top : ℕ) → Type 0
@@ -67,11 +67,7 @@ abbrev pub IsComponent : Front → Type 0
 IsComponent (Named (meant.Component n)) = Unit {0}
 IsComponent _ = ⊥
 
--- an array literal is not too large, and its elements have one shape
-pub record IsLiteral (count : ℕ) (dims : List ℕ) : Type 0 where
-  pub whole : is_too_large (count ∷ dims) ≡ false
-  pub part : is_too_large dims ≡ false
-
+-- the elements of an array literal have one shape
 abbrev pub HaveShape : Ground → Homes → (dims : List ℕ) → Exprs Meant → Type 0
 HaveShape g homes dims none = Unit {0}
 HaveShape g homes dims (more e es) =
@@ -98,8 +94,7 @@ abbrev mutual
   Fits g homes (Parentheses e) = Fits g homes e
   Fits g homes (Array none) = ⊥
   Fits g homes (Array (more e es)) =
-      Fits g homes e × AllFit g homes es × HaveShape g homes (shape_of g homes e) es ×
-      IsLiteral (suc (count_of es)) (shape_of g homes e)
+      Fits g homes e × AllFit g homes es × HaveShape g homes (shape_of g homes e) es
   Fits g homes (Unary o a) = Fits g homes a × (shape_of g homes a ≡ [])
   Fits g homes (Binary o a b) =
       (Fits g homes a × (shape_of g homes a ≡ [])) ×
@@ -205,7 +200,7 @@ abbrev mutual
   StatementFits free Ends g s (For spot first_spot f c step_spot a body) =
       FirstFits free g s f × TestFits g (first_scope g s f).homes c ×
       StatementFits free Ends g (first_scope g s f) body ×
-      AssignFits free g (first_scope g s f).homes a
+      AssignFits free g (scope_behind g (first_scope g s f) body).homes a
   StatementFits free Ends g s (Return spot e) = Ends × TestFits g s.homes e
   StatementFits free Ends g s (Assert spot e) = TestFits g s.homes e
   StatementFits free Ends g s (Log spot arguments) = ⊥

@@ -102,10 +102,11 @@ abbrev mutual
       (λ q. statement_code g s q a) (λ q. statement_code g s q b))
   statement_code g s place (While spot c a) =
       turns s.top place (λ q. statement_code g s q a) (λ q. test_code g s q c)
+  -- a step names what its body alone declares, as names are resolved
   statement_code g s place (For spot first_spot f c step_spot a body) =
       followed place (first_code g s place f) (λ p. let inner : Scope = first_scope g s f in
       turns inner.top p (λ q. followed q (statement_code g inner q body)
-      (λ r. assign_code g inner r a)) (λ q. test_code g inner q c))
+      (λ r. assign_code g (scope_behind g inner body) r a)) (λ q. test_code g inner q c))
   statement_code g s place (Return spot e) =
       expr_code g s.homes s.top place e ++ op.Return s.top ∷ []
   statement_code g s place (Assert spot e) = test_code g s place e ++ op.Assert s.top ∷ []

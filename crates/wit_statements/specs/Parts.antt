@@ -8,7 +8,7 @@ use Rattle.cir_meaning.specs.Reached.{indices_count}
 use Rattle.wit_lower.specs.Homes.{Ground, Scope, Named, home_of, with_variable}
 use Rattle.wit_lower.specs.Pieces.{Code, followed, write_code}
 use Rattle.wit_lower.specs.Values.{indices_code}
-use Rattle.wit_lower.specs.Statements.{statement_code, assign_code}
+use Rattle.wit_lower.specs.Statements.{scope_behind, statement_code, assign_code}
 
 -- what an assignment has behind its value, which has so many numbers
 abbrev pub write_behind : Ground → Scope → (place size : ℕ) → Meant → Accessors Meant → Code
@@ -21,9 +21,9 @@ abbrev pub declared_as : Meant → List ℕ → Scope → Scope
 declared_as (meant.Variable n) dims s = with_variable n dims s
 declared_as _ dims s = s
 
--- the body of a loop, and behind it the step that a `for` has
+-- the body of a loop, and behind it the step that a `for` has, in the scope behind the body
 abbrev pub turn_code : Ground → Scope → (place : ℕ) → Statement Spot Meant
     → Option (Assign Meant) → Code
 turn_code g s place a None = statement_code g s place a
 turn_code g s place a (Some step) =
-    followed place (statement_code g s place a) (λ p. assign_code g s p step)
+    followed place (statement_code g s place a) (λ p. assign_code g (scope_behind g s a) p step)

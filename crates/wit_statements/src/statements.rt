@@ -197,11 +197,15 @@ fn emit_turn(
         (option_map bare_assign (option_copied step.entry))) }
     ensures scope { OnOk result (IsLeft scope.old scope.new) }
 {
-    emit_inner(ground, scope, code, body)?;
     let Some(step) = step else {
+        emit_inner(ground, scope, code, body)?;
         return Ok(());
     };
+    let count = scope.homes.len();
+    let top = scope.top;
+    emit_statement(ground, scope, code, body)?;
     emit_assign(ground, scope, code, step)?;
+    scope.leave(count, top);
     Ok(())
 }
 

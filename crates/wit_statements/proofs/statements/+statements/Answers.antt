@@ -103,15 +103,24 @@ emit_turn-returns-clause-code t c =
     let g = ground_of c.args.ground.now in
     let s = scope_of c.args.scope.now in
     let old = c.args.code.now in
-    let one = c.emit_inner.new.code in
+    let one = c.emit_statement.new.code in
+    let body = bare_statement c.args.body.now in
     let step = bare_assign c.in-Some.step.now in
-    let left = c.in_ok-emit_inner.ensures.scope in
     rw c.in-Some.is (then_made old one c.emit_assign.new.code
-    (S.statement_code g s (length old) (bare_statement c.args.body.now))
-    (λ p. S.assign_code g s p step) c.in_ok-emit_inner.ensures.code
+    (S.statement_code g s (length old) body)
+    (λ p. S.assign_code g (S.scope_behind g s body) p step) c.in_ok-emit_statement.ensures.code
     (c.in_ok-emit_assign.ensures
     ∙ ap (λ (x : L.Scope). one ++ S.assign_code g x (length one) step)
-    (shows_left c.args.scope.now c.emit_inner.new.scope left)))
+    c.in_ok-emit_statement.ensures.scope.shows))
+
+pub emit_turn-returns-clause-scope : goal.emit_turn-returns-clause-scope
+emit_turn-returns-clause-scope t c =
+    let old = c.args.scope.now in
+    let new = c.emit_statement.new.scope in
+    dropped old new c.leave.new.self c.in_ok-emit_statement.ensures.scope.begins
+    (c.leave.ensures.homes
+    ∙ ap (λ (n : ℕ). take n new.homes.items) (c.len-count.ensures ∙ old.homes.ok.0))
+    c.leave.ensures.top
 
 pub emit_turns-end_jump-requires : goal.emit_turns-end_jump-requires
 emit_turns-end_jump-requires t c =
