@@ -1,5 +1,6 @@
-//! Repeats a call of the field or of the transforms and prints a checksum, so that the time can be compared with the
-//! same loop in another language. The arguments are the call, the size and how often.
+//! Repeats a call of the field or of the transforms and prints a checksum, so that the time can be
+//! compared with the same loop in another language. The arguments are the call, the size and how
+//! often.
 #![tactic(auto)]
 
 ghost use Rattle.std.specs.Prelude.{◌≤◌, length, IfOk};

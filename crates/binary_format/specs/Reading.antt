@@ -3,8 +3,8 @@
 -- A reading takes the bytes that are left, and answers the value at their front with the bytes
 -- after it, or a refusal. Where a refusal names a place in the file, the reading is told where the
 -- bytes end: the place of the next byte is that end less the number of bytes that are left.
-use Rattle.std.specs.Prelude.{◌≡◌, ℕ, zero, suc, List, [], ◌∷◌, length, take, drop, Bool, true, false}
-use Rattle.std.specs.Prelude.{Option, Some, None, Result, Ok, Err, nat_lt, if◌then◌else◌}
+use Rattle.std.specs.Prelude.{◌≡◌, ℕ, zero, suc, List, [], ◌∷◌, length, take, drop, Bool, true}
+use Rattle.std.specs.Prelude.{false, Option, Some, None, Result, Ok, Err, nat_lt, if◌then◌else◌}
 use Rattle.std.specs.Int.{Width, byte_len, from_le_bytes}
 
 infixl 10 ◌>>=◌

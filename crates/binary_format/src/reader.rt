@@ -6,7 +6,7 @@ ghost use Rattle.binary_format.specs.Reading.{Takes, front_of, number_of};
 /// they end. Each place is counted from the file's first byte, which is at 0.
 ///
 /// A call that answers None takes nothing.
-#[derive(Clone, Copy, Debug)]
+#[derive(Clone, Copy)]
 pub struct Reader<'a> {
     pub rest: &'a [u8],
     pub end: u64,

@@ -11,7 +11,7 @@ use std::alloc::{AllocError, Global};
 use std::mem::replace;
 
 /// A number, or an array of some dimensions.
-#[derive(Debug, Drop)]
+#[derive(Drop)]
 pub enum Datum {
     Number(Value),
     Array(Array),
@@ -19,7 +19,7 @@ pub enum Datum {
 
 /// An array with one dimension or more, and its items in row order. One that is too large is never
 /// made: it has no items, and its elements read as 0.
-#[derive(Debug, Drop)]
+#[derive(Drop)]
 pub struct Array {
     pub dims: Vec<u64>,
     pub items: Vec<Value>,
@@ -257,7 +257,7 @@ impl Datum {
 }
 
 /// What an array is filled with.
-#[derive(Clone, Copy, Debug, PartialEq, Eq)]
+#[derive(Clone, Copy, PartialEq, Eq)]
 pub enum Filling {
     Zero,
     Opaque,

@@ -14,7 +14,7 @@ use cir_ast::{Kind, Which};
 use std::alloc::Global;
 
 /// What is counted while a program is compiled. A count stands still at the end of its type.
-#[derive(Clone, Copy, Debug, PartialEq, Eq)]
+#[derive(Clone, Copy)]
 pub struct Counts {
     pub signals: u64,
     pub constraints: u64,

@@ -11,7 +11,7 @@ use cir_ast::Kind;
 use std::alloc::Global;
 
 /// Whether a number is wanted, or an array will do.
-#[derive(Clone, Copy, Debug, PartialEq, Eq)]
+#[derive(Clone, Copy, PartialEq, Eq)]
 pub enum Want {
     Scalar,
     Whole,
@@ -29,14 +29,14 @@ impl Want {
 }
 
 /// The part of an array that indices mean, by its dimensions.
-#[derive(Debug, Drop)]
+#[derive(Drop)]
 pub struct Reach {
     pub left: Vec<u64>,
     pub part: Part,
 }
 
 /// Which part it is.
-#[derive(Clone, Copy, Debug, PartialEq, Eq)]
+#[derive(Clone, Copy)]
 pub enum Part {
     /// As many elements from this place on.
     Known { first: u64, count: u64 },

@@ -4,7 +4,7 @@ use std::alloc::{AllocError, AllocFailed, Global};
 
 /// Where a statement stands that is executed: its file among the program's, its place there, and
 /// the instance in which it is executed, by its number and its path.
-#[derive(Clone, Copy, Debug)]
+#[derive(Clone, Copy)]
 pub struct Site<'a> {
     pub file: u32,
     pub spot: Spot,
@@ -13,7 +13,7 @@ pub struct Site<'a> {
 }
 
 /// Why a program is refused, and where.
-#[derive(Debug, Drop)]
+#[derive(Drop)]
 pub struct Stop {
     pub kind: Kind,
     pub file: u32,
@@ -23,7 +23,7 @@ pub struct Stop {
 }
 
 /// How a step ends that doesn't go on.
-#[derive(Debug, Drop)]
+#[derive(Drop)]
 pub enum Fault {
     Refused(Stop),
     OutOfMemory,

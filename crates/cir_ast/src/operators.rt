@@ -1,7 +1,7 @@
 //! The field-less parts of a tree: operators, arrows, and what a signal is to its template.
 
 /// An operator before its operand.
-#[derive(Debug, Clone, Copy, PartialEq, Eq)]
+#[derive(Clone, Copy, PartialEq, Eq)]
 pub enum Unary {
     /// `-`
     Negate,
@@ -12,7 +12,7 @@ pub enum Unary {
 }
 
 /// An operator between two operands.
-#[derive(Debug, Clone, Copy, PartialEq, Eq)]
+#[derive(Clone, Copy, PartialEq, Eq)]
 pub enum Binary {
     /// `**`
     Pow,
@@ -42,7 +42,7 @@ pub enum Binary {
 }
 
 /// The operator of a symbol such as `+=`.
-#[derive(Debug, Clone, Copy, PartialEq, Eq)]
+#[derive(Clone, Copy, PartialEq, Eq)]
 pub enum Compound {
     Pow,
     ShiftLeft,
@@ -59,7 +59,7 @@ pub enum Compound {
 }
 
 /// An arrow, in the direction that its statement says.
-#[derive(Debug, Clone, Copy, PartialEq, Eq)]
+#[derive(Clone, Copy, PartialEq, Eq)]
 pub enum Arrow {
     /// `<--` or `-->`: only writes.
     Assign,
@@ -68,7 +68,7 @@ pub enum Arrow {
 }
 
 /// What a signal is to its template.
-#[derive(Debug, Clone, Copy, PartialEq, Eq)]
+#[derive(Clone, Copy, PartialEq, Eq)]
 pub enum Direction {
     Inner,
     Input,

@@ -8,7 +8,7 @@ use items::Items;
 
 /// A line and a column of a source. Both count from 1, and a column counts bytes. An item or a
 /// statement stands at its first token; so do the two statements in the head of a `for`.
-#[derive(Debug, Clone, Copy, PartialEq, Eq)]
+#[derive(Clone, Copy)]
 pub struct Spot {
     pub line: u32,
     pub column: u32,
@@ -19,7 +19,7 @@ pub struct Spot {
 /// In a definition, its variables are numbered from 0: the parameters, then the declarations in the
 /// order of the text. So are its signals, and so its components. Templates and functions are
 /// numbered as the program lists them.
-#[derive(Debug, Clone, Copy, PartialEq, Eq)]
+#[derive(Clone, Copy)]
 pub enum Meant {
     /// Nothing that is declared there or defined, or nothing yet.
     Other,

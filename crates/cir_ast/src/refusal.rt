@@ -6,7 +6,7 @@ use cir_token::{LexCause, Text};
 use std::alloc::{AllocError, Global};
 
 /// Where a refusal stands. Lines and columns count from 1, and a column counts bytes.
-#[derive(Debug, Drop)]
+#[derive(Drop)]
 pub struct Place {
     pub file: Text,
     pub line: u32,
@@ -16,7 +16,7 @@ pub struct Place {
 }
 
 /// Why a source is refused, and where.
-#[derive(Debug, Drop)]
+#[derive(Drop)]
 pub struct Refusal {
     pub kind: Kind,
     pub place: Place,
@@ -42,7 +42,7 @@ impl Refusal {
 }
 
 /// The 22 kinds of refusal of a source, E1 to E22.
-#[derive(Debug, Clone, Copy, PartialEq, Eq)]
+#[derive(Clone, Copy)]
 pub enum Kind {
     Lexical { cause: LexCause },
     Syntax,
@@ -69,7 +69,7 @@ pub enum Kind {
 }
 
 /// A form that isn't in the language's profile.
-#[derive(Debug, Clone, Copy, PartialEq, Eq)]
+#[derive(Clone, Copy, PartialEq, Eq)]
 pub enum Form {
     Version,
     CustomTemplate,
@@ -86,7 +86,7 @@ pub enum Form {
 }
 
 /// What a limit counts.
-#[derive(Debug, Clone, Copy, PartialEq, Eq)]
+#[derive(Clone, Copy, PartialEq, Eq)]
 pub enum Which {
     Source,
     Files,

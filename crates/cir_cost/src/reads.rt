@@ -18,7 +18,7 @@ use cir_frame::{SignalEntry, Source, number_of};
 use std::alloc::AllocError;
 
 /// What a step may read.
-#[derive(Clone, Copy, Debug, PartialEq, Eq, PartialOrd, Ord)]
+#[derive(Clone, Copy, PartialEq, Eq, PartialOrd, Ord)]
 pub enum Cell {
     /// An element of a variable.
     Element { variable: u32, element: u64 },

@@ -26,7 +26,7 @@ pub fn op_of(op: Unary) -> Op1
 }
 
 /// An operator of both operands, or one whose left side tells what becomes of the right one.
-#[derive(Clone, Copy, Debug, PartialEq, Eq)]
+#[derive(Clone, Copy)]
 pub enum Operator {
     Strict(Op2),
     And,
@@ -62,7 +62,7 @@ pub fn operator_of(op: Binary) -> Operator
 }
 
 /// How an operand is looked at: not at all, as the operator itself, or shaded.
-#[derive(Clone, Copy, Debug, PartialEq, Eq)]
+#[derive(Clone, Copy, PartialEq, Eq)]
 pub enum Look {
     Skipped,
     Plain,

@@ -22,7 +22,7 @@ use cir_ast::program::{Direction, Spot};
 use std::alloc::{AllocError, Global};
 
 /// How many variables, signals and components a body declares; its parameters aren't counted.
-#[derive(Clone, Copy, PartialEq, Eq)]
+#[derive(Clone, Copy)]
 pub struct Room {
     pub variables: u32,
     pub signals: u32,

@@ -36,7 +36,7 @@ pub enum Grouping<'p> {
 }
 
 /// How many signals each group has.
-#[derive(Clone, Copy, PartialEq, Eq)]
+#[derive(Clone, Copy)]
 pub struct Sizes {
     pub outputs: u64,
     pub public_inputs: u64,

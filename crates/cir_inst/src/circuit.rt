@@ -32,7 +32,7 @@ use items::Items;
 use std::alloc::{AllocError, Global};
 
 /// What a program compiles to.
-#[derive(Debug, Drop)]
+#[derive(Drop)]
 pub struct Circuit {
     pub signals: Signals,
     /// Normal constraints, in the order in which they are executed.
@@ -42,7 +42,7 @@ pub struct Circuit {
 }
 
 /// Why a program doesn't compile.
-#[derive(Debug, Drop)]
+#[derive(Drop)]
 pub enum InstFault {
     Refused(Refusal),
     OutOfMemory,

@@ -8,7 +8,7 @@ ghost use Rattle.cir_known.specs.Answers.{Tells};
 use cir_ast::program::{Assign, Block, FirstForm, Meant, Simple, Spot, Statement, StatementForm};
 
 /// Why statements may not stand under an unknown condition.
-#[derive(Clone, Copy, Debug, PartialEq, Eq)]
+#[derive(Clone, Copy)]
 pub enum UnknownFault {
     /// This statement may not stand there.
     Control { line: u32, column: u32 },

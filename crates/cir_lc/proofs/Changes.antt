@@ -1,5 +1,7 @@
 -- A linear combination in place of a signal.
-use Rattle.std.proofs.Common.{◌≡◌, ℕ, zero, suc, ◌+◌, ◌-◌, ◌*◌, ◌%◌, ◌<◌, ◌↔◌, ◌/◌, List, [], ◌∷◌, ◌++◌, length, get_or, take, sum_by, arith, refl, ap, sym, ◌∙◌, inl, inr, ◌⊎◌, Option, Some, None, mod-lt, lit<}
+use Rattle.std.proofs.Common.{◌≡◌, ℕ, zero, suc, ◌+◌, ◌-◌, ◌*◌, ◌%◌, ◌<◌, ◌↔◌, ◌/◌, List, [], ◌∷◌}
+use Rattle.std.proofs.Common.{◌++◌, length, get_or, take, sum_by, arith, refl, ap, sym, ◌∙◌, inl}
+use Rattle.std.proofs.Common.{inr, ◌⊎◌, Option, Some, None, mod-lt, lit<}
 use Rattle.std.proofs.Math.Nat.{mod-add-mod, add-mod-mod, mod-mod, add-mul-mod_self_right}
 use Rattle.std.proofs.lemmas.Bool.{cases_lt}
 use Rattle.std.proofs.lemmas.List.Sums.{sum_by_more}
@@ -9,7 +11,8 @@ use Rattle.gold_field.specs.declared.form.Constraint.{Constraint}
 use Rattle.gold_field.specs.declared.gold.TheConstants.{P}
 use Rattle.gold_field.specs.Form.{Holds}
 use Rattle.cir_lc.specs.declared.quad.Quad.{Quad}
-use Rattle.cir_lc.specs.Number.{Assignment, Number, value_of, signal, added, scaled, multiplied, negated}
+use Rattle.cir_lc.specs.Number.{Assignment, Number, value_of, signal, added, scaled, multiplied}
+use Rattle.cir_lc.specs.Number.{negated}
 use Rattle.cir_lc.specs.Coefficient.{one_at}
 use Rattle.cir_lc.specs.Normal.{IsNormal, value_of_quad, constant_of, kept_of}
 use Rattle.cir_lc.specs.Sparse.{IsNormalForm}

@@ -1,9 +1,11 @@
 -- The form of a linear number.
-use Rattle.std.proofs.Common.{◌≡◌, ℕ, zero, suc, ◌+◌, ◌-◌, ◌*◌, ◌%◌, ◌<◌, ◌≤◌, List, [], ◌∷◌, ◌++◌, All, arith, refl, ap, sym, ◌∙◌, inl, inr, mod-lt, lit<}
+use Rattle.std.proofs.Common.{◌≡◌, ℕ, zero, suc, ◌+◌, ◌-◌, ◌*◌, ◌%◌, ◌<◌, ◌≤◌, List, [], ◌∷◌, ◌++◌}
+use Rattle.std.proofs.Common.{All, arith, refl, ap, sym, ◌∙◌, inl, inr, mod-lt, lit<}
 use Rattle.std.proofs.Math.Nat.{mod-add-mod, add-mod-mod}
 use Rattle.std.proofs.lemmas.Nat.{mul-mod_first}
 use Rattle.std.proofs.lemmas.List.{append-nil}
-use Rattle.std.proofs.lemmas.List.Elements.{All-nil, All-cons, All-head, All-tail, All-append, All-weaker}
+use Rattle.std.proofs.lemmas.List.Elements.{All-nil, All-cons, All-head, All-tail, All-append}
+use Rattle.std.proofs.lemmas.List.Elements.{All-weaker}
 use Rattle.std.proofs.lemmas.Bool.{cases_lt}
 use Rattle.gold_field.specs.declared.form.Term.{Term}
 use Rattle.gold_field.specs.declared.form.Constraint.{Constraint}
@@ -19,7 +21,8 @@ use Rattle.cir_lc.specs.Merge.{total}
 use Rattle.cir_lc.proofs.Totals.{total-nil, total-cons, total-append}
 use Rattle.cir_lc.proofs.Steps.{total-term}
 use Rattle.cir_lc.proofs.Values.{value-total}
-use Rattle.cir_lc.proofs.Known.{coef_of, one_here, none_apart, coef_apart, coefficient_is, same_forms, value_origin, value_unit}
+use Rattle.cir_lc.proofs.Known.{coef_of, one_here, none_apart, coef_apart, coefficient_is}
+use Rattle.cir_lc.proofs.Known.{same_forms, value_origin, value_unit}
 
 abbrev Small : ℕ → Term → Type 0
 Small n t = (t.signal < n) × (t.coef < P)

@@ -1,5 +1,7 @@
 -- A linear combination is known by its numbers.
-use Rattle.std.proofs.Common.{◌≡◌, ℕ, zero, suc, ◌+◌, ◌-◌, ◌*◌, ◌%◌, ◌<◌, ◌≤◌, ◌==◌, ◌&&◌, Bool, true, false, cond, Some, None, List, [], ◌∷◌, length, arith, refl, ap, sym, ◌∙◌, ◌⊎◌, inl, inr, mod-eq_of_lt}
+use Rattle.std.proofs.Common.{◌≡◌, ℕ, zero, suc, ◌+◌, ◌-◌, ◌*◌, ◌%◌, ◌<◌, ◌≤◌, ◌==◌, ◌&&◌, Bool}
+use Rattle.std.proofs.Common.{true, false, cond, Some, None, List, [], ◌∷◌, length, arith, refl, ap}
+use Rattle.std.proofs.Common.{sym, ◌∙◌, ◌⊎◌, inl, inr, mod-eq_of_lt}
 use Rattle.std.proofs.lemmas.List.Elements.{All-head, All-tail}
 use Rattle.std.proofs.lemmas.Bool.{cases_lt, cases_eq, eq-eqb}
 use Rattle.std.proofs.Math.Dec.{eqb-suc-zero}
@@ -8,7 +10,8 @@ use Rattle.gold_field.specs.declared.form.Term.{Term}
 use Rattle.gold_field.specs.declared.gold.TheConstants.{P}
 use Rattle.gold_field.specs.Rises.{RisesFrom}
 use Rattle.cir_lc.specs.Number.{Number, value_of}
-use Rattle.cir_lc.specs.Coefficient.{one_at, unit_at, origin, unit, coefficient, counted, terms_below, is_constant, constant_in}
+use Rattle.cir_lc.specs.Coefficient.{one_at, unit_at, origin, unit, coefficient, counted}
+use Rattle.cir_lc.specs.Coefficient.{terms_below, is_constant, constant_in}
 use Rattle.cir_lc.specs.Normal.{constant_of}
 use Rattle.cir_lc.specs.Terms.{IsWithin}
 use Rattle.cir_lc.specs.Merge.{total}

@@ -1,5 +1,7 @@
 -- Normal constraints.
-use Rattle.std.proofs.Common.{◌≡◌, ℕ, ◌+◌, ◌-◌, ◌*◌, ◌%◌, ◌<◌, ◌==◌, ◌↔◌, List, [], ◌∷◌, Bool, true, false, cond, Option, Some, None, arith, refl, ap, sym, ◌∙◌, mod-lt, lit<}
+use Rattle.std.proofs.Common.{◌≡◌, ℕ, ◌+◌, ◌-◌, ◌*◌, ◌%◌, ◌<◌, ◌==◌, ◌↔◌, List, [], ◌∷◌, Bool, true}
+use Rattle.std.proofs.Common.{false, cond, Option, Some, None, arith, refl, ap, sym, ◌∙◌, mod-lt}
+use Rattle.std.proofs.Common.{lit<}
 use Rattle.std.proofs.Math.Nat.{mod-add-mod, mul-mod_right, add_comm, mul_comm, mod-mod}
 use Rattle.std.proofs.lemmas.Nat.{mul-mod_first}
 use Rattle.std.proofs.lemmas.Bool.{eqb-true}

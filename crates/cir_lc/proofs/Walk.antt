@@ -1,11 +1,13 @@
 -- The steps of a sum and of a multiple, at the places of a walk over the lists.
-use Rattle.std.proofs.Common.{◌≡◌, ℕ, ◌+◌, ◌*◌, ◌%◌, ◌<◌, ◌≤◌, List, [], ◌∷◌, ◌++◌, get_or, drop, length, ◌⊎◌, inl, inr, ap, sym, ◌∙◌}
+use Rattle.std.proofs.Common.{◌≡◌, ℕ, ◌+◌, ◌*◌, ◌%◌, ◌<◌, ◌≤◌, List, [], ◌∷◌, ◌++◌, get_or, drop}
+use Rattle.std.proofs.Common.{length, ◌⊎◌, inl, inr, ap, sym, ◌∙◌}
 use Rattle.std.proofs.lemmas.List.{drop_more, drop_all, append-nil}
 use Rattle.gold_field.specs.declared.form.Term.{Term}
 use Rattle.gold_field.specs.declared.gold.TheConstants.{P}
 use Rattle.cir_lc.specs.Terms.{term_of}
 use Rattle.cir_lc.specs.Merge.{IsMerged, IsScaled}
-use Rattle.cir_lc.proofs.Steps.{step_left, step_right, step_both, step_scaled, last_left, last_right}
+use Rattle.cir_lc.proofs.Steps.{step_left, step_right, step_both, step_scaled, last_left}
+use Rattle.cir_lc.proofs.Steps.{last_right}
 
 pub drop_at : (xs : List Term) (i : ℕ) (x : Term) → i < length xs → x ≡ get_or xs i x
     → drop i xs ≡ x ∷ drop (i + 1) xs

@@ -3,14 +3,15 @@ ghost use Rattle.gold_field.specs.Form.{Holds};
 ghost use Rattle.cir_lc.specs.Number.{Assignment, value_of, multiplied, negated};
 ghost use Rattle.cir_lc.specs.Terms.{IsWithin};
 ghost use Rattle.cir_lc.specs.Sparse.{IsNormalForm};
-ghost use Rattle.cir_lc.specs.Normal.{IsNormal, IsLinear, IsConstraintWithin, IsQuadWithin, constant_of, value_of_quad};
+ghost use Rattle.cir_lc.specs.Normal.{IsNormal, IsLinear, IsConstraintWithin, IsQuadWithin};
+ghost use Rattle.cir_lc.specs.Normal.{constant_of, value_of_quad};
 
 use crate::sums::{add, scale};
 use gold_field::{Constraint, Gold, Lc};
 use std::alloc::{AllocError, Global};
 
 /// `a * b + c`.
-#[derive(Debug, Drop)]
+#[derive(Drop)]
 pub struct Quad {
     pub a: Lc,
     pub b: Lc,

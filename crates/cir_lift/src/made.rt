@@ -19,7 +19,7 @@ use items::Items;
 use std::alloc::{AllocError, Global};
 
 /// A component of the body: which it is among those without a name, and its number.
-#[derive(Clone, Copy, Debug)]
+#[derive(Clone, Copy)]
 pub struct Own {
     pub index: u32,
     pub number: u32,

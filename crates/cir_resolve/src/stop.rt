@@ -4,14 +4,14 @@ use cir_ast::program::Spot;
 use std::alloc::{AllocError, AllocFailed};
 
 /// A place in the file of this place in the program's list.
-#[derive(Debug, Clone, Copy, PartialEq, Eq)]
+#[derive(Clone, Copy)]
 pub struct Found {
     pub file: u32,
     pub spot: Spot,
 }
 
 /// Why names weren't resolved: one is declared or defined a second time there.
-#[derive(Debug, Clone, Copy, PartialEq, Eq)]
+#[derive(Clone, Copy)]
 pub enum Stop<P> {
     Twice(P),
     OutOfMemory,

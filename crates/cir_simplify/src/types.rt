@@ -3,7 +3,7 @@ use items::Items;
 use std::alloc::AllocError;
 
 /// Which linear constraints are solved.
-#[derive(Clone, Copy, Debug, PartialEq, Eq)]
+#[derive(Clone, Copy, PartialEq, Eq)]
 pub enum Level {
     /// None: the list stays as it is, and every signal is kept.
     O0,
@@ -15,7 +15,7 @@ pub enum Level {
 
 /// What simplification goes by: signals 1 to `kept` are never eliminated, and all are below
 /// `bound`.
-#[derive(Clone, Copy, Debug)]
+#[derive(Clone, Copy)]
 pub struct Rules {
     pub level: Level,
     pub kept: u32,
@@ -23,7 +23,7 @@ pub struct Rules {
 }
 
 /// An equation: the signal has the value of the linear combination.
-#[derive(Debug, Drop)]
+#[derive(Drop)]
 pub struct Solved {
     pub signal: u32,
     pub value: Lc,
@@ -31,7 +31,7 @@ pub struct Solved {
 
 /// Constraints over wires, the signal of each wire, and the equations in the order in which they
 /// were solved.
-#[derive(Debug, Drop)]
+#[derive(Drop)]
 pub struct Simple {
     pub constraints: Items<Constraint>,
     pub wires: Items<u32>,

@@ -9,7 +9,7 @@ use out_io::IoFault;
 use std::alloc::{AllocError, Global};
 
 /// Why a program isn't loaded.
-#[derive(Debug, Drop)]
+#[derive(Drop)]
 pub enum LoadFault {
     /// There is no file of the program's name.
     Missing,

@@ -4,7 +4,7 @@ use items::Items;
 pub type Text = Items<u8>;
 
 /// A token: what it is, the offset of its first byte, and the number of its bytes.
-#[derive(Debug, Drop)]
+#[derive(Drop)]
 pub struct Token {
     pub kind: TokenKind,
     pub offset: u32,
@@ -12,7 +12,7 @@ pub struct Token {
 }
 
 /// What a token is.
-#[derive(Debug, Drop)]
+#[derive(Drop)]
 pub enum TokenKind {
     Reserved(Reserved),
     /// An identifier that isn't a reserved word.
@@ -27,7 +27,7 @@ pub enum TokenKind {
 }
 
 /// A reserved word.
-#[derive(Debug, Clone, Copy, PartialEq, Eq)]
+#[derive(Clone, Copy, PartialEq, Eq)]
 pub enum Reserved {
     Pragma,
     Include,
@@ -52,7 +52,7 @@ pub enum Reserved {
 }
 
 /// A symbol: an operator, an arrow, or punctuation.
-#[derive(Debug, Clone, Copy, PartialEq, Eq)]
+#[derive(Clone, Copy, PartialEq, Eq)]
 pub enum Symbol {
     /// `<==`
     ConstrainLeft,
@@ -163,7 +163,7 @@ pub enum Symbol {
 }
 
 /// Why a source has no reading as tokens.
-#[derive(Debug, Clone, Copy, PartialEq, Eq)]
+#[derive(Clone, Copy, PartialEq, Eq)]
 pub enum LexCause {
     /// A byte that begins no valid character, or a character that begins no token and no gap.
     BadChar,

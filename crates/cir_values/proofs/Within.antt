@@ -1,5 +1,6 @@
 -- The signals of a value's parts.
-use Rattle.std.proofs.Common.{◌≡◌, ℕ, ◌*◌, ◌%◌, ◌<◌, List, [], ◌∷◌, ap, subst, ◌∙◌, arith, mod-eq_of_lt, mod-lt, lit<}
+use Rattle.std.proofs.Common.{◌≡◌, ℕ, ◌*◌, ◌%◌, ◌<◌, List, [], ◌∷◌, ap, subst, ◌∙◌, arith}
+use Rattle.std.proofs.Common.{mod-eq_of_lt, mod-lt, lit<}
 use Rattle.gold_field.specs.declared.form.Term.{Term}
 use Rattle.gold_field.specs.declared.gold.TheConstants.{P}
 use Rattle.cir_lc.specs.declared.quad.Quad.{Quad}

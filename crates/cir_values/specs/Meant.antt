@@ -10,7 +10,8 @@ use Rattle.cir_values.specs.declared.value.Value.TheVariants.{Known, Linear, Qua
 use Rattle.cir_values.specs.declared.operators.Lazy.{Lazy}
 use Rattle.cir_values.specs.declared.operators.Lazy.TheVariants.{Decided, Right, Shaded}
 use Rattle.cir_values.specs.declared.operators.Strict.{Strict}
-use Rattle.cir_values.specs.declared.operators.Strict.TheVariants.{Sum, Difference, Product, Quotient, Power, Division, Plain}
+use Rattle.cir_values.specs.declared.operators.Strict.TheVariants.{Sum, Difference, Product}
+use Rattle.cir_values.specs.declared.operators.Strict.TheVariants.{Quotient, Power, Division, Plain}
 use Rattle.cir_values.specs.declared.operators.Side.{Side}
 use Rattle.cir_values.specs.declared.operators.Side.TheVariants.{First, Second, Both}
 use Rattle.cir_meaning.specs.Source.{parts_from}

@@ -1,6 +1,7 @@
 -- Places of an array's elements in row order.
 pub use Rattle.cir_meaning.specs.Places.{elements}
-use Rattle.std.specs.Prelude.{ℕ, ◌+◌, ◌*◌, ◌<◌, if◌then◌else◌, nat_lt, List, [], ◌∷◌, Option, Some, None}
+use Rattle.std.specs.Prelude.{ℕ, ◌+◌, ◌*◌, ◌<◌, if◌then◌else◌, nat_lt, List, [], ◌∷◌, Option, Some}
+use Rattle.std.specs.Prelude.{None}
 
 abbrev pub counted_on : ℕ → Option ℕ → Option ℕ
 counted_on n None = None

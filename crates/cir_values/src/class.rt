@@ -1,5 +1,6 @@
 ghost use Rattle.std.specs.Prelude.{◌≡◌};
-ghost use Rattle.cir_meaning.specs.Classes.{class_by, known_class, power_class, product_class, quotient_class, sum_class};
+ghost use Rattle.cir_meaning.specs.Classes.{class_by, known_class, power_class, product_class};
+ghost use Rattle.cir_meaning.specs.Classes.{quotient_class, sum_class};
 
 use cir_meaning::Class;
 use gold_field::Op2;

@@ -3,7 +3,8 @@ ghost use Rattle.cir_lc.specs.Number.{value_of};
 ghost use Rattle.cir_lc.specs.Terms.{IsWithin};
 ghost use Rattle.cir_lc.specs.Normal.{IsQuadWithin};
 ghost use Rattle.cir_meaning.specs.Values as M;
-ghost use Rattle.cir_values.specs.Meant.{meant, meant_option, meant_lazy, meant_side, strict_result, IsValueWithin};
+ghost use Rattle.cir_values.specs.Meant.{meant, meant_option, meant_lazy, meant_side};
+ghost use Rattle.cir_values.specs.Meant.{strict_result, IsValueWithin};
 
 use crate::value::{Value, difference, form_copy, negative, product, sum, times_known, zero};
 use cir_lc::Quad;
@@ -11,7 +12,7 @@ use gold_field::{Gold, Lc, Op1, Op2, binary, unary};
 use std::alloc::{AllocError, Global};
 
 /// An operator of both operands, by what it does to values.
-#[derive(Clone, Copy, Debug, PartialEq, Eq)]
+#[derive(Clone, Copy)]
 enum Strict {
     Sum,
     Difference,
@@ -259,7 +260,7 @@ fn number_alone(op: Op1, x: Value) -> Value
 
 /// What is known of a lazy operator by its left side: the answer, that the right side decides, or
 /// that the right side is shaded.
-#[derive(Clone, Copy, Debug, PartialEq, Eq)]
+#[derive(Clone, Copy)]
 pub enum Lazy {
     Decided(Gold),
     Right,
@@ -316,7 +317,7 @@ pub fn truth_of(x: &Value) -> Value
 }
 
 /// Which side of `?:` a condition chooses; both are shaded where it isn't known.
-#[derive(Clone, Copy, Debug, PartialEq, Eq)]
+#[derive(Clone, Copy, PartialEq, Eq)]
 pub enum Side {
     First,
     Second,

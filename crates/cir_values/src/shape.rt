@@ -4,7 +4,7 @@ ghost use Rattle.cir_values.specs.Places.{elements, place_of, IsInside};
 use items::Items;
 
 /// The dimensions of an array, the outermost first. A number has none.
-#[derive(Debug, Drop)]
+#[derive(Drop)]
 pub struct Shape {
     pub dims: Items<u32>,
 }

@@ -10,7 +10,7 @@ pub type Text = Items<u8>;
 
 /// The signals of a circuit, in the order of their numbers: main's outputs, its public inputs, its
 /// private inputs, then all others. Signal 0, which stands for 1, has no entry.
-#[derive(Debug, Drop)]
+#[derive(Drop)]
 pub struct Signals {
     /// The name of signal `n` stands at place `n - 1`.
     pub names: Items<SignalName>,
@@ -22,7 +22,7 @@ pub struct Signals {
 }
 
 /// One input of main, an array or a scalar: its first signal and how many it has.
-#[derive(Debug, Drop)]
+#[derive(Drop)]
 pub struct InputShape {
     pub name: Text,
     pub first: u32,
@@ -32,7 +32,7 @@ pub struct InputShape {
 /// The name of a signal in the instance of its number. The base is the declared name, followed for
 /// an array by its dimensions in brackets, as `in[2][2]`; `place` is the element's place in row
 /// order.
-#[derive(Debug, Drop)]
+#[derive(Drop)]
 pub struct SignalName {
     pub instance: u32,
     pub base: Text,

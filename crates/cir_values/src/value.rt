@@ -3,7 +3,9 @@ ghost use Rattle.gold_field.specs.declared.gold.TheConstants.{P};
 ghost use Rattle.cir_lc.specs.Number.{value_of, constant, signal, scaled, negated};
 ghost use Rattle.cir_lc.specs.Terms.{IsWithin};
 ghost use Rattle.cir_lc.specs.Normal.{IsQuadWithin};
-ghost use Rattle.cir_meaning.specs.Values.{sum_of, negative_of, product_of, parts_of, Known as KnownValue, Linear as LinearValue, Quadratic as QuadraticValue};
+ghost use Rattle.cir_meaning.specs.Values.{sum_of, negative_of, product_of, parts_of};
+ghost use Rattle.cir_meaning.specs.Values.{Known as KnownValue, Linear as LinearValue};
+ghost use Rattle.cir_meaning.specs.Values.{Quadratic as QuadraticValue};
 ghost use Rattle.cir_values.specs.Meant.{meant, meant_parts, IsValueWithin};
 
 use cir_lc::{Quad, add, scale};
@@ -12,7 +14,7 @@ use std::alloc::{AllocError, Global};
 
 /// The value of an expression: a number that is known, a linear combination of signals, a quadratic
 /// form in them, or anything else.
-#[derive(Debug, Drop)]
+#[derive(Drop)]
 pub enum Value {
     Known(Gold),
     Linear(Lc),

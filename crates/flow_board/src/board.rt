@@ -28,7 +28,7 @@ pub struct Board<'g, A: Answers> {
 }
 
 /// What a release found: the successor that it told, and whether that waits for nothing any more.
-#[derive(Clone, Copy, Debug)]
+#[derive(Clone, Copy)]
 pub struct Released {
     pub strand: u32,
     pub ready: bool,

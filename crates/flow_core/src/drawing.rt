@@ -11,7 +11,7 @@ use items::Items;
 use std::alloc::{AllocError, Global};
 
 /// Why there is no graph.
-#[derive(Clone, Copy, Debug, PartialEq, Eq)]
+#[derive(Clone, Copy, PartialEq, Eq)]
 pub enum GraphFault {
     /// A list names a cell twice or out of range, a cell is written twice, a strand reads what it
     /// or a later one writes, or there is not one list of each kind for each strand.

@@ -4,7 +4,7 @@ use std::marker::Model;
 /// Which strand reads and writes which cells, and which strands wait for which.
 ///
 /// Each of the four lists has one list for each strand. The type keeps what `IsNet` says of them.
-#[derive(Debug, Drop)]
+#[derive(Drop)]
 pub struct Graph {
     /// The number of strands.
     pub strands: u32,

@@ -9,7 +9,7 @@ use items::Items;
 use std::alloc::{AllocError, Global};
 
 /// Where a strand stands.
-#[derive(Clone, Copy, Debug, PartialEq, Eq)]
+#[derive(Clone, Copy)]
 pub enum Phase {
     /// No worker has taken it.
     Waiting,
@@ -27,7 +27,7 @@ pub enum Phase {
 }
 
 /// What a worker does to a state in one step.
-#[derive(Clone, Copy, Debug)]
+#[derive(Clone, Copy)]
 pub enum Event {
     /// The worker takes a strand that waits for nothing.
     Take { worker: u32, strand: u32 },
@@ -42,7 +42,7 @@ pub enum Event {
 }
 
 /// A strand that a worker holds, with its two counts.
-#[derive(Clone, Copy, Debug, PartialEq, Eq)]
+#[derive(Clone, Copy)]
 pub struct Hold {
     pub strand: u32,
     pub published: u32,
@@ -50,7 +50,7 @@ pub struct Hold {
 }
 
 /// A run of a graph's strands, at one moment.
-#[derive(Debug, Drop)]
+#[derive(Drop)]
 pub struct State {
     /// The value of each cell, where it has one.
     pub cells: Items<Option<Gold>>,

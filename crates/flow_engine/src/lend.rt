@@ -36,8 +36,8 @@ pub fn cut_seats(
     Ok(seats)
 }
 
-// Works with a seat that no other thread has near its own, and gives it back: a seat changes at each
-// step, and seats side by side in memory would slow each other.
+// Works with a seat that no other thread has near its own, and gives it back: a seat changes at
+// each step, and seats side by side in memory would slow each other.
 fn work_apart<R: Wait, G: Gate>(
     rt: &R,
     alloc: Global,

@@ -9,7 +9,7 @@ use wit_flow::{Flow, cut};
 
 /// A step of 20 instructions: it reads the cell `from`, adds the number 16 times, stops with
 /// `AssertFails` where the sum is 0, and else writes it.
-#[derive(Clone, Copy, Debug)]
+#[derive(Clone, Copy)]
 pub struct Link {
     pub from: u32,
     pub number: Gold,

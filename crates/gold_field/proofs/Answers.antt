@@ -1,16 +1,16 @@
 -- The operators' answers are numbers of the field.
-use Rattle.std.proofs.Common.{◌≡◌, ℕ, ◌-◌, ◌*◌, ◌/◌, ◌%◌, ◌^◌, ◌<◌, Bool, true, false, cond, Some, None}
-use Rattle.std.proofs.Common.{subst, arith}
+use Rattle.std.proofs.Common.{◌≡◌, ℕ, ◌-◌, ◌*◌, ◌/◌, ◌%◌, ◌^◌, ◌<◌, Bool, true, false, cond, Some}
+use Rattle.std.proofs.Common.{None, subst, arith}
 use Rattle.std.specs.Prelude.{◌==◌, nat_le}
 use Rattle.std.proofs.Math.Nat.{div-le_self, mod-le}
 use Rattle.gold_field.specs.declared.gold.TheConstants.{P}
 use Rattle.gold_field.specs.declared.operators.Op1.{Op1}
 use Rattle.gold_field.specs.declared.operators.Op1.TheVariants.{Neg, Not, Compl}
 use Rattle.gold_field.specs.declared.operators.Op2.{Op2}
-use Rattle.gold_field.specs.declared.operators.Op2.TheVariants.{Add, Sub, Mul, Div, Quot, Rem, Pow, Shl, Shr}
-use Rattle.gold_field.specs.declared.operators.Op2.TheVariants.{And, Xor, Or, Lt, Le, Gt, Ge, Eq, Ne}
-use Rattle.gold_field.specs.Operators.{HALF, inverse_of, left, right, truth}
-use Rattle.gold_field.specs.Operators.{unary_of, binary_of}
+use Rattle.gold_field.specs.declared.operators.Op2.TheVariants.{Add, Sub, Mul, Div, Quot, Rem, Pow}
+use Rattle.gold_field.specs.declared.operators.Op2.TheVariants.{Shl, Shr, And, Xor, Or, Lt, Le, Gt}
+use Rattle.gold_field.specs.declared.operators.Op2.TheVariants.{Ge, Eq, Ne}
+use Rattle.gold_field.specs.Operators.{HALF, inverse_of, left, right, truth, unary_of, binary_of}
 
 truth_below : (b : Bool) → truth b < P
 truth_below true = omega arith

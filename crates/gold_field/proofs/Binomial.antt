@@ -1,6 +1,9 @@
 -- Fermat's theorem for any prime, by binomial coefficients: (1 + a) ^ q is 1 + a ^ q modulo q.
-use Rattle.std.proofs.Common.{◌≡◌, ◌≢◌, ℕ, zero, suc, ◌+◌, ◌-◌, ◌*◌, ◌/◌, ◌%◌, ◌^◌, ◌<◌, ◌≤◌, inl, inr, refl, sym, ◌∙◌, ap, arith, mul_comm, add_comm, pow-suc, mod-eq_of_lt}
-use Rattle.std.proofs.Math.Nat.{mod-add-mod, add-mod-mod, mul-mod_right, zero-mod, mul-sub, div-add-mod, one-le-pow, pow-zero}
+use Rattle.std.proofs.Common.{◌≡◌, ◌≢◌, ℕ, zero, suc, ◌+◌, ◌-◌, ◌*◌, ◌/◌, ◌%◌, ◌^◌, ◌<◌, ◌≤◌, inl}
+use Rattle.std.proofs.Common.{inr, refl, sym, ◌∙◌, ap, arith, mul_comm, add_comm, pow-suc}
+use Rattle.std.proofs.Common.{mod-eq_of_lt}
+use Rattle.std.proofs.Math.Nat.{mod-add-mod, add-mod-mod, mul-mod_right, zero-mod, mul-sub}
+use Rattle.std.proofs.Math.Nat.{div-add-mod, one-le-pow, pow-zero}
 use Rattle.std.proofs.lemmas.Bool.{cases_eq}
 use Rattle.gold_field.specs.Prime.{IsPrime}
 use Rattle.gold_field.proofs.Euclid.{times_zero, plus_zero, euclid}

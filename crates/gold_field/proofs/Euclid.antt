@@ -1,5 +1,6 @@
 -- Euclid's lemma for any prime: a prime that divides a product divides a factor.
-use Rattle.std.proofs.Common.{◌≡◌, ◌≢◌, ℕ, zero, suc, ◌+◌, ◌*◌, ◌/◌, ◌%◌, ◌<◌, ◌≤◌, ◌⊎◌, inl, inr, sym, ◌∙◌, ap, arith, mod-lt, div-add-mod', mul_assoc, zero-add}
+use Rattle.std.proofs.Common.{◌≡◌, ◌≢◌, ℕ, zero, suc, ◌+◌, ◌*◌, ◌/◌, ◌%◌, ◌<◌, ◌≤◌, ◌⊎◌, inl, inr}
+use Rattle.std.proofs.Common.{sym, ◌∙◌, ap, arith, mod-lt, div-add-mod', mul_assoc, zero-add}
 use Rattle.std.proofs.Math.Nat.{mod-add-mod, mul-mod_right, zero-mod, add-mul}
 use Rattle.std.proofs.lemmas.Nat.{mul-mod_first, mul-mod_second}
 use Rattle.std.proofs.lemmas.Bool.{cases_eq, cases_lt}

@@ -1,5 +1,6 @@
 -- Laws of the field's arithmetic. Most hold modulo any q; the last ones need a prime.
-use Rattle.std.proofs.Common.{◌≡◌, ◌≢◌, ℕ, suc, ◌+◌, ◌-◌, ◌*◌, ◌/◌, ◌%◌, ◌^◌, ◌<◌, ◌≤◌, sym, ◌∙◌, ap, arith, mod-eq_of_lt, mod-lt, mul_assoc, add_assoc, div-add-mod'}
+use Rattle.std.proofs.Common.{◌≡◌, ◌≢◌, ℕ, suc, ◌+◌, ◌-◌, ◌*◌, ◌/◌, ◌%◌, ◌^◌, ◌<◌, ◌≤◌, sym, ◌∙◌}
+use Rattle.std.proofs.Common.{ap, arith, mod-eq_of_lt, mod-lt, mul_assoc, add_assoc, div-add-mod'}
 use Rattle.std.proofs.Math.Nat.{mod-add-mod, add-mod-mod, mul-add, mul-mod_right, pow-succ'}
 use Rattle.std.proofs.lemmas.Nat.{mul-mod, mul-mod_first, mul-mod_second}
 use Rattle.gold_field.specs.declared.gold.TheConstants.{P}

@@ -1,8 +1,12 @@
 -- A number with a power 2 ^ t that is -1 has no small period, and so a number with such a witness
 -- is prime.
-use Rattle.std.proofs.Common.{◌≡◌, ◌≢◌, ℕ, zero, suc, ◌+◌, ◌-◌, ◌*◌, ◌/◌, ◌%◌, ◌^◌, ◌<◌, ◌≤◌, ◌⊎◌, inl, inr, refl, sym, ◌∙◌, ap, arith, pow-suc, mod-eq_of_lt, div-add-mod'}
-use Rattle.std.proofs.Math.Nat.{two-pow-succ, mod-mod_of_dvd, mul-add-mod_self_right, mul-mod_right, pow-zero}
-use Rattle.std.proofs.lemmas.Nat.{pow-mod, mul-pow, mul-mod, mul-mod_second, pow-add, pow_pos, mul-le}
+use Rattle.std.proofs.Common.{◌≡◌, ◌≢◌, ℕ, zero, suc, ◌+◌, ◌-◌, ◌*◌, ◌/◌, ◌%◌, ◌^◌, ◌<◌, ◌≤◌, ◌⊎◌}
+use Rattle.std.proofs.Common.{inl, inr, refl, sym, ◌∙◌, ap, arith, pow-suc, mod-eq_of_lt}
+use Rattle.std.proofs.Common.{div-add-mod'}
+use Rattle.std.proofs.Math.Nat.{two-pow-succ, mod-mod_of_dvd, mul-add-mod_self_right, mul-mod_right}
+use Rattle.std.proofs.Math.Nat.{pow-zero}
+use Rattle.std.proofs.lemmas.Nat.{pow-mod, mul-pow, mul-mod, mul-mod_second, pow-add, pow_pos}
+use Rattle.std.proofs.lemmas.Nat.{mul-le}
 use Rattle.std.proofs.lemmas.Nat.Gcd.{dvd_of_mod-eq-zero}
 use Rattle.std.proofs.lemmas.Bool.{cases_eq, cases_lt}
 use Rattle.gold_field.specs.Prime.{IsPrime, squared}

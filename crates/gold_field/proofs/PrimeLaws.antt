@@ -1,6 +1,7 @@
 -- The order P of the field is prime, and what follows: no zero divisors, Fermat's theorem,
 -- inverses.
-use Rattle.std.proofs.Common.{◌≡◌, ◌≢◌, ℕ, suc, ◌+◌, ◌-◌, ◌*◌, ◌/◌, ◌%◌, ◌^◌, ◌<◌, ◌≤◌, ◌⊎◌, refl, sym, ◌∙◌, ap, arith, mod-eq_of_lt, lit<, lit≤, div-add-mod'}
+use Rattle.std.proofs.Common.{◌≡◌, ◌≢◌, ℕ, suc, ◌+◌, ◌-◌, ◌*◌, ◌/◌, ◌%◌, ◌^◌, ◌<◌, ◌≤◌, ◌⊎◌, refl}
+use Rattle.std.proofs.Common.{sym, ◌∙◌, ap, arith, mod-eq_of_lt, lit<, lit≤, div-add-mod'}
 use Rattle.std.proofs.Math.Nat.{pow-succ', two-pow-succ}
 use Rattle.std.proofs.lemmas.Nat.{mul-mod_second, mul-mod_first, pow-mod}
 use Rattle.gold_field.specs.declared.gold.TheConstants.{P}

@@ -1,11 +1,15 @@
 -- The operators of Circom over the field: a table over whole numbers. Operands are numbers from 0
 -- to p - 1. Every answer is one again. Truth is "not 0", and a test answers 1 or 0.
-use Rattle.std.specs.Prelude.{ℕ, ◌+◌, ◌-◌, ◌*◌, ◌/◌, ◌%◌, ◌^◌, Bool, not, if◌then◌else◌, ◌==◌, nat_le, Option, Some, None, ℤ, pos, ◌-ℤ◌, int_lt, bit_and, bit_or, bit_xor}
+use Rattle.std.specs.Prelude.{ℕ, ◌+◌, ◌-◌, ◌*◌, ◌/◌, ◌%◌, ◌^◌, Bool, not, if◌then◌else◌, ◌==◌}
+use Rattle.std.specs.Prelude.{nat_le, Option, Some, None, ℤ, pos, ◌-ℤ◌, int_lt, bit_and, bit_or}
+use Rattle.std.specs.Prelude.{bit_xor}
 use Rattle.gold_field.specs.declared.gold.TheConstants.{P}
 use Rattle.gold_field.specs.declared.operators.Op1.{Op1}
 use Rattle.gold_field.specs.declared.operators.Op1.TheVariants.{Neg, Not, Compl}
 use Rattle.gold_field.specs.declared.operators.Op2.{Op2}
-use Rattle.gold_field.specs.declared.operators.Op2.TheVariants.{Add, Sub, Mul, Div, Quot, Rem, Pow, Shl, Shr, And, Xor, Or, Lt, Le, Gt, Ge, Eq, Ne}
+use Rattle.gold_field.specs.declared.operators.Op2.TheVariants.{Add, Sub, Mul, Div, Quot, Rem, Pow}
+use Rattle.gold_field.specs.declared.operators.Op2.TheVariants.{Shl, Shr, And, Xor, Or, Lt, Le, Gt}
+use Rattle.gold_field.specs.declared.operators.Op2.TheVariants.{Ge, Eq, Ne}
 
 -- (p - 1) / 2
 abbrev pub HALF : ℕ

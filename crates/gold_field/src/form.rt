@@ -6,7 +6,7 @@ use crate::gold::Gold;
 use std::marker::Model;
 
 /// A signal times a coefficient. Signal 0 stands for the number 1.
-#[derive(Clone, Copy, Debug, PartialEq, Eq)]
+#[derive(Clone, Copy)]
 pub struct Term {
     pub signal: u32,
     pub coef: Gold,
@@ -14,7 +14,7 @@ pub struct Term {
 
 /// A linear combination of signals, in sparse form: its terms by rising signal, none with
 /// coefficient 0. So a linear combination has one form only.
-#[derive(Debug, Drop)]
+#[derive(Drop)]
 pub struct Lc {
     terms: Vec<Term>,
 }
@@ -32,7 +32,7 @@ impl Model for Lc {
 }
 
 /// The rank-1 constraint `a * b - c = 0`.
-#[derive(Debug, Drop)]
+#[derive(Drop)]
 pub struct Constraint {
     pub a: Lc,
     pub b: Lc,

@@ -9,7 +9,7 @@ pub const P: u64 = 18446744069414584321;
 const EPSILON: u64 = 4294967295;
 
 /// A number of the field, in its least representative: in every contract a `Gold` is that number.
-#[derive(Clone, Copy, Debug, PartialEq, Eq, Hash)]
+#[derive(Clone, Copy, PartialEq, Eq)]
 pub struct Gold {
     number: u64,
 }

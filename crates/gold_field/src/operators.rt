@@ -1,5 +1,6 @@
-ghost use Rattle.std.specs.Prelude.{◌≡◌, ◌*◌, ◌/◌, ◌%◌, ◌^◌, ◌<◌, ◌↔◌, IsNone, IsTrue};
-ghost use Rattle.gold_field.specs.Operators.{val, truth, left, right, shifted_left, shifted_right, is_less, unary_of, binary_of, Divides};
+ghost use Rattle.std.specs.Prelude.{◌≡◌, ◌*◌, ◌/◌, ◌%◌, ◌^◌, ◌<◌, ◌↔◌, IsNone};
+ghost use Rattle.gold_field.specs.Operators.{val, truth, left, right, shifted_left, shifted_right};
+ghost use Rattle.gold_field.specs.Operators.{is_less, unary_of, binary_of, Divides};
 
 use crate::gold::{Gold, P, reduced};
 
@@ -8,7 +9,7 @@ use crate::gold::{Gold, P, reduced};
 pub const HALF: u64 = 9223372034707292160;
 
 /// The operators of one operand.
-#[derive(Clone, Copy, Debug, PartialEq, Eq, Hash)]
+#[derive(Clone, Copy, PartialEq, Eq)]
 pub enum Op1 {
     /// `-a`
     Neg,
@@ -19,7 +20,7 @@ pub enum Op1 {
 }
 
 /// The operators of two operands.
-#[derive(Clone, Copy, Debug, PartialEq, Eq, Hash)]
+#[derive(Clone, Copy, PartialEq, Eq)]
 pub enum Op2 {
     Add,
     Sub,

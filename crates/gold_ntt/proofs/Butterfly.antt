@@ -1,6 +1,7 @@
 -- One level of the transform: from the values of the even and the odd coefficients to the values of
 -- all.
-use Rattle.std.proofs.Common.{◌≡◌, ℕ, zero, suc, ◌+◌, ◌-◌, ◌*◌, ◌%◌, ◌^◌, ◌<◌, refl, sym, ◌∙◌, ap, arith, mod-eq_of_lt, mul_assoc}
+use Rattle.std.proofs.Common.{◌≡◌, ℕ, zero, suc, ◌+◌, ◌-◌, ◌*◌, ◌%◌, ◌^◌, ◌<◌, refl, sym, ◌∙◌, ap}
+use Rattle.std.proofs.Common.{arith, mod-eq_of_lt, mul_assoc}
 use Rattle.std.proofs.Math.Nat.{mod-mod, mul-mod_right, mul-add-mod_self_right}
 use Rattle.std.proofs.lemmas.Nat.{pow-mod, mul-mod, mul-mod_first, mul-pow, pow-add}
 use Rattle.gold_field.proofs.FieldLaws.{sum_cancel, opposite}

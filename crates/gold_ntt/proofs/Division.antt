@@ -1,5 +1,7 @@
 -- Sums of powers of roots of unity, and division by X ^ n - 1.
-use Rattle.std.proofs.Common.{◌≡◌, ◌≢◌, ℕ, zero, suc, ◌+◌, ◌-◌, ◌*◌, ◌/◌, ◌%◌, ◌^◌, ◌<◌, ◌≤◌, inl, inr, refl, sym, ◌∙◌, ap, arith, lit<, mod-eq_of_lt, mod-lt, div-add-mod', List, length, get_or, cond, ◌==◌, eq-eqb}
+use Rattle.std.proofs.Common.{◌≡◌, ◌≢◌, ℕ, zero, suc, ◌+◌, ◌-◌, ◌*◌, ◌/◌, ◌%◌, ◌^◌, ◌<◌, ◌≤◌, inl}
+use Rattle.std.proofs.Common.{inr, refl, sym, ◌∙◌, ap, arith, lit<, mod-eq_of_lt, mod-lt}
+use Rattle.std.proofs.Common.{div-add-mod', List, length, get_or, cond, ◌==◌, eq-eqb}
 use Rattle.std.proofs.Math.Nat.{mod-mod, pow-zero}
 use Rattle.std.proofs.lemmas.Nat.{mul-mod_first, mul-mod_second, pow-mod, pow-add, pow_pos}
 use Rattle.std.proofs.lemmas.Bool.{cases_lt, cases_eq, lt-ltb, le-ltb, ne_eqb}
@@ -15,7 +17,8 @@ use Rattle.gold_ntt.proofs.Inverse.{powers, powers_zero, powers_one}
 use Rattle.gold_ntt.proofs.Interpolation.{equal_values}
 use Rattle.gold_ntt.proofs.Products.{poly_past, poly-add}
 use Rattle.gold_ntt.proofs.RootLaws.{root_one, root_order}
-use Rattle.gold_ntt.proofs.Sums.{sum_to-zero, sum_to-suc, sum_same, sum_mod, sum-scale, sum-swap, sum-zero}
+use Rattle.gold_ntt.proofs.Sums.{sum_to-zero, sum_to-suc, sum_same, sum_mod, sum-scale, sum-swap}
+use Rattle.gold_ntt.proofs.Sums.{sum-zero}
 use Rattle.gold_ntt.proofs.Values.{poly_point, poly_coefs, plus_same, times_same}
 
 -- a power of a root depends on the exponent modulo the order

@@ -1,5 +1,6 @@
 -- Orthogonality of the powers of a root of unity, and what follows: the inverse transform.
-use Rattle.std.proofs.Common.{◌≡◌, ◌≢◌, ℕ, zero, suc, ◌+◌, ◌-◌, ◌*◌, ◌%◌, ◌^◌, ◌<◌, ◌≤◌, inl, inr, refl, sym, ◌∙◌, ap, arith, lit<, mul_assoc, mul_comm, mod-eq_of_lt}
+use Rattle.std.proofs.Common.{◌≡◌, ◌≢◌, ℕ, zero, suc, ◌+◌, ◌-◌, ◌*◌, ◌%◌, ◌^◌, ◌<◌, ◌≤◌, inl, inr}
+use Rattle.std.proofs.Common.{refl, sym, ◌∙◌, ap, arith, lit<, mul_assoc, mul_comm, mod-eq_of_lt}
 use Rattle.std.proofs.Math.Nat.{pow-succ', pow-zero}
 use Rattle.std.proofs.lemmas.Nat.{pow-mod, mul-mod, mul-mod_first, mul-mod_second, mul-pow, pow-add}
 use Rattle.std.proofs.lemmas.Bool.{cases_lt, cases_eq}
@@ -8,8 +9,10 @@ use Rattle.gold_field.proofs.Period.{one_pow, pow_swap}
 use Rattle.gold_field.proofs.Euclid.{times_zero}
 use Rattle.gold_field.proofs.FieldLaws.{sum_cancel, product_cancel}
 use Rattle.gold_ntt.specs.Polynomial.{sum_to, poly}
-use Rattle.gold_ntt.proofs.Sums.{sum_to-suc, sum_to-zero, sum_same, sum_mod, sum-scale, sum-swap, sum_one}
-use Rattle.gold_ntt.proofs.Values.{poly_coefs, poly-scale, plus_same, times_same, same_times, pow_same}
+use Rattle.gold_ntt.proofs.Sums.{sum_to-suc, sum_to-zero, sum_same, sum_mod, sum-scale, sum-swap}
+use Rattle.gold_ntt.proofs.Sums.{sum_one}
+use Rattle.gold_ntt.proofs.Values.{poly_coefs, poly-scale, plus_same, times_same, same_times}
+use Rattle.gold_ntt.proofs.Values.{pow_same}
 
 -- x ^ 0 + .. + x ^ (n - 1)
 abbrev pub powers : ℕ → ℕ → ℕ

@@ -1,5 +1,6 @@
 -- A block of twice the size, from its two halves.
-use Rattle.std.proofs.Common.{◌≡◌, ℕ, suc, ◌+◌, ◌-◌, ◌*◌, ◌%◌, ◌^◌, ◌<◌, ◌≤◌, ◌⊎◌, inl, inr, refl, sym, ◌∙◌, ap, subst, arith, lit<, mod-eq_of_lt, List, length, get_or}
+use Rattle.std.proofs.Common.{◌≡◌, ℕ, suc, ◌+◌, ◌-◌, ◌*◌, ◌%◌, ◌^◌, ◌<◌, ◌≤◌, ◌⊎◌, inl, inr, refl}
+use Rattle.std.proofs.Common.{sym, ◌∙◌, ap, subst, arith, lit<, mod-eq_of_lt, List, length, get_or}
 use Rattle.std.proofs.Math.Nat.{mod-mod, pow-zero, two-pow-succ}
 use Rattle.std.proofs.lemmas.Bool.{cases_lt}
 use Rattle.std.proofs.lemmas.Grind.{get_or_default_zero}
@@ -9,7 +10,8 @@ use Rattle.gold_ntt.specs.Reversal.{reversed}
 use Rattle.gold_ntt.specs.Transform.{TransformsBlock, HalvesAt, HasValues}
 use Rattle.gold_ntt.proofs.Butterfly.{low_place, high_place, squared_half}
 use Rattle.gold_ntt.proofs.Merging.{IsMerged, low_of, high_of}
-use Rattle.gold_ntt.proofs.ReversalLaws.{reversed-even, reversed-odd, reversed_below, reversed_twice}
+use Rattle.gold_ntt.proofs.ReversalLaws.{reversed-even, reversed-odd, reversed_below}
+use Rattle.gold_ntt.proofs.ReversalLaws.{reversed_twice}
 use Rattle.gold_ntt.proofs.Values.{poly_point}
 use Rattle.gold_ntt.proofs.Sums.{sum_to-suc, sum_to-zero, sum_same}
 

@@ -1,5 +1,6 @@
 -- The roots of unity and their orders.
-use Rattle.std.proofs.Common.{◌≡◌, ◌≢◌, ℕ, zero, suc, ◌+◌, ◌-◌, ◌*◌, ◌%◌, ◌^◌, ◌<◌, ◌≤◌, refl, sym, ◌∙◌, ap, arith, lit<, mod-eq_of_lt, mod-lt, pow-suc}
+use Rattle.std.proofs.Common.{◌≡◌, ◌≢◌, ℕ, zero, suc, ◌+◌, ◌-◌, ◌*◌, ◌%◌, ◌^◌, ◌<◌, ◌≤◌, refl, sym}
+use Rattle.std.proofs.Common.{◌∙◌, ap, arith, lit<, mod-eq_of_lt, mod-lt, pow-suc}
 use Rattle.std.proofs.Math.Nat.{mod-mod, pow-zero}
 use Rattle.std.proofs.lemmas.Nat.{pow-mod, mul-mod_first}
 use Rattle.gold_field.specs.declared.gold.TheConstants.{P}

@@ -1,10 +1,10 @@
 -- Finite sums, and sums modulo q.
-use Rattle.std.proofs.Common.{◌≡◌, ◌≢◌, ℕ, zero, suc, ◌+◌, ◌-◌, ◌*◌, ◌%◌, ◌<◌, ◌≤◌, inl, inr, refl, sym, ◌∙◌, ap, arith}
-use Rattle.std.proofs.Math.Nat.{mul-add}
+use Rattle.std.proofs.Common.{◌≡◌, ◌≢◌, ℕ, zero, suc, ◌+◌, ◌-◌, ◌*◌, ◌%◌, ◌<◌, ◌≤◌, inl, inr, refl}
+use Rattle.std.proofs.Common.{sym, ◌∙◌, ap, arith}
+use Rattle.std.proofs.Math.Nat.{mul-add, mod-mod, zero-mod}
 use Rattle.std.proofs.lemmas.Bool.{cases_lt}
 use Rattle.gold_field.proofs.FieldLaws.{sum_of_rests}
 use Rattle.gold_field.proofs.Euclid.{plus_zero}
-use Rattle.std.proofs.Math.Nat.{mod-mod, zero-mod}
 use Rattle.gold_ntt.specs.Polynomial.{sum_to}
 
 pub sum_to-zero : (f : ℕ → ℕ) → sum_to 0 f ≡ 0

@@ -1,5 +1,7 @@
 -- The public transforms: roots of the right order, inverses and cosets.
-use Rattle.std.proofs.Common.{◌≡◌, ◌≢◌, ℕ, zero, suc, ◌+◌, ◌-◌, ◌*◌, ◌%◌, ◌^◌, ◌<◌, ◌≤◌, inl, inr, refl, sym, ◌∙◌, ap, arith, lit<, mod-eq_of_lt, List, length, get_or, mul_assoc}
+use Rattle.std.proofs.Common.{◌≡◌, ◌≢◌, ℕ, zero, suc, ◌+◌, ◌-◌, ◌*◌, ◌%◌, ◌^◌, ◌<◌, ◌≤◌, inl, inr}
+use Rattle.std.proofs.Common.{refl, sym, ◌∙◌, ap, arith, lit<, mod-eq_of_lt, List, length, get_or}
+use Rattle.std.proofs.Common.{mul_assoc}
 use Rattle.std.proofs.Math.Nat.{mod-mod, pow-succ', two-pow-succ}
 use Rattle.std.proofs.lemmas.Nat.{mul-mod_first, mul-mod_second, mul-pow, pow_below, pow_pos}
 use Rattle.std.proofs.lemmas.Bool.{cases_lt}

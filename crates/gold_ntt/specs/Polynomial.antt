@@ -1,5 +1,6 @@
 -- Polynomials over the numbers below p, by their lists of coefficients.
-use Rattle.std.specs.Prelude.{◌≡◌, ℕ, zero, suc, ◌+◌, ◌-◌, ◌*◌, ◌%◌, ◌^◌, ◌<◌, ◌≤◌, List, length, slice_index, if◌then◌else◌, nat_lt}
+use Rattle.std.specs.Prelude.{◌≡◌, ℕ, zero, suc, ◌+◌, ◌-◌, ◌*◌, ◌%◌, ◌^◌, ◌<◌, ◌≤◌, List, length}
+use Rattle.std.specs.Prelude.{slice_index, if◌then◌else◌, nat_lt}
 use Rattle.gold_field.specs.declared.gold.TheConstants.{P}
 
 -- f 0 + f 1 + .. + f (n - 1)

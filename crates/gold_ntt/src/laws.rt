@@ -1,9 +1,11 @@
 //! Laws of polynomials and their values, for proofs that cite a call: each function does nothing,
 //! and its contract is the law.
 
-ghost use Rattle.std.specs.Prelude.{◌≡◌, ◌≢◌, ℕ, ◌+◌, ◌*◌, ◌%◌, ◌^◌, ◌<◌, ◌≤◌, ◌==◌, if◌then◌else◌, List, length, slice_index};
+ghost use Rattle.std.specs.Prelude.{◌≡◌, ◌≢◌, ℕ, ◌+◌, ◌*◌, ◌%◌, ◌^◌, ◌<◌, ◌≤◌, ◌==◌, if◌then◌else◌};
+ghost use Rattle.std.specs.Prelude.{List, length, slice_index};
 ghost use Rattle.gold_field.specs.declared.gold.TheConstants.{P};
-ghost use Rattle.gold_ntt.specs.Polynomial.{sum_to, eval_at, IsSum, IsMultiple, IsProduct, IsPadded, IsDivision};
+ghost use Rattle.gold_ntt.specs.Polynomial.{sum_to, eval_at, IsSum, IsMultiple, IsProduct};
+ghost use Rattle.gold_ntt.specs.Polynomial.{IsPadded, IsDivision};
 ghost use Rattle.gold_ntt.specs.Transform.{root_of, IsTransform};
 
 /// The powers of a root of unity sum to 0, but those of 1, which sum to their number.

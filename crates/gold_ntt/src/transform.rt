@@ -1,7 +1,9 @@
-ghost use Rattle.std.specs.Prelude.{◌≡◌, ℕ, ◌+◌, ◌-◌, ◌*◌, ◌%◌, ◌^◌, ◌<◌, ◌≤◌, ◌⊎◌, List, length, slice_index};
+ghost use Rattle.std.specs.Prelude.{◌≡◌, ℕ, ◌+◌, ◌-◌, ◌*◌, ◌%◌, ◌^◌, ◌<◌, ◌≤◌, ◌⊎◌, List, length};
+ghost use Rattle.std.specs.Prelude.{slice_index};
 ghost use Rattle.gold_field.specs.declared.gold.TheConstants.{P};
 ghost use Rattle.gold_ntt.specs.Reversal.{reversed};
-ghost use Rattle.gold_ntt.specs.Transform.{IsLength, HasValues, IsTransform, IsCosetTransform, HalvesAt, TransformsBlock};
+ghost use Rattle.gold_ntt.specs.Transform.{IsLength, HasValues, IsTransform, IsCosetTransform};
+ghost use Rattle.gold_ntt.specs.Transform.{HalvesAt, TransformsBlock};
 
 use crate::roots::root;
 use gold_field::Gold;

@@ -1,5 +1,6 @@
 -- Bytes that are written one after another, and how many there are.
-use Rattle.std.proofs.Common.{◌≡◌, ℕ, ◌+◌, ◌*◌, ◌<◌, List, [], ◌∷◌, ◌++◌, length, get_or, take, All, sum_by, refl, sym, ap, subst, ◌∙◌, append_assoc, arith}
+use Rattle.std.proofs.Common.{◌≡◌, ℕ, ◌+◌, ◌*◌, ◌<◌, List, [], ◌∷◌, ◌++◌, length, get_or, take, All}
+use Rattle.std.proofs.Common.{sum_by, refl, sym, ap, subst, ◌∙◌, append_assoc, arith}
 use Rattle.std.specs.Prelude.{codes}
 use Rattle.std.specs.List.{flat_map}
 use Rattle.std.specs.Int.{w32, w64, to_le_bytes}
@@ -9,7 +10,9 @@ use Rattle.std.proofs.lemmas.List.Sums.{sum_by-cons}
 use Rattle.gold_field.specs.declared.form.Term.{Term}
 use Rattle.gold_field.specs.declared.form.Constraint.{Constraint}
 use Rattle.iden_files.specs.File.{File, term_count}
-use Rattle.iden_files.specs.Spelling.{header_bytes, section, section_head, field_bytes, sizes_bytes, term_bytes, form_bytes, constraint_bytes, r1cs_bytes, wtns_bytes}
+use Rattle.iden_files.specs.Spelling.{header_bytes, section, section_head, field_bytes, sizes_bytes}
+use Rattle.iden_files.specs.Spelling.{term_bytes, form_bytes, constraint_bytes, r1cs_bytes}
+use Rattle.iden_files.specs.Spelling.{wtns_bytes}
 
 pub appended : (a x y b c : List ℕ) → b ≡ a ++ x → c ≡ b ++ y → c ≡ a ++ (x ++ y)
 appended a x y b c p q = q ∙ ap (λ (l : List ℕ). l ++ y) p ∙ append_assoc a x y

@@ -1,5 +1,7 @@
 -- What is written is read again.
-use Rattle.std.proofs.Common.{◌≡◌, ℕ, suc, ◌+◌, ◌-◌, ◌*◌, ◌^◌, ◌<◌, ◌≤◌, true, eqb, ltb, leb, List, [], ◌∷◌, ◌++◌, length, map, drop, All, sum_by, Some, Ok, refl, sym, ap, ◌∙◌, append_assoc, arith}
+use Rattle.std.proofs.Common.{◌≡◌, ℕ, suc, ◌+◌, ◌-◌, ◌*◌, ◌^◌, ◌<◌, ◌≤◌, true, eqb, ltb, leb, List}
+use Rattle.std.proofs.Common.{[], ◌∷◌, ◌++◌, length, map, drop, All, sum_by, Some, Ok, refl, sym}
+use Rattle.std.proofs.Common.{ap, ◌∙◌, append_assoc, arith}
 use Rattle.std.specs.Prelude.{codes}
 use Rattle.std.specs.List.{flat_map}
 use Rattle.std.specs.Int.{w32, w64, to_le_bytes}
@@ -13,8 +15,10 @@ use Rattle.gold_field.specs.declared.form.Constraint.{Constraint}
 use Rattle.gold_field.specs.declared.gold.TheConstants.{P}
 use Rattle.gold_field.specs.Form.{ConstraintBelow}
 use Rattle.binary_format.specs.Reading.{front_of, number_of, or_short, repeated}
-use Rattle.binary_format.proofs.ReadBack.{Each, ReadsBack, front_again, u32_again, u64_again, tested_again, repeated_again}
-use Rattle.iden_files.specs.declared.fault.FileCause.TheVariants.{Truncated, WireOutOfRange, ValueTooLarge, BadCount, Limit}
+use Rattle.binary_format.proofs.ReadBack.{Each, ReadsBack, front_again, u32_again, u64_again}
+use Rattle.binary_format.proofs.ReadBack.{tested_again, repeated_again}
+use Rattle.iden_files.specs.declared.fault.FileCause.TheVariants.{Truncated, WireOutOfRange}
+use Rattle.iden_files.specs.declared.fault.FileCause.TheVariants.{ValueTooLarge, BadCount, Limit}
 use Rattle.iden_files.specs.declared.sections.Format.{Format}
 use Rattle.iden_files.specs.declared.sections.Format.TheVariants.{R1cs, Wtns}
 use Rattle.iden_files.specs.declared.sizes.Sizes.{Sizes}
@@ -22,11 +26,14 @@ use Rattle.iden_files.specs.Limits.{most_wires, most_constraints, most_terms}
 use Rattle.iden_files.specs.Refusal.{refusal}
 use Rattle.iden_files.specs.File.{File, InLimits, IsWhole, HasForms, term_count}
 use Rattle.iden_files.specs.Meaning.{IsTermOver, meaning}
-use Rattle.iden_files.specs.Sections.{Section, u32_at, u64_at, section_count, section_at, with_section, sections_after, sections_of, needed}
+use Rattle.iden_files.specs.Sections.{Section, u32_at, u64_at, section_count, section_at}
+use Rattle.iden_files.specs.Sections.{with_section, sections_after, sections_of, needed}
 use Rattle.iden_files.specs.Values.{value_at}
-use Rattle.iden_files.specs.ReadR1cs.{field_of, sizes_of, term_at, terms_at, constraint_at, constraints_at, constraints_of, label_at, labels_of, r1cs_of}
+use Rattle.iden_files.specs.ReadR1cs.{field_of, sizes_of, term_at, terms_at, constraint_at}
+use Rattle.iden_files.specs.ReadR1cs.{constraints_at, constraints_of, label_at, labels_of, r1cs_of}
 use Rattle.iden_files.specs.ReadWtns.{value_count, values_of, wtns_of}
-use Rattle.iden_files.specs.Spelling.{header_bytes, section, field_bytes, sizes_bytes, term_bytes, form_bytes, constraint_bytes, r1cs_bytes, wtns_bytes}
+use Rattle.iden_files.specs.Spelling.{header_bytes, section, field_bytes, sizes_bytes, term_bytes}
+use Rattle.iden_files.specs.Spelling.{form_bytes, constraint_bytes, r1cs_bytes, wtns_bytes}
 use Rattle.iden_files.proofs.Append.{words_len, constraints_len}
 use Rattle.iden_files.proofs.FormLaws.{form_of_form}
 

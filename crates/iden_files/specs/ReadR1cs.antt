@@ -1,12 +1,14 @@
 -- The meaning of an .r1cs file's bytes, or the first refusal in the order of the checks.
-use Rattle.std.specs.Prelude.{◌==◌, ℕ, zero, suc, ◌-◌, ◌+◌, ◌*◌, List, [], ◌∷◌, length, map, Option, Some, None, Result, Ok, nat_lt, nat_le}
+use Rattle.std.specs.Prelude.{◌==◌, ℕ, zero, suc, ◌-◌, ◌+◌, ◌*◌, List, [], ◌∷◌, length, map, Option}
+use Rattle.std.specs.Prelude.{Some, None, Result, Ok, nat_lt, nat_le}
 use Rattle.std.specs.List.{range_with_len}
 use Rattle.std.specs.Int.{w32, w64}
 use Rattle.gold_field.specs.declared.form.Term.{Term}
 use Rattle.gold_field.specs.declared.form.Constraint.{Constraint}
 use Rattle.gold_field.specs.declared.gold.TheConstants.{P}
 use Rattle.binary_format.specs.Reading.{◌>>=◌, number_of, or_short, required, tested, repeated}
-use Rattle.iden_files.specs.declared.fault.FileCause.TheVariants.{WrongPrime, WireOutOfRange, BadCount, Limit}
+use Rattle.iden_files.specs.declared.fault.FileCause.TheVariants.{WrongPrime, WireOutOfRange}
+use Rattle.iden_files.specs.declared.fault.FileCause.TheVariants.{BadCount, Limit}
 use Rattle.iden_files.specs.declared.sections.Format.TheVariants.{R1cs}
 use Rattle.iden_files.specs.declared.sizes.Sizes.{Sizes}
 use Rattle.iden_files.specs.Limits.{most_wires, most_constraints, most_terms}

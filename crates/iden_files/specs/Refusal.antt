@@ -1,9 +1,11 @@
 -- Why a file is refused, and at which of its bytes.
 use Rattle.std.specs.Prelude.{ℕ, Option, Some, None}
 use Rattle.iden_files.specs.declared.fault.FileCause.{FileCause}
-use Rattle.iden_files.specs.declared.fault.FileCause.TheVariants.{Magic, Version, Truncated, SectionMissing}
-use Rattle.iden_files.specs.declared.fault.FileCause.TheVariants.{SectionTwice, WrongPrime, ValueTooLarge}
-use Rattle.iden_files.specs.declared.fault.FileCause.TheVariants.{WireOutOfRange, BadCount, CustomGates, Limit}
+use Rattle.iden_files.specs.declared.fault.FileCause.TheVariants.{Magic, Version, Truncated}
+use Rattle.iden_files.specs.declared.fault.FileCause.TheVariants.{SectionMissing, SectionTwice}
+use Rattle.iden_files.specs.declared.fault.FileCause.TheVariants.{WrongPrime, ValueTooLarge}
+use Rattle.iden_files.specs.declared.fault.FileCause.TheVariants.{WireOutOfRange, BadCount}
+use Rattle.iden_files.specs.declared.fault.FileCause.TheVariants.{CustomGates, Limit}
 use Rattle.iden_files.specs.declared.fault.FileFault.{FileFault}
 use Rattle.iden_files.specs.declared.fault.FileFault.TheVariants.{At, OutOfMemory}
 

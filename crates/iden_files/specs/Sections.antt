@@ -1,9 +1,13 @@
 -- A file as a header and a list of sections, each a range of its bytes.
-use Rattle.std.specs.Prelude.{◌==◌, ℕ, zero, suc, ◌-◌, Bool, false, not, ◌||◌, ◌&&◌, List, [], ◌∷◌, ◌++◌, length, take, drop, Option, Some, None, is_some, Result, Ok, nat_le, if◌then◌else◌, codes}
+use Rattle.std.specs.Prelude.{◌==◌, ℕ, zero, suc, ◌-◌, Bool, false, not, ◌||◌, ◌&&◌, List, [], ◌∷◌}
+use Rattle.std.specs.Prelude.{◌++◌, length, take, drop, Option, Some, None, is_some, Result, Ok}
+use Rattle.std.specs.Prelude.{nat_le, if◌then◌else◌, codes}
 use Rattle.std.specs.Option.{ok_or}
 use Rattle.std.specs.Int.{w32, w64, from_le_bytes}
 use Rattle.binary_format.specs.Reading.{◌>>=◌, front_of, number_of, or_short, required}
-use Rattle.iden_files.specs.declared.fault.FileCause.TheVariants.{Magic, Version, Truncated, SectionMissing, SectionTwice, BadCount, CustomGates}
+use Rattle.iden_files.specs.declared.fault.FileCause.TheVariants.{Magic, Version, Truncated}
+use Rattle.iden_files.specs.declared.fault.FileCause.TheVariants.{SectionMissing, SectionTwice}
+use Rattle.iden_files.specs.declared.fault.FileCause.TheVariants.{BadCount, CustomGates}
 use Rattle.iden_files.specs.declared.sections.Format.{Format}
 use Rattle.iden_files.specs.declared.sections.Format.TheVariants.{R1cs, Wtns}
 use Rattle.iden_files.specs.Refusal.{Refusal, refusal}

@@ -1,11 +1,13 @@
-ghost use Rattle.std.specs.Prelude.{◌≡◌, ◌≤◌, ◌+◌, ◌<◌, ◌^◌, ◌-◌, length, IfOk, All, sum_by, vec_len};
+ghost use Rattle.std.specs.Prelude.{◌≡◌, ◌≤◌, ◌+◌, ◌<◌, ◌^◌, ◌-◌, length, IfOk, All, sum_by};
+ghost use Rattle.std.specs.Prelude.{vec_len};
 ghost use Rattle.binary_format.specs.Reading.{Gives, Reads, repeated};
 ghost use Rattle.gold_field.specs.Form.{ConstraintBelow};
 ghost use Rattle.iden_files.specs.Limits.{most_terms};
 ghost use Rattle.iden_files.specs.Refusal.{refused};
 ghost use Rattle.iden_files.specs.File.{term_count};
 ghost use Rattle.iden_files.specs.Meaning.{IsTermOver, IsOver, meaning};
-ghost use Rattle.iden_files.specs.ReadR1cs.{term_at, terms_at, constraint_at, constraints_at, meant, constraints_of};
+ghost use Rattle.iden_files.specs.ReadR1cs.{term_at, terms_at, constraint_at, constraints_at};
+ghost use Rattle.iden_files.specs.ReadR1cs.{meant, constraints_of};
 ghost use Rattle.iden_files.specs.Views.{section, written};
 
 use crate::fault::{FileCause, FileFault};
@@ -20,7 +22,7 @@ use gold_field::{Constraint, Term};
 use std::alloc::{AllocError, Global};
 
 /// A constraint as it is written.
-#[derive(Debug, Drop)]
+#[derive(Drop)]
 pub struct Written {
     pub a: Vec<Term>,
     pub b: Vec<Term>,

@@ -4,7 +4,7 @@ ghost use Rattle.iden_files.specs.declared.fault.FileFault.TheVariants.{OutOfMem
 use std::alloc::{AllocError, AllocFailed};
 
 /// What is wrong with a file.
-#[derive(Clone, Copy, Debug, PartialEq, Eq)]
+#[derive(Clone, Copy, PartialEq, Eq)]
 pub enum FileCause {
     /// The first four bytes aren't those of the format.
     Magic = 1,
@@ -36,7 +36,7 @@ impl FileCause {
     }
 }
 
-#[derive(Clone, Copy, Debug, PartialEq, Eq)]
+#[derive(Clone, Copy)]
 pub enum FileFault {
     /// The first thing that is wrong, and the place of the byte where it is, counted from 0.
     At { cause: FileCause, offset: u64 },

@@ -5,7 +5,7 @@ use std::marker::Model;
 /// What an `.r1cs` file means. Wire 0 stands for the number 1; then come the outputs, the public
 /// inputs, the private inputs and all others. Each wire has a label, and each signal of a
 /// constraint is a wire.
-#[derive(Debug, Drop)]
+#[derive(Drop)]
 pub struct R1cs {
     pub wires: u32,
     pub outputs: u32,

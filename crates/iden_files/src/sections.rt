@@ -3,7 +3,9 @@ ghost use Rattle.std.specs.Option.{option_map};
 ghost use Rattle.std.specs.Int.{w32, from_le_bytes};
 ghost use Rattle.binary_format.specs.Reading.{Gives, Reads};
 ghost use Rattle.iden_files.specs.Refusal.{refused};
-ghost use Rattle.iden_files.specs.Sections.{magic, version, section_count, section_at, section_of, with_section, sections_after, sections_of, needed, is_read, is_gates};
+ghost use Rattle.iden_files.specs.Sections.{magic, version, section_count, section_at, section_of};
+ghost use Rattle.iden_files.specs.Sections.{with_section, sections_after, sections_of, needed};
+ghost use Rattle.iden_files.specs.Sections.{is_read, is_gates};
 ghost use Rattle.iden_files.specs.Views.{section, sections};
 
 use crate::fault::{FileCause, FileFault};
@@ -12,7 +14,7 @@ use binary_format::Reader;
 use std::alloc::Global;
 
 /// The two formats.
-#[derive(Clone, Copy, Debug, PartialEq, Eq)]
+#[derive(Clone, Copy, PartialEq, Eq)]
 pub enum Format {
     R1cs,
     Wtns,
@@ -57,7 +59,7 @@ impl Format {
 }
 
 /// A section: its type, and a reader of its body.
-#[derive(Clone, Copy, Debug)]
+#[derive(Clone, Copy)]
 pub struct FoundSection<'a> {
     pub kind: u32,
     pub body: Reader<'a>,

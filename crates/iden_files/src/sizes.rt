@@ -12,7 +12,7 @@ use crate::sections::FoundSection;
 use gold_field::P;
 
 /// What section 1 of an `.r1cs` file says.
-#[derive(Clone, Copy, Debug)]
+#[derive(Clone, Copy)]
 pub struct Sizes {
     pub wires: u32,
     pub outputs: u32,

@@ -5,7 +5,9 @@ ghost use Rattle.iden_files.specs.Limits.{most_constraints, most_terms, most_wir
 ghost use Rattle.iden_files.specs.File.{InLimits, IsForm, HasForms, term_count};
 ghost use Rattle.iden_files.specs.ReadR1cs.{r1cs_of};
 ghost use Rattle.iden_files.specs.ReadWtns.{wtns_of};
-ghost use Rattle.iden_files.specs.Spelling.{header_bytes, section, section_head, field_bytes, sizes_bytes, term_bytes, form_bytes, constraint_bytes, r1cs_bytes, wtns_bytes};
+ghost use Rattle.iden_files.specs.Spelling.{header_bytes, section, section_head, field_bytes};
+ghost use Rattle.iden_files.specs.Spelling.{sizes_bytes, term_bytes, form_bytes, constraint_bytes};
+ghost use Rattle.iden_files.specs.Spelling.{r1cs_bytes, wtns_bytes};
 
 use crate::limits::{MAX_CONSTRAINTS, MAX_TERMS, MAX_WIRES};
 use crate::r1cs::R1cs;

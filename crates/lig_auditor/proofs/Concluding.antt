@@ -1,9 +1,8 @@
 -- Verdicts from tests.
 use Rattle.std.proofs.Common.{◌≡◌, ℕ, ◌+◌, ◌*◌, ◌<◌, List, [], length, Option, Some, None, Result}
-use Rattle.std.proofs.Common.{Ok, Err, IfOk, MatchOption, IsTrue, Bool, ◌↔◌, map, sym, ap, subst, ◌∙◌}
-use Rattle.std.proofs.Common.{arith}
+use Rattle.std.proofs.Common.{Ok, Err, IfOk, MatchOption, IsTrue, Bool, ◌↔◌, map, sym, ap, subst}
+use Rattle.std.proofs.Common.{◌∙◌, arith, All}
 use Rattle.std.specs.List.{AllByRecursion}
-use Rattle.std.proofs.Common.{All}
 use Rattle.std.proofs.lemmas.List.Elements.{All-from_recursion}
 use Rattle.iden_files.specs.File.{File}
 use Rattle.lig_layout.specs.declared.params.Params.{Params}

@@ -1,5 +1,6 @@
 -- Left sides, term by term and equation by equation.
-use Rattle.std.proofs.Common.{◌≡◌, ℕ, suc, ◌+◌, ◌-◌, ◌*◌, ◌<◌, ◌==◌, cond, List, [], ◌∷◌, ◌++◌, length, take, drop, slice_index_or, refl, sym, ap, ◌∙◌, arith}
+use Rattle.std.proofs.Common.{◌≡◌, ℕ, suc, ◌+◌, ◌-◌, ◌*◌, ◌<◌, ◌==◌, cond, List, [], ◌∷◌, ◌++◌}
+use Rattle.std.proofs.Common.{length, take, drop, slice_index_or, refl, sym, ap, ◌∙◌, arith}
 use Rattle.std.proofs.lemmas.List.{at_drop_more, drop_more, take-append-drop}
 use Rattle.std.proofs.lemmas.List.Sums.{sum_by-append}
 use Rattle.gold_field.specs.declared.gold.TheConstants.{P}
@@ -11,7 +12,8 @@ use Rattle.lig_layout.specs.declared.side.Side.{Side}
 use Rattle.lig_layout.specs.declared.side.Side.TheVariants.{A, B, C}
 use Rattle.lig_layout.specs.Sides.{form_of, forms}
 use Rattle.lig_layout.specs.Layout.{x_start, y_start, z_start}
-use Rattle.lig_layout.specs.System.{coefficient, combined_at, differences, wire_forms, known_wires, left_sides}
+use Rattle.lig_layout.specs.System.{coefficient, combined_at, differences, wire_forms, known_wires}
+use Rattle.lig_layout.specs.System.{left_sides}
 
 pub coefficient-append : (place : ℕ) (a b : List Term)
     → coefficient place (a ++ b) ≡ coefficient place a + coefficient place b

@@ -6,7 +6,8 @@ use Rattle.std.specs.Int.{div_ceil}
 use Rattle.lig_layout.specs.declared.params.Params.{Params}
 use Rattle.lig_layout.specs.Sizes.{params_of}
 use Rattle.lig_layout.specs.Width.{width_exponent}
-use Rattle.std.proofs.Common.{◌≡◌, ℕ, ◌+◌, ◌*◌, ◌%◌, ◌^◌, min, ⊎_elim, ◌≤◌, ◌<◌, List, All, length, map, slice_index, slice_index_or, refl, sym, subst, arith}
+use Rattle.std.proofs.Common.{◌≡◌, ℕ, ◌+◌, ◌*◌, ◌%◌, ◌^◌, min, ⊎_elim, ◌≤◌, ◌<◌, List, All, length}
+use Rattle.std.proofs.Common.{map, slice_index, slice_index_or, refl, sym, subst, arith}
 use Rattle.gold_field.specs.Form.{ConstraintBelow, SignalsBelow, value_at}
 use Rattle.gold_field.specs.declared.form.Constraint.{Constraint}
 use Rattle.gold_field.specs.declared.form.Term.{Term}

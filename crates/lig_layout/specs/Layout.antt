@@ -1,5 +1,6 @@
 -- The matrix: its vectors, its rows, and the places of values in it.
-use Rattle.std.specs.Prelude.{ℕ, ◌+◌, ◌-◌, ◌*◌, List, ◌++◌, length, map, replicate, take, drop, slice_index}
+use Rattle.std.specs.Prelude.{ℕ, ◌+◌, ◌-◌, ◌*◌, List, ◌++◌, length, map, replicate, take, drop}
+use Rattle.std.specs.Prelude.{slice_index}
 use Rattle.gold_field.specs.Form.{value_at}
 use Rattle.iden_files.specs.File.{File}
 use Rattle.lig_layout.specs.declared.side.Side.TheVariants.{A, B, C}

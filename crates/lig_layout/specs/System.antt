@@ -1,6 +1,7 @@
 -- The linear system over the values of the matrix, row by row. An equation's left side is a list of
 -- terms, each with a place in the matrix for its signal; its right side is a number.
-use Rattle.std.specs.Prelude.{ℕ, zero, suc, ◌+◌, ◌-◌, ◌*◌, ◌%◌, ◌==◌, if◌then◌else◌, List, [], ◌∷◌, ◌++◌, length, map, replicate, sum_by}
+use Rattle.std.specs.Prelude.{ℕ, zero, suc, ◌+◌, ◌-◌, ◌*◌, ◌%◌, ◌==◌, if◌then◌else◌, List, [], ◌∷◌}
+use Rattle.std.specs.Prelude.{◌++◌, length, map, replicate, sum_by}
 use Rattle.std.specs.List.{range_with_len}
 use Rattle.gold_field.specs.declared.gold.TheConstants.{P}
 use Rattle.gold_field.specs.declared.form.Term.{Term}

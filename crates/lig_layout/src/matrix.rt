@@ -11,7 +11,7 @@ use std::alloc::{AllocError, Global};
 
 /// The values of the wires, `w`, and those of the three sides of the constraints, `x = A w`,
 /// `y = B w` and `z = C w`.
-#[derive(Debug, Drop)]
+#[derive(Drop)]
 pub struct Vectors {
     pub w: Items<Gold>,
     pub x: Items<Gold>,

@@ -7,7 +7,7 @@ ghost use Rattle.lig_layout.specs.Sides.{form_of};
 use gold_field::{Constraint, Gold, Term};
 
 /// A side of the constraint `a * b - c = 0`.
-#[derive(Clone, Copy, Debug, PartialEq, Eq)]
+#[derive(Clone, Copy, PartialEq, Eq)]
 pub enum Side {
     A,
     B,

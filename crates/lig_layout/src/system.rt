@@ -3,9 +3,10 @@
 ghost use Rattle.std.specs.Prelude.{◌≡◌, ◌<◌, ◌≤◌, ◌+◌, ◌*◌, ◌^◌, ◌∷◌, [], All, IfOk, length};
 ghost use Rattle.gold_field.specs.Form.{ConstraintBelow, SignalsBelow};
 ghost use Rattle.iden_files.specs.File.{InLimits};
-ghost use Rattle.lig_layout.specs.Sizes.{params_of, IsParams};
+ghost use Rattle.lig_layout.specs.Sizes.{params_of};
 ghost use Rattle.lig_layout.specs.Sides.{forms};
-ghost use Rattle.lig_layout.specs.System.{left_sides, equation_count, combined, combined_at, coefficient, differences, wire_forms};
+ghost use Rattle.lig_layout.specs.System.{left_sides, equation_count, combined, combined_at};
+ghost use Rattle.lig_layout.specs.System.{coefficient, differences, wire_forms};
 ghost use Rattle.lig_layout.specs.Adding.{Adds, IsReduced};
 
 use crate::params::Params;

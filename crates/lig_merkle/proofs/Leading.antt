@@ -1,13 +1,17 @@
 -- Opened leaves with their shared nodes lead to the root.
-use Rattle.std.proofs.Common.{◌≡◌, ℕ, zero, suc, ◌+◌, ◌-◌, ◌*◌, ◌/◌, ◌%◌, ◌^◌, ◌<◌, ◌≤◌, ◌⊎◌, inl, inr, List, [], ◌∷◌, ◌++◌, Bool, true, false, cond, eqb, not, ◌||◌, All, length, map, filter, take, drop, get_or, refl, sym, ap, subst, ◌∙◌, arith, ⊎_elim}
+use Rattle.std.proofs.Common.{◌≡◌, ℕ, zero, suc, ◌+◌, ◌-◌, ◌*◌, ◌/◌, ◌%◌, ◌^◌, ◌<◌, ◌≤◌, ◌⊎◌, List}
+use Rattle.std.proofs.Common.{[], ◌∷◌, ◌++◌, Bool, true, cond, eqb, ◌||◌, All, length, map, take}
+use Rattle.std.proofs.Common.{drop, get_or, refl, sym, ap, subst, ◌∙◌, arith, ⊎_elim}
 use Rattle.std.proofs.Math.Nat.{pow-suc}
 use Rattle.std.proofs.Math.Seq.{take-append_seam, drop-append_seam}
 use Rattle.std.proofs.lemmas.Bool.{cases_Bool, eqb-true}
 use Rattle.std.proofs.lemmas.List.{length-map, map-append, get_or-take, get_or-drop, length-append}
 use Rattle.std.proofs.lemmas.List.Elements.{All-head}
 use Rattle.lig_merkle.specs.Merkle.{node_hash, root_at}
-use Rattle.lig_merkle.specs.Shared.{AreOpened, is_known, missing, parents, level_over, shared_nodes, shared_count, hash_at, parent_hashes, root_of_many, SharedNodesLeadToRoot}
-use Rattle.lig_merkle.proofs.Known.{known_cases, known_head, known_tail, child_found, parents_opened}
+use Rattle.lig_merkle.specs.Shared.{AreOpened, is_known, missing, parents, level_over, shared_nodes}
+use Rattle.lig_merkle.specs.Shared.{shared_count, hash_at, parent_hashes, root_of_many}
+use Rattle.lig_merkle.specs.Shared.{SharedNodesLeadToRoot}
+use Rattle.lig_merkle.proofs.Known.{known_head, known_tail, child_found, parents_opened}
 
 -- the root over 2 ^ depth leaves, level by level
 pub top : ℕ → (ℕ → List ℕ) → List ℕ

@@ -1,5 +1,7 @@
 -- Paths lead to the root.
-use Rattle.std.proofs.Common.{◌≡◌, ℕ, zero, suc, ◌+◌, ◌-◌, ◌*◌, ◌/◌, ◌%◌, ◌^◌, ◌<◌, List, [], ◌∷◌, ◌++◌, length, take, drop, get_or, cond, eqb, ltb, refl, sym, ap, ◌∙◌, arith, ⊎_elim, true, false}
+use Rattle.std.proofs.Common.{◌≡◌, ℕ, zero, suc, ◌+◌, ◌-◌, ◌*◌, ◌/◌, ◌%◌, ◌^◌, ◌<◌, List, [], ◌∷◌}
+use Rattle.std.proofs.Common.{◌++◌, length, take, drop, get_or, cond, eqb, ltb, refl, sym, ap, ◌∙◌}
+use Rattle.std.proofs.Common.{arith, ⊎_elim, true, false}
 use Rattle.std.proofs.Math.Nat.{pow-suc, div-eq_of_lt, add-div_right}
 use Rattle.std.proofs.lemmas.Bool.{cases_lt, lt-ltb, le-ltb}
 use Rattle.std.proofs.lemmas.Nat.{shr-shr}
@@ -38,7 +40,8 @@ length-path_at (suc d) hashes i =
     elim (ltb i (2 ^ d)) as
     (λ b. length
     (cond b (path_at d (take (2 ^ d) hashes) i ++ root_at d (drop (2 ^ d) hashes) ∷ [])
-    (path_at d (drop (2 ^ d) hashes) (i - 2 ^ d) ++ root_at d (take (2 ^ d) hashes) ∷ [])) ≡ suc d) [
+    (path_at d (drop (2 ^ d) hashes) (i - 2 ^ d) ++ root_at d (take (2 ^ d) hashes) ∷ []))
+    ≡ suc d) [
       | true ↦ omega (
         arith,
         length_push (path_at d (take (2 ^ d) hashes) i) (root_at d (drop (2 ^ d) hashes)),

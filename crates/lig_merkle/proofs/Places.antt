@@ -1,9 +1,13 @@
 -- The nodes of a tree that is kept in one list.
-use Rattle.std.proofs.Common.{◌≡◌, ℕ, zero, suc, ◌+◌, ◌-◌, ◌*◌, ◌/◌, ◌%◌, ◌^◌, ◌<◌, ◌≤◌, List, [], ◌∷◌, ◌++◌, length, take, drop, get_or, cond, eqb, ltb, refl, sym, ap, subst, ◌∙◌, arith, inl, inr, ⊎_elim, true, false, ◌⊎◌}
+use Rattle.std.proofs.Common.{◌≡◌, ℕ, zero, suc, ◌+◌, ◌-◌, ◌*◌, ◌/◌, ◌%◌, ◌^◌, ◌<◌, ◌≤◌, List, []}
+use Rattle.std.proofs.Common.{◌∷◌, ◌++◌, length, take, drop, get_or, cond, eqb, ltb, refl, sym, ap}
+use Rattle.std.proofs.Common.{subst, ◌∙◌, arith, inl, inr, ⊎_elim, true, false, ◌⊎◌}
 use Rattle.std.proofs.Math.Nat.{pow-suc, pow-le-pow_right}
 use Rattle.std.proofs.lemmas.Bool.{cases_lt, lt-ltb, le-ltb}
-use Rattle.std.proofs.lemmas.Nat.{pow_pos, pow-add, pow_below, shr-shr, mod-pow-add, le-div, div_below, mod_below, shr_high, mod_low}
-use Rattle.std.proofs.lemmas.List.{length-drop, get_or-take, get_or-drop, take-take, drop-take, drop-drop}
+use Rattle.std.proofs.lemmas.Nat.{pow_pos, pow-add, pow_below, shr-shr, mod-pow-add, le-div}
+use Rattle.std.proofs.lemmas.Nat.{div_below, mod_below, shr_high, mod_low}
+use Rattle.std.proofs.lemmas.List.{length-drop, get_or-take, get_or-drop, take-take, drop-take}
+use Rattle.std.proofs.lemmas.List.{drop-drop}
 use Rattle.lig_merkle.specs.Merkle.{root_at, path_at, node_hash}
 use Rattle.lig_merkle.specs.Nodes.{AreJoined, sibling_of}
 

@@ -1,15 +1,21 @@
 -- The steps of loops over the levels of a tree.
-use Rattle.std.proofs.Common.{◌≡◌, ℕ, zero, suc, ◌+◌, ◌-◌, ◌*◌, ◌/◌, ◌%◌, ◌^◌, ◌<◌, ◌≤◌, List, [], ◌∷◌, ◌++◌, Bool, true, false, cond, eqb, not, All, length, map, filter, take, drop, get_or, refl, sym, ap, subst, ◌∙◌, arith, ⊎_elim, Result, Ok, Err, is_err, zero-add, append_assoc}
+use Rattle.std.proofs.Common.{◌≡◌, ℕ, zero, suc, ◌+◌, ◌-◌, ◌*◌, ◌/◌, ◌%◌, ◌^◌, ◌<◌, ◌≤◌, List, []}
+use Rattle.std.proofs.Common.{◌∷◌, ◌++◌, Bool, true, false, cond, eqb, not, All, length, map}
+use Rattle.std.proofs.Common.{filter, take, drop, get_or, refl, sym, ap, subst, ◌∙◌, arith, ⊎_elim}
+use Rattle.std.proofs.Common.{Result, Ok, Err, is_err, zero-add, append_assoc}
 use Rattle.std.specs.List.{AllByRecursion}
 use Rattle.std.proofs.Math.Nat.{pow-suc, pow-le-pow_right}
 use Rattle.std.proofs.lemmas.Bool.{cases_Bool, eq-eqb, ne_eqb, or_parts, or_from}
 use Rattle.std.proofs.lemmas.Nat.{pow_pos}
-use Rattle.std.proofs.lemmas.List.{append-nil, map_more, length-map, length-take, length-drop, get_or-drop}
-use Rattle.std.proofs.lemmas.List.Elements.{filter-append, recursion_from_All, All-from_recursion, All-weaker}
+use Rattle.std.proofs.lemmas.List.{append-nil, map_more, length-map, length-drop, get_or-drop}
+use Rattle.std.proofs.lemmas.List.Elements.{filter-append, recursion_from_All, All-from_recursion}
+use Rattle.std.proofs.lemmas.List.Elements.{All-weaker}
 use Rattle.lig_merkle.specs.Merkle.{node_hash}
 use Rattle.lig_merkle.specs.Nodes.{AreJoined, sibling_of}
-use Rattle.lig_merkle.specs.Shared.{AreOpened, is_known, missing, parents, level_over, shared_nodes, shared_count, hash_at, parent_hashes, root_of_many}
-use Rattle.lig_merkle.proofs.Known.{Found, Rises, missing_in, parents_opened, count_below, within_double}
+use Rattle.lig_merkle.specs.Shared.{AreOpened, is_known, missing, parents, level_over, shared_nodes}
+use Rattle.lig_merkle.specs.Shared.{shared_count, hash_at, parent_hashes, root_of_many}
+use Rattle.lig_merkle.proofs.Known.{Found, Rises, missing_in, parents_opened, count_below}
+use Rattle.lig_merkle.proofs.Known.{within_double}
 use Rattle.lig_merkle.proofs.Places.{parity}
 
 -- one place more

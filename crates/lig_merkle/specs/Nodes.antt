@@ -1,5 +1,6 @@
 -- How a tree keeps its nodes in one list: the root at 1, the children of i at 2 * i and 2 * i + 1.
-use Rattle.std.specs.Prelude.{◌≡◌, ℕ, ◌+◌, ◌-◌, ◌*◌, ◌%◌, ◌^◌, ◌<◌, ◌≤◌, ◌==◌, if◌then◌else◌, List, [], length, drop, slice_index_or}
+use Rattle.std.specs.Prelude.{◌≡◌, ℕ, ◌+◌, ◌-◌, ◌*◌, ◌%◌, ◌^◌, ◌<◌, ◌≤◌, ◌==◌, if◌then◌else◌, List}
+use Rattle.std.specs.Prelude.{[], length, drop, slice_index_or}
 use Rattle.lig_merkle.specs.Merkle.{node_hash}
 
 -- each place from low up to count is the node over its two children

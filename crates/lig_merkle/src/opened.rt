@@ -3,7 +3,8 @@
 ghost use Rattle.std.specs.Prelude.{◌≡◌, ◌≤◌, ◌<◌, ◌/◌, ◌^◌, ◌++◌, All, IfOk, IsTrue, length, map};
 ghost use Rattle.std.specs.List.Sorted.{IsStrictlyIncreasing};
 ghost use Rattle.lig_merkle.specs.Nodes.{sibling_of};
-ghost use Rattle.lig_merkle.specs.Shared.{AreOpened, is_known, missing, parents, shared_count, hash_at, parent_hashes, root_of_many};
+ghost use Rattle.lig_merkle.specs.Shared.{AreOpened, is_known, missing, parents, shared_count};
+ghost use Rattle.lig_merkle.specs.Shared.{hash_at, parent_hashes, root_of_many};
 
 use crate::hash::{Hash, node};
 use std::alloc::{AllocError, Global};

@@ -1,6 +1,7 @@
 //! A tree with all its nodes.
 
-ghost use Rattle.std.specs.Prelude.{◌≡◌, ◌<◌, ◌+◌, ◌*◌, ◌^◌, ◌++◌, ℕ, [], All, IfOk, OnOk, length, map, drop, slice_index_or, vec_len};
+ghost use Rattle.std.specs.Prelude.{◌≡◌, ◌<◌, ◌+◌, ◌*◌, ◌^◌, ◌++◌, ℕ, [], All, IfOk, OnOk, length};
+ghost use Rattle.std.specs.Prelude.{map, drop, slice_index_or, vec_len};
 ghost use Rattle.std.specs.Int.{IsPowerOfTwo};
 ghost use Rattle.lig_merkle.specs.Merkle.{root_at, path_at};
 ghost use Rattle.lig_merkle.specs.Nodes.{AreJoined, SameLeaves};

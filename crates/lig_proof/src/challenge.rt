@@ -7,7 +7,7 @@ pub const OPENED: u32 = 96;
 
 /// What the verifier would draw before the polynomials are sent. Each list has repetition 0 and
 /// then repetition 1.
-#[derive(Debug, Drop)]
+#[derive(Drop)]
 pub struct Challenges {
     /// The key that the numbers are drawn from.
     pub first: Hash,

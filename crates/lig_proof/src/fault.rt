@@ -4,7 +4,7 @@ ghost use Rattle.lig_proof.specs.declared.fault.ProofFault.TheVariants.{OutOfMem
 use std::alloc::{AllocError, AllocFailed};
 
 /// Why bytes were not read as a proof.
-#[derive(Clone, Copy, Debug, PartialEq, Eq)]
+#[derive(Clone, Copy)]
 pub enum ProofFault {
     /// The bytes are no proof. The offset is that of the first byte that is wrong, counted from 0;
     /// it is the length where the bytes end too early.

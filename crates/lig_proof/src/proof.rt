@@ -3,7 +3,7 @@ use items::Items;
 use lig_merkle::Hash;
 
 /// A proof: what the prover sends.
-#[derive(Debug, Drop)]
+#[derive(Drop)]
 pub struct Proof {
     /// The root over the columns of the encoded matrix.
     pub root: Hash,

@@ -7,7 +7,7 @@ use items::Items;
 use lig_merkle::Hash;
 
 /// A proof of version 2: each opened column and each node on the ways to the root once.
-#[derive(Debug, Drop)]
+#[derive(Drop)]
 pub struct Proof2 {
     /// The root over the columns of the encoded matrix.
     pub root: Hash,
@@ -20,7 +20,7 @@ pub struct Proof2 {
 }
 
 /// A proof of either version.
-#[derive(Debug, Drop)]
+#[derive(Drop)]
 pub enum AnyProof {
     First(Proof),
     Second(Proof2),

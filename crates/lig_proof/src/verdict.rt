@@ -1,5 +1,5 @@
 /// What an auditor says of a proof: the first test that fails, in this order, or that none does.
-#[derive(Clone, Copy, Debug, PartialEq, Eq)]
+#[derive(Clone, Copy, PartialEq, Eq)]
 pub enum Verdict {
     Accepted,
     /// The number of public values isn't the relation's.

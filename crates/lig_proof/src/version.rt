@@ -1,5 +1,5 @@
 /// How the opened columns of a proof are written.
-#[derive(Clone, Copy, Debug, PartialEq, Eq)]
+#[derive(Clone, Copy, PartialEq, Eq)]
 pub enum Version {
     /// Each column as often as it was drawn, with a path of its own.
     One,

@@ -4,7 +4,7 @@ ghost use Rattle.lig_prover.specs.declared.fault.ProveFault.TheVariants.{OutOfMe
 use std::alloc::AllocError;
 
 /// Why there is no proof.
-#[derive(Clone, Copy, Debug, PartialEq, Eq)]
+#[derive(Clone, Copy, PartialEq, Eq)]
 pub enum ProveFault {
     /// The number of values isn't that of the wires.
     WrongLength { has: u64, wants: u32 },

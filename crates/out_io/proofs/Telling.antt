@@ -1,5 +1,6 @@
 -- What is told of a store's contents, and what follows from it.
-use Rattle.std.proofs.Common.{◌≡◌, ◌≤◌, ℕ, arith, List, Option, None, Some, Vec, cond, ap, refl, sym}
+use Rattle.std.proofs.Common.{◌≡◌, ◌≤◌, ℕ, arith, List, Option, None, Some, Vec, cond, ap, refl}
+use Rattle.std.proofs.Common.{sym}
 use Rattle.std.specs.declared.alloc.Global.{Global}
 use Rattle.std.specs.Str.{bytes_eq}
 use Rattle.std.proofs.lemmas.Bool.{false_from_ne_true}

@@ -1,8 +1,8 @@
-ghost use Rattle.std.specs.Prelude.{◌≡◌, ◌↔◌, ◌≤◌, ◌++◌, [], Some, if◌then◌else◌, IsTrue, IsErrOf, IfOk, OnOk, OnErr};
-ghost use Rattle.out_io.specs.Contents.{Finds, Changes, Replaces, ReplacesInPart};
+ghost use Rattle.std.specs.Prelude.{◌≡◌, ◌↔◌, ◌≤◌, ◌++◌, [], Some, if◌then◌else◌, IsTrue, IsErrOf};
+ghost use Rattle.std.specs.Prelude.{IfOk, OnOk, OnErr};
+ghost use Rattle.out_io.specs.Contents.{Finds, Replaces};
 ghost use Rattle.out_io.specs.Faults.{CountsFaults};
 ghost use Rattle.out_io.specs.Memory.{files_of, IsDue, next_call, one_more_fault, faults_after};
-ghost use Rattle.out_io.specs.Written.{IsAppended, IsAppendedInPart};
 ghost use Rattle.out_io.specs.declared.fault.IoFault.TheVariants.{Failed};
 
 use crate::{IoFault, Sink, Store};

@@ -67,7 +67,7 @@ pub enum Stands {
 }
 
 /// Why a run ended before its code did.
-#[derive(Clone, Copy, Debug, PartialEq, Eq)]
+#[derive(Clone, Copy, PartialEq, Eq)]
 pub enum Stop {
     ConstraintFails = 1,
     AssertFails = 2,

@@ -1,4 +1,5 @@
-use Rattle.std.proofs.Common.{◌≡◌, ◌+◌, ◌-◌, ◌<◌, ◌%◌, ◌/◌, ◌∷◌, length, take, drop, get_or, subst, sym, ◌∙◌, arith, length-set}
+use Rattle.std.proofs.Common.{◌≡◌, ◌+◌, ◌-◌, ◌<◌, ◌%◌, ◌/◌, ◌∷◌, length, take, drop, get_or, subst}
+use Rattle.std.proofs.Common.{sym, ◌∙◌, arith, length-set}
 use Rattle.std.proofs.lemmas.List.{drop_more, drop-set}
 use Rattle.cir_values.specs.Places.{elements}
 use Rattle.cir_values.proofs.Rows.{CountsTo, counts_more, room_less}

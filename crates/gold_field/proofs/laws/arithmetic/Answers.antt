@@ -1,5 +1,6 @@
 use Rattle.gold_field.specs.declared.gold.TheConstants.{P}
-use Rattle.gold_field.proofs.FieldLaws.{sum_of_rests, product_of_rests, sum_assoc, product_assoc, product_over_sum, difference_back}
+use Rattle.gold_field.proofs.FieldLaws.{sum_of_rests, product_of_rests, sum_assoc, product_assoc}
+use Rattle.gold_field.proofs.FieldLaws.{product_over_sum, difference_back}
 use Rattle.gold_field.proofs.laws.arithmetic.Goals as goal
 
 pub returns : goal.returns

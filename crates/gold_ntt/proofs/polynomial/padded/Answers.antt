@@ -1,4 +1,5 @@
-use Rattle.std.proofs.Common.{◌≡◌, ℕ, ◌-◌, List, ◌++◌, ◌∙◌, ap, arith, take, replicate, zero, vec_len}
+use Rattle.std.proofs.Common.{◌≡◌, ℕ, ◌-◌, List, ◌++◌, ◌∙◌, ap, arith, take, replicate, zero}
+use Rattle.std.proofs.Common.{vec_len}
 use Rattle.gold_ntt.proofs.Evaluation.{padded_same}
 use Rattle.gold_ntt.proofs.polynomial.padded.Goals as goal
 

@@ -1,7 +1,8 @@
 use Rattle.std.proofs.Common.{◌≡◌, ℕ, ◌*◌, ◌%◌, ◌^◌, ◌∙◌, sym, subst, arith, length}
 use Rattle.gold_field.specs.declared.gold.TheConstants.{P}
 use Rattle.gold_ntt.specs.Transform.{IsTransform, root_of}
-use Rattle.gold_ntt.proofs.Transforms.{same_log, root_halves, inverse_halves, inverse_undone, inverse_undoes, unit_of, scale_of}
+use Rattle.gold_ntt.proofs.Transforms.{same_log, root_halves, inverse_halves, inverse_undone}
+use Rattle.gold_ntt.proofs.Transforms.{inverse_undoes, unit_of, scale_of}
 use Rattle.gold_ntt.proofs.transform.intt.Goals as goal
 
 pub transform_at-requires-clause-root : goal.transform_at-requires-clause-root

@@ -7,7 +7,8 @@ pub has_values-requires : goal.has_values-requires
 has_values-requires g c =
     let Post = λ (q : ℕ) (x : ℕ). g.F.Fn.post c.args.value (q, tt) (Ok x) in
     let many =
-    placed_length Post 0 (length c.args.opening.now.columns.now) c.in_ok-values.values.items c.in_ok-values.ensures in
+    placed_length Post 0 (length c.args.opening.now.columns.now) c.in_ok-values.values.items
+    c.in_ok-values.ensures in
     omega (
       arith,
       ap length c.deref.ensures.value,

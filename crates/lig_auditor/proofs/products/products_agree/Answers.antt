@@ -9,5 +9,6 @@ returns g c =
     let f : ℕ → ℕ = λ q. product_value o c.args.t (get_or o.columns.now q []) in
     let Says : List ℕ → Type 0 = λ s. IfOk c.agrees.result (λ holds. IsTrue holds ↔ Agrees o s f) in
     subst Says c.product_polynomial-polynomial.ensures.value
-    (lifted _ (λ holds. IsTrue holds ↔ Agrees o c.product_polynomial-polynomial.result.now f) c.agrees.result
+    (lifted _ (λ holds. IsTrue holds ↔ Agrees o c.product_polynomial-polynomial.result.now f)
+    c.agrees.result
     (λ holds h. h f (λ q x low is. is)) c.agrees.ensures)

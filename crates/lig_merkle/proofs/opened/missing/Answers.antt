@@ -1,11 +1,10 @@
-use Rattle.std.proofs.Common.{◌≡◌, ℕ, List, ◌++◌, ◌∷◌, [], true, false, ap, ◌∙◌, sym, get_or, take, arith}
-use Rattle.std.proofs.lemmas.List.{take_all}
+use Rattle.std.proofs.Common.{◌≡◌, ℕ, ◌++◌, ◌∷◌, [], true, false, ap, ◌∙◌, sym, get_or, take}
 use Rattle.lig_merkle.specs.Nodes.{sibling_of}
 use Rattle.lig_merkle.specs.Shared.{is_known}
-use Rattle.lig_merkle.proofs.Known.{Found, rises, search_tells, missing_in}
+use Rattle.lig_merkle.proofs.Known.{rises, search_tells, missing_in}
 use Rattle.lig_merkle.proofs.Walk.{missing_more, missing_same, known_of_err, unknown_of_err}
 use Rattle.lig_merkle.proofs.opened.missing.Goals as goal
-use Rattle.lig_merkle.proofs.opened.missing.Goals.{Joined-is_err, then-is_err+in_ok-push, else-is_err}
+use Rattle.lig_merkle.proofs.opened.missing.Goals.{then-is_err+in_ok-push, else-is_err}
 
 pub loop-place-preserved : goal.loop-place-preserved
 loop-place-preserved c =

@@ -1,7 +1,9 @@
-use Rattle.std.proofs.Common.{◌≡◌, ℕ, List, ◌+◌, ◌-◌, ◌<◌, ◌^◌, length, take, drop, [], subst, sym, ap, ◌∙◌, arith}
+use Rattle.std.proofs.Common.{◌≡◌, ℕ, ◌+◌, ◌-◌, ◌<◌, ◌^◌, length, take, drop, [], sym, ap, ◌∙◌}
+use Rattle.std.proofs.Common.{arith}
 use Rattle.std.proofs.lemmas.List.{get_or_read}
-use Rattle.lig_merkle.specs.Shared.{AreOpened, missing, parents, shared_count, parent_hashes}
-use Rattle.lig_merkle.proofs.Walk.{Leading, leading_as, leading_begins, leading_more, leading_ends, enough, places_small}
+use Rattle.lig_merkle.specs.Shared.{missing, parents, parent_hashes}
+use Rattle.lig_merkle.proofs.Walk.{leading_as, leading_begins, leading_more, leading_ends, enough}
+use Rattle.lig_merkle.proofs.Walk.{places_small}
 use Rattle.lig_merkle.proofs.opened.root_of_many.Goals as goal
 
 pub loop-init : goal.loop-init

@@ -1,6 +1,7 @@
-use Rattle.std.proofs.Common.{◌≡◌, ℕ, List, ◌+◌, ◌-◌, ◌<◌, ◌^◌, length, subst, sym, ap, ◌∙◌, arith}
-use Rattle.lig_merkle.specs.Shared.{AreOpened, missing, parents, shared_count}
-use Rattle.lig_merkle.proofs.Walk.{Counting, counting_as, counting_begins, counting_more, counting_fits, counting_ends, places_small}
+use Rattle.std.proofs.Common.{◌≡◌, ℕ, ◌+◌, ◌-◌, ◌<◌, ◌^◌, length, ap, ◌∙◌, arith}
+use Rattle.lig_merkle.specs.Shared.{missing, parents}
+use Rattle.lig_merkle.proofs.Walk.{counting_as, counting_begins, counting_more, counting_fits}
+use Rattle.lig_merkle.proofs.Walk.{counting_ends, places_small}
 use Rattle.lig_merkle.proofs.opened.shared.Goals as goal
 use Rattle.lig_merkle.proofs.opened.shared.Goals.{After-len}
 

@@ -1,6 +1,6 @@
-use Rattle.std.proofs.Common.{◌≡◌, ◌∙◌, sym, ap, true, Ok, Err, List, ℕ, length, [], ◌++◌, get_or, Result, subst}
+use Rattle.std.proofs.Common.{◌≡◌, ◌∙◌, sym, List, ℕ, [], ◌++◌, Result, subst}
 use Rattle.std.proofs.lemmas.Bool.{both_ways}
-use Rattle.lig_merkle.specs.Shared.{is_known, hash_at, missing}
+use Rattle.lig_merkle.specs.Shared.{is_known}
 use Rattle.lig_merkle.proofs.Known.{Found, Rises, rises, missing_rises, search_tells}
 use Rattle.lig_merkle.proofs.Walk.{hash_found, hash_in_front, hash_behind, known_neither}
 use Rattle.lig_merkle.proofs.opened.Level.hash_at.Goals as goal

@@ -1,4 +1,5 @@
-use Rattle.std.proofs.Common.{◌≡◌, ◌^◌, ◌*◌, length, ◌++◌, subst, ap, ◌∙◌, sym, arith, drop, take, ℕ}
+use Rattle.std.proofs.Common.{◌≡◌, ◌^◌, ◌*◌, length, ◌++◌, subst, ap, ◌∙◌, sym, arith, drop, take}
+use Rattle.std.proofs.Common.{ℕ}
 use Rattle.std.proofs.lemmas.List.{take_at}
 use Rattle.lig_merkle.specs.Nodes.{AreJoined}
 use Rattle.lig_merkle.proofs.Places.{same_power}

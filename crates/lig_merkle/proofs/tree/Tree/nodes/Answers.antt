@@ -1,7 +1,9 @@
-use Rattle.std.proofs.Common.{◌≡◌, ℕ, List, ◌+◌, ◌-◌, ◌*◌, ◌/◌, ◌<◌, ◌≤◌, ◌^◌, ◌++◌, All, length, map, take, drop, [], get_or, refl, subst, sym, ap, ◌∙◌, arith}
+use Rattle.std.proofs.Common.{◌≡◌, ℕ, List, ◌+◌, ◌-◌, ◌*◌, ◌/◌, ◌<◌, ◌≤◌, ◌^◌, ◌++◌, All, length}
+use Rattle.std.proofs.Common.{map, [], get_or, refl, subst, sym, ap, ◌∙◌, arith}
 use Rattle.lig_merkle.specs.Merkle.{Leaves}
 use Rattle.lig_merkle.specs.Shared.{AreOpened, missing, parents, shared_nodes}
-use Rattle.lig_merkle.proofs.Walk.{Gathering, gathering_begins, gathering_as, gathering_more, gathering_ends, level_within, places_small}
+use Rattle.lig_merkle.proofs.Walk.{gathering_begins, gathering_as, gathering_more, gathering_ends}
+use Rattle.lig_merkle.proofs.Walk.{level_within, places_small}
 use Rattle.lig_merkle.proofs.Leading.{length-shared_nodes}
 use Rattle.lig_merkle.proofs.tree.Tree.nodes.Goals as goal
 
