@@ -40,11 +40,9 @@ pub(crate) fn read_fault(meant: Meant, dots: usize) -> Result<(), Stop<Kind>>
 {
     match meant {
         Meant::Other => Err(Stop::At(Kind::UnknownName)),
-        Meant::Variable(_) => unless(dots == 0, Kind::WrongKind),
-        Meant::Signal(_, _) => unless(dots == 0, Kind::WrongKind),
+        Meant::Variable(_) | Meant::Signal(_, _) => unless(dots == 0, Kind::WrongKind),
         Meant::Component(_) => unless(dots == 1, Kind::WrongKind),
-        Meant::Template(_) => Err(Stop::At(Kind::WrongKind)),
-        Meant::Function(_) => Err(Stop::At(Kind::WrongKind)),
+        Meant::Template(_) | Meant::Function(_) => Err(Stop::At(Kind::WrongKind)),
     }
 }
 
@@ -55,10 +53,10 @@ pub(crate) fn set_fault(meant: Meant, dots: usize, call: bool) -> Result<(), Sto
     match meant {
         Meant::Other => Err(Stop::At(Kind::UnknownName)),
         Meant::Variable(_) => unless(dots == 0, Kind::WrongKind),
-        Meant::Signal(_, _) => Err(Stop::At(Kind::WrongKind)),
         Meant::Component(_) => unless(call && dots == 0, Kind::WrongKind),
-        Meant::Template(_) => Err(Stop::At(Kind::WrongKind)),
-        Meant::Function(_) => Err(Stop::At(Kind::WrongKind)),
+        Meant::Signal(_, _) | Meant::Template(_) | Meant::Function(_) => {
+            Err(Stop::At(Kind::WrongKind))
+        }
     }
 }
 
@@ -68,13 +66,14 @@ pub(crate) fn arrow_fault(meant: Meant, dots: usize) -> Result<(), Stop<Kind>>
 {
     match meant {
         Meant::Other => Err(Stop::At(Kind::UnknownName)),
-        Meant::Variable(_) => Err(Stop::At(Kind::WrongKind)),
-        Meant::Signal(Direction::Input, _) => Err(Stop::At(Kind::WrongKind)),
-        Meant::Signal(Direction::Inner, _) => unless(dots == 0, Kind::WrongKind),
-        Meant::Signal(Direction::Output, _) => unless(dots == 0, Kind::WrongKind),
+        Meant::Signal(Direction::Inner | Direction::Output, _) => {
+            unless(dots == 0, Kind::WrongKind)
+        }
         Meant::Component(_) => unless(dots == 1, Kind::WrongKind),
-        Meant::Template(_) => Err(Stop::At(Kind::WrongKind)),
-        Meant::Function(_) => Err(Stop::At(Kind::WrongKind)),
+        Meant::Variable(_)
+        | Meant::Signal(Direction::Input, _)
+        | Meant::Template(_)
+        | Meant::Function(_) => Err(Stop::At(Kind::WrongKind)),
     }
 }
 
@@ -145,8 +144,7 @@ impl Callee<'_, '_> {
     {
         match self {
             Callee::Unknown => Err(Stop::At(Kind::UnknownName)),
-            Callee::Undefined => Ok(()),
-            Callee::Function(_) => Ok(()),
+            Callee::Undefined | Callee::Function(_) => Ok(()),
             Callee::Template(head) => unless(head.outputs == slots, Kind::Arity),
         }
     }

@@ -66,9 +66,7 @@ impl Callee<'_, '_> {
     {
         match self {
             Callee::Template(head) => public(&head.inputs, names),
-            Callee::Function(_) => Ok(()),
-            Callee::Undefined => Ok(()),
-            Callee::Unknown => Ok(()),
+            Callee::Function(_) | Callee::Undefined | Callee::Unknown => Ok(()),
         }
     }
 }

@@ -40,8 +40,7 @@ impl Room {
         ensures { result ≡ inward self }
     {
         match self {
-            Room::Allowed => Room::Misplaced,
-            Room::Misplaced => Room::Misplaced,
+            Room::Allowed | Room::Misplaced => Room::Misplaced,
             Room::Barred => Room::Barred,
         }
     }
@@ -50,8 +49,7 @@ impl Room {
         ensures { result ≡ on_the_right operator self }
     {
         match operator {
-            Binary::And => self.inward(),
-            Binary::Or => self.inward(),
+            Binary::And | Binary::Or => self.inward(),
             _ => self,
         }
     }
@@ -84,8 +82,7 @@ impl Position {
     {
         match self {
             Position::InFunction => Position::InFunction,
-            Position::Outermost => Position::Inner,
-            Position::Inner => Position::Inner,
+            Position::Outermost | Position::Inner => Position::Inner,
             Position::Looped => Position::Looped,
         }
     }
@@ -95,9 +92,7 @@ impl Position {
     {
         match self {
             Position::InFunction => Position::InFunction,
-            Position::Outermost => Position::Looped,
-            Position::Inner => Position::Looped,
-            Position::Looped => Position::Looped,
+            Position::Outermost | Position::Inner | Position::Looped => Position::Looped,
         }
     }
 
@@ -107,9 +102,7 @@ impl Position {
     {
         match self {
             Position::InFunction => Room::Barred,
-            Position::Outermost => Room::Allowed,
-            Position::Inner => Room::Allowed,
-            Position::Looped => Room::Allowed,
+            Position::Outermost | Position::Inner | Position::Looped => Room::Allowed,
         }
     }
 
@@ -118,9 +111,7 @@ impl Position {
     {
         match self {
             Position::InFunction => Room::Barred,
-            Position::Outermost => Room::Misplaced,
-            Position::Inner => Room::Misplaced,
-            Position::Looped => Room::Misplaced,
+            Position::Outermost | Position::Inner | Position::Looped => Room::Misplaced,
         }
     }
 
@@ -129,9 +120,7 @@ impl Position {
     {
         match self {
             Position::InFunction => Err(Stop::At(Kind::WrongKind)),
-            Position::Outermost => Ok(()),
-            Position::Inner => Ok(()),
-            Position::Looped => Ok(()),
+            Position::Outermost | Position::Inner | Position::Looped => Ok(()),
         }
     }
 
@@ -140,9 +129,9 @@ impl Position {
     {
         match self {
             Position::InFunction => Ok(()),
-            Position::Outermost => Err(Stop::At(Kind::WrongKind)),
-            Position::Inner => Err(Stop::At(Kind::WrongKind)),
-            Position::Looped => Err(Stop::At(Kind::WrongKind)),
+            Position::Outermost | Position::Inner | Position::Looped => {
+                Err(Stop::At(Kind::WrongKind))
+            }
         }
     }
 
@@ -151,9 +140,7 @@ impl Position {
     {
         match self {
             Position::InFunction => Err(Stop::At(LOG_PLACE)),
-            Position::Outermost => Ok(()),
-            Position::Inner => Ok(()),
-            Position::Looped => Ok(()),
+            Position::Outermost | Position::Inner | Position::Looped => Ok(()),
         }
     }
 
@@ -163,8 +150,7 @@ impl Position {
     {
         match self {
             Position::InFunction => Err(Stop::At(Kind::WrongKind)),
-            Position::Outermost => Ok(()),
-            Position::Inner => Ok(()),
+            Position::Outermost | Position::Inner => Ok(()),
             Position::Looped => Err(Stop::At(DECLARATION_PLACE)),
         }
     }
@@ -176,9 +162,9 @@ impl Position {
             (Position::Inner, Direction::Input) => Err(Stop::At(DECLARATION_PLACE)),
             (Position::Inner, Direction::Output) => Err(Stop::At(DECLARATION_PLACE)),
             (Position::Inner, Direction::Inner) => Ok(()),
-            (Position::InFunction, _) => self.may_declare(),
-            (Position::Outermost, _) => self.may_declare(),
-            (Position::Looped, _) => self.may_declare(),
+            (Position::InFunction | Position::Outermost | Position::Looped, _) => {
+                self.may_declare()
+            }
         }
     }
 }

@@ -9,21 +9,21 @@ use cir_ast::program::Spot;
 use std::alloc::{AllocError, AllocFailed};
 
 /// A fault and the place of the statement or the item that holds it.
-#[derive(Debug, Clone, Copy, PartialEq, Eq)]
+#[derive(Clone, Copy)]
 pub struct Fault {
     pub kind: Kind,
     pub spot: Spot,
 }
 
 /// A fault in the file of this place in the program's list.
-#[derive(Debug, Clone, Copy, PartialEq, Eq)]
+#[derive(Clone, Copy)]
 pub struct Found {
     pub file: u32,
     pub fault: Fault,
 }
 
 /// Why a check ended early.
-#[derive(Debug, Clone, Copy, PartialEq, Eq)]
+#[derive(Clone, Copy)]
 pub enum Stop<F> {
     /// It found this fault.
     At(F),

@@ -17,6 +17,7 @@ use crate::measured::{
 };
 use crate::operators::level_of;
 use crate::reader::{Reader, Stop};
+use crate::trimmed::tight;
 use cir_ast::Blank;
 use cir_ast::marked::{Accessor, Expr, NamedInput, Place};
 use cir_token::{Reserved, Symbol, Text, TokenKind};
@@ -58,7 +59,7 @@ impl<'a> Reader<'a> {
         }
         let name = self.name(alloc)?;
         let path = self.accessors(alloc, room - 1)?;
-        Ok(Place::of(name, N::blank(), Items::of(path.accessors)))
+        Ok(Place::of(name, N::blank(), tight(path.accessors)))
     }
 
     /// No expression or more with commas between them, each at most this high, and `)`.

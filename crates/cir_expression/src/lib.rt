@@ -21,6 +21,8 @@ pub mod laws;
 mod measured;
 mod operators;
 mod reader;
+mod trimmed;
 
 pub use expressions::Grouped;
 pub use reader::{Reader, Stop};
+pub use trimmed::tight;

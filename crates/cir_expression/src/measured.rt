@@ -10,10 +10,10 @@ ghost use Rattle.cir_expression.specs.Measured.{IsMeasured, IsMeasuredListing, I
 ghost use Rattle.cir_expression.specs.Measured.{IsMeasuredNaming, Makes};
 
 use crate::reader::Stop;
+use crate::trimmed::tight;
 use cir_ast::Blank;
 use cir_ast::marked::{Accessor, Anonymous, Binary, Expr, Inputs, NamedInput, Place, Unary};
 use cir_token::Text;
-use items::Items;
 use std::alloc::{AllocError, Global};
 
 /// An expression that was read, and its height.
@@ -134,7 +134,7 @@ pub fn array<N: Drop>(elements: Listing<N>) -> Reading<N>
     ensures height { result.height ≡ elements.height + 1 }
 {
     Reading {
-        tree: Expr::array(Items::of(elements.items)),
+        tree: Expr::array(tight(elements.items)),
         height: elements.height + 1,
     }
 }
@@ -148,7 +148,7 @@ pub fn call<N: Blank + Drop>(parallel: bool, name: Text, arguments: Listing<N>) 
     ensures height { result.height ≡ arguments.height + 1 }
 {
     Reading {
-        tree: Expr::call(parallel, name, N::blank(), Items::of(arguments.items)),
+        tree: Expr::call(parallel, name, N::blank(), tight(arguments.items)),
         height: arguments.height + 1,
     }
 }
@@ -170,15 +170,9 @@ pub fn listed_component<N: Blank + Drop>(
     ensures measured { IsMeasured result }
     ensures height { result.height ≡ max arguments.height given.height + 1 }
 {
-    let inputs = Inputs::listed(Items::of(given.items));
+    let inputs = Inputs::listed(tight(given.items));
     let arguments_height = arguments.height;
-    let whole = Anonymous::of(
-        parallel,
-        name,
-        N::blank(),
-        Items::of(arguments.items),
-        inputs,
-    );
+    let whole = Anonymous::of(parallel, name, N::blank(), tight(arguments.items), inputs);
     Reading {
         tree: Expr::Anonymous(whole),
         height: arguments_height.max(given.height) + 1,
@@ -202,15 +196,9 @@ pub fn named_component<N: Blank + Drop>(
     ensures measured { IsMeasured result }
     ensures height { result.height ≡ max arguments.height given.height + 1 }
 {
-    let inputs = Inputs::named(Items::of(given.inputs));
+    let inputs = Inputs::named(tight(given.inputs));
     let arguments_height = arguments.height;
-    let whole = Anonymous::of(
-        parallel,
-        name,
-        N::blank(),
-        Items::of(arguments.items),
-        inputs,
-    );
+    let whole = Anonymous::of(parallel, name, N::blank(), tight(arguments.items), inputs);
     Reading {
         tree: Expr::Anonymous(whole),
         height: arguments_height.max(given.height) + 1,
@@ -226,7 +214,7 @@ pub fn place<N: Blank + Drop>(name: Text, path: Path<N>) -> Reading<N>
     ensures height { result.height ≡ path.height + 1 }
 {
     Reading {
-        tree: Expr::Place(Place::of(name, N::blank(), Items::of(path.accessors))),
+        tree: Expr::Place(Place::of(name, N::blank(), tight(path.accessors))),
         height: path.height + 1,
     }
 }

@@ -10,7 +10,7 @@ use items::Items;
 use std::alloc::{AllocError, AllocFailed, Global};
 
 /// Why no tree was read.
-#[derive(Clone, Copy, Debug)]
+#[derive(Clone, Copy)]
 pub enum Stop {
     /// The tokens begin with no such tree, or only with one that is too high.
     NoTree,
@@ -38,7 +38,7 @@ impl<T: Drop> From<AllocFailed<T>> for Stop {
 }
 
 /// The tokens that are left to be read.
-#[derive(Clone, Copy, Debug)]
+#[derive(Clone, Copy)]
 pub struct Reader<'a> {
     pub rest: &'a [Token],
 }

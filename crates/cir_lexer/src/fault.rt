@@ -1,7 +1,7 @@
 use cir_token::LexCause;
 
 /// Why there are no tokens.
-#[derive(Debug, Clone, Copy, PartialEq, Eq)]
+#[derive(Clone, Copy)]
 pub enum LexFault {
     /// The first fault in the order of bytes.
     At { cause: LexCause, offset: u32 },

@@ -9,9 +9,11 @@ ghost use Rattle.cir_lexer.specs.Lengths.{identifier_len, lettered_len, IsLonges
 ghost use Rattle.cir_lexer.specs.Lengths.{is_quotable, is_in_line, begins_pair, begins_hexadecimal};
 ghost use Rattle.cir_lexer.specs.Lengths.{close_at};
 ghost use Rattle.cir_lexer.specs.Spelling.{number_in};
+ghost use Rattle.cir_lexer.specs.Class.{alone};
 ghost use Rattle.cir_token.specs.Spelling.{reserved_bytes, symbol_bytes};
 ghost use Rattle.cir_token.specs.declared.token.Reserved.{Reserved};
 ghost use Rattle.cir_token.specs.declared.token.Symbol.{Symbol};
+ghost use Rattle.cir_token.specs.declared.spelling.TheConstants.{SYMBOLS};
 
 use crate::class::{digit_value, is_digit, is_hexadecimal, is_letter, is_mark, is_name_byte};
 use cir_token::{RESERVED_WORDS, Reserved, SYMBOLS, Symbol};
@@ -176,11 +178,51 @@ fn find_symbol(symbols: &[Symbol], text: &[u8]) -> Option<Symbol>
         .find(|symbol| begins_with(text, symbol.spelling()))
 }
 
+/// The symbol of this byte, where no other begins with it.
+fn alone(byte: u8) -> Option<Symbol>
+    ensures { result ≡ alone byte }
+{
+    if byte == b'(' {
+        Some(Symbol::OpenParenthesis)
+    } else if byte == b')' {
+        Some(Symbol::CloseParenthesis)
+    } else if byte == b',' {
+        Some(Symbol::Comma)
+    } else if byte == b';' {
+        Some(Symbol::Semicolon)
+    } else if byte == b'[' {
+        Some(Symbol::OpenBracket)
+    } else if byte == b']' {
+        Some(Symbol::CloseBracket)
+    } else if byte == b'{' {
+        Some(Symbol::OpenBrace)
+    } else if byte == b'}' {
+        Some(Symbol::CloseBrace)
+    } else if byte == b'.' {
+        Some(Symbol::Dot)
+    } else {
+        None
+    }
+}
+
+/// The first symbol of the table that the text begins with. Most are told by their first byte.
+fn first_symbol(text: &[u8]) -> Option<Symbol>
+    requires { 0 < length text.now }
+    ensures { result
+        ≡ find (λ symbol. starts_with nat_eq text.now (symbol_bytes symbol)) SYMBOLS }
+{
+    match alone(text[0]) {
+        Some(symbol) => Some(symbol),
+        None => find_symbol(&SYMBOLS, text),
+    }
+}
+
 /// The longest symbol at the front.
 pub(crate) fn symbol(text: &[u8]) -> Option<Symbol>
+    requires { 0 < length text.now }
     ensures found { IfSome result (λ symbol. IsLongestSymbol text.now symbol) }
     ensures none { IfNone result ((other : Symbol) (after : List ℕ)
         → text.now ≢ symbol_bytes other ++ after) }
 {
-    find_symbol(&SYMBOLS, text)
+    first_symbol(text)
 }

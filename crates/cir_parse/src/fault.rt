@@ -7,7 +7,7 @@ use std::alloc::{AllocError, AllocFailed};
 pub const MAX_HEIGHT: u32 = 256;
 
 /// Why tokens have no tree.
-#[derive(Debug, Clone, Copy, PartialEq, Eq)]
+#[derive(Clone, Copy)]
 pub enum ParseFault {
     /// A form that isn't in the language's profile, at its first token.
     Form { token: u32, form: Form },

@@ -17,7 +17,7 @@ use cir_ast::marked::{
     Block, Definition, Function, Include, Item, ItemForm, Main, Pragma, Template,
 };
 use cir_ast::{Blank, Text};
-use cir_expression::{Reader, Stop};
+use cir_expression::{Reader, Stop, tight};
 use cir_simple_statement::names;
 use cir_token::{Reserved, Symbol, TokenKind};
 use items::Items;
@@ -122,8 +122,8 @@ fn template<S: Drop, N: Blank + Drop, M: Marks<S>>(
     let form = ItemForm::Definition(Definition::Template(Template {
         parallel,
         name,
-        parameters: Items::of(parameters),
-        body: Block::of(Items::of(body)),
+        parameters: tight(parameters),
+        body: Block::of(tight(body)),
     }));
     Ok(Item { spot, form })
 }
@@ -146,8 +146,8 @@ fn function<S: Drop, N: Blank + Drop, M: Marks<S>>(
     let body = block(alloc, marks, reader, room)?;
     let form = ItemForm::Definition(Definition::Function(Function {
         name,
-        parameters: Items::of(parameters),
-        body: Block::of(Items::of(body)),
+        parameters: tight(parameters),
+        body: Block::of(tight(body)),
     }));
     Ok(Item { spot, form })
 }
@@ -207,10 +207,10 @@ fn instance<S: Drop, N: Blank + Drop>(
     let arguments = reader.arguments(alloc, room)?;
     reader.behind(Symbol::Semicolon)?;
     let form = ItemForm::Main(Main {
-        public: Items::of(public),
+        public: tight(public),
         template,
         meant: N::blank(),
-        arguments: Items::of(arguments),
+        arguments: tight(arguments),
     });
     Ok(Item { spot, form })
 }

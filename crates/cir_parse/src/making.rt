@@ -6,7 +6,7 @@ ghost use Rattle.cir_simple_statement.specs.Answers.{seen_assign};
 ghost use Rattle.cir_parse.specs.Answers.{seen_first, seen_statement};
 
 use cir_ast::marked::{Expr, First, Statement, StatementForm, Step};
-use items::Items;
+use cir_expression::tight;
 use std::alloc::{AllocError, Global};
 
 /// What stands in the parentheses of a `for`.
@@ -45,7 +45,7 @@ pub fn block_of<S: Drop, N: Drop>(
         (λ s. seen_statement s.value
         ≡ Block spot (as_statements (map seen_statement statements.items))) }
 {
-    let block = Statement::block(spot, Items::of(statements));
+    let block = Statement::block(spot, tight(statements));
     Ok(Box::new(alloc, block)?)
 }
 

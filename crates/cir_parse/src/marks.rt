@@ -15,7 +15,7 @@ pub trait Marks<S> {
 }
 
 /// No place.
-#[derive(Debug, Clone, Copy)]
+#[derive(Clone, Copy)]
 pub struct Nothing;
 
 impl Marks<()> for Nothing {
@@ -25,7 +25,7 @@ impl Marks<()> for Nothing {
 }
 
 /// The places of all tokens of a source, in their order.
-#[derive(Debug, Clone, Copy)]
+#[derive(Clone, Copy)]
 pub struct Spots<'s> {
     pub spots: &'s [Spot],
 }

@@ -10,9 +10,8 @@ use crate::marks::{Marks, Nothing};
 use cir_ast::marked::Item;
 use cir_ast::tree::File;
 use cir_ast::{Blank, marked};
-use cir_expression::{Reader, Stop};
+use cir_expression::{Reader, Stop, tight};
 use cir_token::Token;
-use items::Items;
 use std::alloc::Global;
 
 /// The tree that prints these tokens, of a height of at most 256.
@@ -58,7 +57,7 @@ fn whole<S: Drop, N: Blank + Drop, M: Marks<S>>(
     for _ in 0..tokens.len() {
         if reader.rest.is_empty() {
             return Ok(marked::File {
-                items: Items::of(items),
+                items: tight(items),
             });
         }
         let token = (tokens.len() - reader.rest.len()) as u32;
@@ -66,7 +65,7 @@ fn whole<S: Drop, N: Blank + Drop, M: Marks<S>>(
         items.push(item)?;
     }
     Ok(marked::File {
-        items: Items::of(items),
+        items: tight(items),
     })
 }
 

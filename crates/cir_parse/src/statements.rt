@@ -18,7 +18,7 @@ use crate::making::{Chosen, Head, add, block_of, for_of, if_else_of, if_of, whil
 use crate::marks::Marks;
 use cir_ast::marked::{Expr, First, FirstForm, LogArgument, Statement, StatementForm, Step, Vars};
 use cir_ast::{Blank, Text};
-use cir_expression::{Reader, Stop};
+use cir_expression::{Reader, Stop, tight};
 use cir_simple_statement::{assign, simple, variables};
 use cir_token::{Reserved, Symbol, TokenKind};
 use items::Items;
@@ -57,7 +57,7 @@ fn first_form<N: Blank + Drop>(
         reader.skip();
         let variables = variables(alloc, reader, room)?;
         Ok(FirstForm::Vars(Vars {
-            variables: Items::of(variables),
+            variables: tight(variables),
         }))
     } else {
         let assign = assign(alloc, reader, room)?;
@@ -295,7 +295,7 @@ fn logged<S: Drop, N: Blank + Drop>(
 {
     let arguments = arguments(alloc, reader, room)?;
     reader.behind(Symbol::Semicolon)?;
-    let form = StatementForm::Log(Items::of(arguments));
+    let form = StatementForm::Log(tight(arguments));
     Ok(Box::new(alloc, Statement { spot, form })?)
 }
 

@@ -12,9 +12,8 @@ use crate::declarations::{components, signals, variables};
 use crate::targets::{discarded, grouped, right_arrow, target};
 use cir_ast::Blank;
 use cir_ast::marked::{Arrow, Assign, Compound, Expr, Place, Simple, Source, Vars};
-use cir_expression::{Reader, Stop};
+use cir_expression::{Reader, Stop, tight};
 use cir_token::{Reserved, Symbol, TokenKind};
-use items::Items;
 use std::alloc::Global;
 
 // The operation of a symbol such as `+=`.
@@ -232,7 +231,7 @@ pub fn simple<N: Blank + Drop>(
         reader.skip();
         let variables = variables(alloc, reader, room)?;
         Ok(Simple::Vars(Vars {
-            variables: Items::of(variables),
+            variables: tight(variables),
         }))
     } else if reader.begins_word(Reserved::Signal) {
         reader.skip();

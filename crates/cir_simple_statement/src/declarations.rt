@@ -13,9 +13,8 @@ use cir_ast::marked::{
     Signals, Simple,
 };
 use cir_ast::{Blank, Text};
-use cir_expression::{Reader, Stop};
+use cir_expression::{Reader, Stop, tight};
 use cir_token::{Reserved, Symbol};
-use items::Items;
 use std::alloc::Global;
 
 /// One name or more, with commas between them.
@@ -92,7 +91,7 @@ fn variable<N: Blank + Drop>(
     Ok(DeclaredVariable {
         name,
         meant: N::blank(),
-        dimensions: Items::of(dimensions),
+        dimensions: tight(dimensions),
         value,
     })
 }
@@ -152,7 +151,7 @@ fn signal<N: Blank + Drop>(
     Ok(DeclaredSignal {
         name,
         meant: N::blank(),
-        dimensions: Items::of(dimensions),
+        dimensions: tight(dimensions),
         value,
     })
 }
@@ -202,7 +201,7 @@ pub fn signals<N: Blank + Drop>(
     let signals = signal_list(alloc, reader, room)?;
     Ok(Simple::Signals(Signals {
         direction,
-        signals: Items::of(signals),
+        signals: tight(signals),
     }))
 }
 
@@ -221,7 +220,7 @@ fn component<N: Blank + Drop>(
     Ok(DeclaredComponent {
         name,
         meant: N::blank(),
-        dimensions: Items::of(dimensions),
+        dimensions: tight(dimensions),
     })
 }
 
@@ -267,5 +266,5 @@ pub fn components<N: Blank + Drop>(
         return Ok(Simple::Components(Components::Created(name, N::blank(), value)));
     }
     let components = component_list(alloc, reader, room)?;
-    Ok(Simple::Components(Components::Declared(Items::of(components))))
+    Ok(Simple::Components(Components::Declared(tight(components))))
 }

@@ -13,9 +13,8 @@ ghost use Rattle.cir_simple_statement.specs.Answers.{seen_simple, seen_slot_opti
 use crate::assignments::equation;
 use cir_ast::Blank;
 use cir_ast::marked::{Arrow, Expr, Simple, Slot, Source, Target};
-use cir_expression::{Grouped, Reader, Stop};
+use cir_expression::{Grouped, Reader, Stop, tight};
 use cir_token::{Symbol, TokenKind};
-use items::Items;
 use std::alloc::Global;
 
 fn right_arrow_of(symbol: Symbol) -> Option<Arrow>
@@ -114,7 +113,7 @@ pub fn target<N: Blank + Drop>(
     reader.behind(Symbol::OpenParenthesis)?;
     let slots = slots(alloc, reader, room)?;
     reader.behind(Symbol::CloseParenthesis)?;
-    Ok(Target::Tuple(Items::of(slots)))
+    Ok(Target::Tuple(tight(slots)))
 }
 
 // The values that the elements of a tuple are, if all of them are.
@@ -169,7 +168,7 @@ fn sourced<N: Blank + Drop>(
         Grouped::Whole(value) => Ok(Source::One(value)),
         Grouped::Tuple(elements) => {
             let values = values(alloc, elements)?;
-            Ok(Source::Tuple(Items::of(values)))
+            Ok(Source::Tuple(tight(values)))
         }
     }
 }
@@ -212,7 +211,7 @@ fn valued<N: Blank + Drop>(
     let values = values(alloc, elements)?;
     reader.skip();
     let target = target(alloc, reader, room)?;
-    Ok(Simple::TargetRight(Source::Tuple(Items::of(values)), arrow, target))
+    Ok(Simple::TargetRight(Source::Tuple(tight(values)), arrow, target))
 }
 
 // What stands behind a tuple that begins a statement.
@@ -234,7 +233,7 @@ fn tupled<N: Blank + Drop>(
     let slots = slots_of(alloc, elements)?;
     reader.skip();
     let source = source(alloc, reader, room)?;
-    Ok(Simple::TargetLeft(Target::Tuple(Items::of(slots)), arrow, source))
+    Ok(Simple::TargetLeft(Target::Tuple(tight(slots)), arrow, source))
 }
 
 /// A simple statement behind the `(` that begins it.

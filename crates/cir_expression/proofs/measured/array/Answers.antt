@@ -7,7 +7,7 @@ use Rattle.cir_expression.proofs.measured.array.Goals as goal
 
 pub returns-clause-tree : goal.returns-clause-tree
 returns-clause-tree g c = ap plain c.array.ensures
-    ∙ ap Array (listed_seen c.of.result c.args.elements.items.items c.of.ensures)
+    ∙ ap Array (listed_seen c.tight.result c.args.elements.items.items c.tight.ensures)
 
 pub returns-clause-measured : goal.returns-clause-measured
 returns-clause-measured g c =

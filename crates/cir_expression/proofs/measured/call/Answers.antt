@@ -9,7 +9,7 @@ pub returns-clause-tree : goal.returns-clause-tree
 returns-clause-tree g c =
     ap plain c.call.ensures
     ∙ ap (Call c.args.parallel c.args.name tt)
-    (listed_seen c.of.result c.args.arguments.items.items c.of.ensures)
+    (listed_seen c.tight.result c.args.arguments.items.items c.tight.ensures)
 
 pub returns-clause-measured : goal.returns-clause-measured
 returns-clause-measured g c =

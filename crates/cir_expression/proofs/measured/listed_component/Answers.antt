@@ -11,11 +11,11 @@ returns-clause-tree g c =
     ap plain c.of-whole.ensures
     ∙ ap (λ (es : PlainExprs). Anonymous c.args.parallel c.args.name tt es
     (plain_inputs (bare_inputs c.listed-inputs.result)))
-    (listed_seen c.of-2.result c.args.arguments.items.items c.of-2.ensures)
+    (listed_seen c.tight-2.result c.args.arguments.items.items c.tight-2.ensures)
     ∙ ap (λ (is : PlainInputs). Anonymous c.args.parallel c.args.name tt
     (seen_exprs c.args.arguments.items.items) is)
     (ap plain_inputs c.listed-inputs.ensures
-    ∙ ap Listed (listed_seen c.of.result c.args.given.items.items c.of.ensures))
+    ∙ ap Listed (listed_seen c.tight.result c.args.given.items.items c.tight.ensures))
 
 pub returns-clause-measured : goal.returns-clause-measured
 returns-clause-measured g c =

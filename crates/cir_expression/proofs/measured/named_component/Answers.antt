@@ -11,10 +11,10 @@ returns-clause-tree g c =
     ap plain c.of-whole.ensures
     ∙ ap (λ (es : PlainExprs). Anonymous c.args.parallel c.args.name tt es
     (plain_inputs (bare_inputs c.named-inputs.result)))
-    (listed_seen c.of-2.result c.args.arguments.items.items c.of-2.ensures)
+    (listed_seen c.tight-2.result c.args.arguments.items.items c.tight-2.ensures)
     ∙ ap (λ (is : PlainInputs). Anonymous c.args.parallel c.args.name tt
     (seen_exprs c.args.arguments.items.items) is)
-    (ap plain_inputs c.named-inputs.ensures ∙ ap (λ list. Named (seen_named list)) c.of.ensures)
+    (ap plain_inputs c.named-inputs.ensures ∙ ap (λ list. Named (seen_named list)) c.tight.ensures)
 
 pub returns-clause-measured : goal.returns-clause-measured
 returns-clause-measured g c =

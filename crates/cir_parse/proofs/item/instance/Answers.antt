@@ -11,6 +11,6 @@ returns g c =
       c.in_ok-behind.ensures,
       c.in_ok-arguments.ensures,
       c.in_ok-behind-2.ensures,
-      listed_seen c.of-2.result c.in_ok-arguments.arguments.items c.of-2.ensures,
-      c.of.ensures,
+      listed_seen c.tight-2.result c.in_ok-arguments.arguments.items c.tight-2.ensures,
+      c.tight.ensures,
     ) refl

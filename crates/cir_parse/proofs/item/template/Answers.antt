@@ -10,7 +10,7 @@ returns g c =
       c.in_ok-name.ensures,
       c.in_ok-parameters.ensures,
       c.in_ok-body.ensures,
-      c.of-3.ensures,
-      seen_statements c.of-2.result c.in_ok-body.body.items c.of-2.ensures,
       c.of.ensures,
+      seen_statements c.tight-2.result c.in_ok-body.body.items c.tight-2.ensures,
+      c.tight.ensures,
     ) refl

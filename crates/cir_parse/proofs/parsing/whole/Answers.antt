@@ -34,8 +34,8 @@ returns-then-is_empty g c =
     let none : length c.loop.reader.rest.now ≡ 0 =
     first_of (search rules, grind (arith, nat_tests)) in
     all_read g.row.S.Denot g.row.N.Denot (g.M.Marks.mark c.args.marks.now) (kinds c.args.tokens.now)
-    c.loop.items.items c.of.result (kinds c.loop.reader.rest.now) c.loop.invariant.0
-    (ap kinds (nil_from_length c.loop.reader.rest.now none)) c.of.ensures
+    c.loop.items.items c.tight.result (kinds c.loop.reader.rest.now) c.loop.invariant.0
+    (ap kinds (nil_from_length c.loop.reader.rest.now none)) c.tight.ensures
 
 pub returns-in_err-item : goal.returns-in_err-item
 returns-in_err-item g c =
@@ -73,5 +73,5 @@ returns g c =
     let before = c.loop.invariant.1 in
     let none : length c.loop.reader.rest.now ≡ 0 = omega arith in
     all_read g.row.S.Denot g.row.N.Denot (g.M.Marks.mark c.args.marks.now) (kinds c.args.tokens.now)
-    c.loop.items.items c.of-2.result (kinds c.loop.reader.rest.now) c.loop.invariant.0
-    (ap kinds (nil_from_length c.loop.reader.rest.now none)) c.of-2.ensures
+    c.loop.items.items c.tight-2.result (kinds c.loop.reader.rest.now) c.loop.invariant.0
+    (ap kinds (nil_from_length c.loop.reader.rest.now none)) c.tight-2.ensures

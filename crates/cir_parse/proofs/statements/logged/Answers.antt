@@ -10,6 +10,6 @@ returns g c =
       c.in_ok-arguments.ensures,
       c.in_ok-behind.ensures,
       c.in_ok-new.ensures.ok,
-      seen_map plain_argument bare_argument c.of.result c.in_ok-arguments.arguments.items
-          c.of.ensures,
+      seen_map plain_argument bare_argument c.tight.result c.in_ok-arguments.arguments.items
+          c.tight.ensures,
     ) refl

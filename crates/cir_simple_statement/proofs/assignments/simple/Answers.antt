@@ -12,6 +12,6 @@ returns-in_ok-variables g c =
     rw (
       sym c.begins_word.ensures ∙ c.if-begins_word.true,
       ap (separated (variable c.args.room)) (sym c.skip.ensures) ∙ c.in_ok-variables.ensures,
-      seen_map plain_variable bare_variable c.of.result c.in_ok-variables.variables.items
-          c.of.ensures,
+      seen_map plain_variable bare_variable c.tight.result c.in_ok-variables.variables.items
+          c.tight.ensures,
     ) refl

@@ -9,5 +9,5 @@ returns g c =
     rw (
       c.in_ok-name.ensures,
       c.in_ok-dimensions.ensures,
-      listed_seen c.of.result c.in_ok-dimensions.dimensions.items c.of.ensures,
+      listed_seen c.tight.result c.in_ok-dimensions.dimensions.items c.tight.ensures,
     ) refl

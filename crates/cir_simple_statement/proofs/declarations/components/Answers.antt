@@ -12,6 +12,6 @@ returns g c =
       c.in_ok-name.ensures,
       sym c.begins.ensures ∙ c.if-begins.false,
       c.in_ok-components.ensures,
-      seen_map plain_component bare_component c.of.result c.in_ok-components.components.items
-          c.of.ensures,
+      seen_map plain_component bare_component c.tight.result c.in_ok-components.components.items
+          c.tight.ensures,
     ) refl

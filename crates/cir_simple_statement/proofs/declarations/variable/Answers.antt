@@ -10,5 +10,5 @@ returns g c =
       c.in_ok-name.ensures,
       c.in_ok-dimensions.ensures,
       c.in_ok-value.ensures,
-      listed_seen c.of.result c.in_ok-dimensions.dimensions.items c.of.ensures,
+      listed_seen c.tight.result c.in_ok-dimensions.dimensions.items c.tight.ensures,
     ) refl

@@ -9,5 +9,5 @@ returns-in_ok-values-in-Tuple g c =
     rw (
       c.in-Tuple.is,
       c.in_ok-values-in-Tuple.ensures,
-      seen_map plain bare c.of.result c.in_ok-values-in-Tuple.values.items c.of.ensures,
+      seen_map plain bare c.tight.result c.in_ok-values-in-Tuple.values.items c.tight.ensures,
     ) refl

@@ -13,5 +13,5 @@ returns g c =
       c.in_ok-behind.ensures,
       c.in_ok-slots.ensures,
       c.in_ok-behind-2.ensures,
-      seen_map plain_slot bare_slot c.of.result c.in_ok-slots.slots.items c.of.ensures,
+      seen_map plain_slot bare_slot c.tight.result c.in_ok-slots.slots.items c.tight.ensures,
     ) refl

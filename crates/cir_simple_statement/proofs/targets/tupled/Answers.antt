@@ -12,5 +12,5 @@ returns g c =
       sym c.in-Some.ensures,
       c.in_ok-slots.ensures,
       ap (source c.args.room) (sym c.skip.ensures) ∙ c.in_ok-source.ensures,
-      seen_map plain_slot bare_slot c.of.result c.in_ok-slots.slots.items c.of.ensures,
+      seen_map plain_slot bare_slot c.tight.result c.in_ok-slots.slots.items c.tight.ensures,
     ) refl

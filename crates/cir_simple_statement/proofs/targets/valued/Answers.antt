@@ -11,5 +11,5 @@ returns g c =
       sym c.in-Some.ensures,
       c.in_ok-values.ensures,
       ap (target c.args.room) (sym c.skip.ensures) ∙ c.in_ok-target.ensures,
-      seen_map plain bare c.of.result c.in_ok-values.values.items c.of.ensures,
+      seen_map plain bare c.tight.result c.in_ok-values.values.items c.tight.ensures,
     ) refl

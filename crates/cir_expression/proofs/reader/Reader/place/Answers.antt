@@ -15,8 +15,8 @@ returns-in_err-path g c =
 
 pub returns : goal.returns
 returns g c =
-    placed c.args.room (kinds c.args.self.now.rest.now) _ _ c.in_ok-name.name _ c.of-2.result
+    placed c.args.room (kinds c.args.self.now.rest.now) _ _ c.in_ok-name.name _ c.of.result
     (omega arith) c.in_ok-name.ensures c.in_ok-path.ensures.read.0
-    (ap plain c.of-2.ensures
+    (ap plain c.of.ensures
     ∙ ap (λ (list : List (Accessor g.row.N.Denot)). Place c.in_ok-name.name tt
-    (seen_accessors list)) c.of.ensures)
+    (seen_accessors list)) c.tight.ensures)
