@@ -228,7 +228,7 @@ pub fn set_variable<C: Fn(Spot, u32, Vec<Datum>, &mut World) -> Result<Datum, Fa
 }
 
 /// Whether an element that is written isn't known afterwards, of a variable of so many elements.
-fn is_unknown(a: &Assignment, count: u64) -> bool
+pub fn is_unknown(a: &Assignment, count: u64) -> bool
     ensures { (n : ℕ) (s : State) (x : W.VariableAssignment) → IsAssignment n s a.now x
         → count ≡ standing (element_count (variable_at s.frame n).dims)
         → result ≡ W.is_unknown n x }
@@ -242,12 +242,12 @@ fn is_unknown(a: &Assignment, count: u64) -> bool
 
 /// A step that writes a variable, by what it costs and how many cells it writes.
 #[derive(Drop)]
-struct Step {
-    cost: Cost,
-    cells: u64,
+pub struct Step {
+    pub cost: Cost,
+    pub cells: u64,
 }
 
-fn variable_step<C: Fn(Spot, u32, Vec<Datum>, &mut World) -> Result<Datum, Fault>>(
+pub fn variable_step<C: Fn(Spot, u32, Vec<Datum>, &mut World) -> Result<Datum, Fault>>(
     here: &Here<C>,
     variable: u32,
     accessors: &[Accessor],

@@ -25,12 +25,12 @@ use std::alloc::{AllocError, Global};
 
 /// What is to be created, and where.
 #[derive(Drop)]
-struct Creation {
-    component: u32,
-    indices: Vec<u64>,
-    place: Option<u64>,
-    template: u32,
-    arguments: Vec<Datum>,
+pub struct Creation {
+    pub component: u32,
+    pub indices: Vec<u64>,
+    pub place: Option<u64>,
+    pub template: u32,
+    pub arguments: Vec<Datum>,
 }
 
 /// `place = T(arguments)`: the arguments come before the indices of the place.
@@ -65,7 +65,7 @@ where
 }
 
 /// The template and the arguments of a call, through parentheses.
-fn template_call(e: &Expr) -> Option<(u32, &[Expr])>
+pub fn template_call(e: &Expr) -> Option<(u32, &[Expr])>
     ensures { (w : Where) (go : ℕ → Exprs Meant → Tried D.Creation)
         → D.template_call w (bare e.now) go ≡ told_call w result go }
 {
@@ -94,7 +94,7 @@ fn called_template(meant: Meant, arguments: &[Expr]) -> Option<(u32, &[Expr])>
 }
 
 /// All indices of a created component must be known.
-fn created_at<C>(
+pub fn created_at<C>(
     here: &Here<C>,
     n: u32,
     indices: &[Option<u64>],
@@ -192,7 +192,7 @@ where
 }
 
 /// Whether elements of one array are of this template: those that are created have one template.
-fn may_be(template: u32, entry: &ComponentEntry, frame: &Frame) -> bool
+pub fn may_be(template: u32, entry: &ComponentEntry, frame: &Frame) -> bool
     ensures { (c : AnyCounts) → result
         ≡ D.may_be template (D.template_of (frame_of frame.now c).parts entry.now.parts.items) }
 {
@@ -209,7 +209,7 @@ fn may_be(template: u32, entry: &ComponentEntry, frame: &Frame) -> bool
 }
 
 /// The path of an element of a component, in an instance of this path.
-fn path_of(alloc: Global, path: &[u8], name: &[u8], indices: &[u64]) -> Result<Text, AllocError>
+pub fn path_of(alloc: Global, path: &[u8], name: &[u8], indices: &[u64]) -> Result<Text, AllocError>
     ensures { IfOk result (λ text. text
         ≡ path.now ++ (codes "." ++ (name.now ++ brackets indices.now))) }
 {

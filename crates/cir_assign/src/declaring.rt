@@ -27,7 +27,7 @@ use cir_frame::{
 };
 
 /// The number of what is declared.
-fn declared_number<C>(here: &Here<C>, meant: Meant) -> Result<u32, Fault>
+pub fn declared_number<C>(here: &Here<C>, meant: Meant) -> Result<u32, Fault>
     ensures { Numbers (where_at here.now) meant result }
 {
     match meant {

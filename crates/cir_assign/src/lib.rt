@@ -12,9 +12,11 @@ mod terms;
 mod wiring;
 
 pub use assigning::{
-    Assignment, Given, Placed, Written, add_assigned, placed_of, set_variable, variable_assignment,
+    Assignment, Given, Placed, Step, Written, add_assigned, is_unknown, placed_of, set_variable,
+    variable_assignment, variable_step,
 };
 pub use body::Body;
-pub use declaring::{components, created, signals, variables};
+pub use creating::{Creation, created_at, may_be, path_of, template_call};
+pub use declaring::{components, created, declared_number, signals, variables};
 pub use setting::set;
-pub use wiring::{Wiring, equal, set_signal};
+pub use wiring::{Wiring, equal, set_signal, target_in, wiring_cost, write_signal};

@@ -73,7 +73,7 @@ pub fn set_signal<C: Fn(Spot, u32, Vec<Datum>, &mut World) -> Result<Datum, Faul
     stepped(here, cost, 0, world)
 }
 
-fn wiring_cost<C: Fn(Spot, u32, Vec<Datum>, &mut World) -> Result<Datum, Fault>>(
+pub fn wiring_cost<C: Fn(Spot, u32, Vec<Datum>, &mut World) -> Result<Datum, Fault>>(
     here: &Here<C>,
     w: &Wiring,
     frame: &Frame,
@@ -101,7 +101,7 @@ fn wiring_cost<C: Fn(Spot, u32, Vec<Datum>, &mut World) -> Result<Datum, Fault>>
 }
 
 /// The elements that are to be written.
-fn target_in<C: Fn(Spot, u32, Vec<Datum>, &mut World) -> Result<Datum, Fault>>(
+pub fn target_in<C: Fn(Spot, u32, Vec<Datum>, &mut World) -> Result<Datum, Fault>>(
     here: &Here<C>,
     meant: Meant,
     accessors: &[Accessor],
@@ -185,7 +185,7 @@ fn behind(accessors: &[Accessor], count: usize) -> &[Accessor]
 }
 
 /// Element by element in row order: written, then constrained.
-fn write_signal<C>(
+pub fn write_signal<C>(
     here: &Here<C>,
     arrow: Arrow,
     target: &Target,

@@ -299,7 +299,8 @@ pub none_more : (xs : List (CodeStatement Spot Meant)) (i : ℕ) (x : CodeStatem
     → i < length xs → x ≡ get_or xs i x → NoneAt (drop i xs)
     → (fault_of (bare_statement x) ≡ None) × NoneAt (drop (i + 1) xs)
 none_more xs i x less is h =
-    let here : NoneAt (x ∷ drop (i + 1) xs) = subst NoneAt (at_read (λ ys. ys) xs i x less is) h in (
+    let here : NoneAt (x ∷ drop (i + 1) xs) =
+    subst NoneAt (at_read (λ ys. ys) xs i x less is) h in (
       none_first (fault_of (bare_statement x)) _ here,
       none_then (fault_of (bare_statement x)) _ here,
     )

@@ -7,4 +7,6 @@ mod simple;
 mod statement;
 mod undecided;
 
-pub use statement::{Flow, execute_all};
+pub use inside::inside_cost;
+pub use statement::{Flow, decide, decide_branch, execute_all, too_many};
+pub use undecided::{Loop, Rest, allowed, enclose, forget, read_before, scan_rest, touched};

@@ -168,7 +168,7 @@ fn left<C: Fn(Spot, u32, Vec<Datum>, &mut World) -> Result<Datum, Fault>>(
 }
 
 /// A compound statement is counted when it begins; then comes its condition.
-fn decide_branch<C: Fn(Spot, u32, Vec<Datum>, &mut World) -> Result<Datum, Fault>>(
+pub fn decide_branch<C: Fn(Spot, u32, Vec<Datum>, &mut World) -> Result<Datum, Fault>>(
     context: &Context<C>,
     spot: Spot,
     condition: &Expr,
@@ -188,7 +188,7 @@ fn decide_branch<C: Fn(Spot, u32, Vec<Datum>, &mut World) -> Result<Datum, Fault
 }
 
 /// Whether a condition is true, false, or not known.
-fn decide<C: Fn(Spot, u32, Vec<Datum>, &mut World) -> Result<Datum, Fault>>(
+pub fn decide<C: Fn(Spot, u32, Vec<Datum>, &mut World) -> Result<Datum, Fault>>(
     context: &Context<C>,
     spot: Spot,
     condition: &Expr,
@@ -246,7 +246,7 @@ where
     Err(too_many(body.context, spot))
 }
 
-fn too_many<C>(context: &Context<C>, spot: Spot) -> Fault
+pub fn too_many<C>(context: &Context<C>, spot: Spot) -> Fault
     ensures { Refuses (at_spot context.now spot) (LimitKind StatementCount 16777217) result }
 {
     let which = Which::Statements;

@@ -78,7 +78,7 @@ pub fn undecided<C: Fn(Spot, u32, Vec<Datum>, &mut World) -> Result<Datum, Fault
     context.settle(spot, world)
 }
 
-fn scan_rest<C: Fn(Spot, u32, Vec<Datum>, &mut World) -> Result<Datum, Fault>>(
+pub fn scan_rest<C: Fn(Spot, u32, Vec<Datum>, &mut World) -> Result<Datum, Fault>>(
     dark: &Here<C>,
     rest: &Rest,
     frame: &mut Frame,
@@ -99,7 +99,7 @@ fn scan_rest<C: Fn(Spot, u32, Vec<Datum>, &mut World) -> Result<Datum, Fault>>(
     }
 }
 
-fn allowed<C>(context: &Context<C>, rest: &Rest) -> Result<(), Fault>
+pub fn allowed<C>(context: &Context<C>, rest: &Rest) -> Result<(), Fault>
     ensures { (call : M.Caller) (make : Option M.Maker) (s : M.State) → Gives (λ _. s) result
         (S.allowed (context_of context.now call make) (rest_fault rest.now) (Ok s)) }
 {
@@ -132,7 +132,7 @@ fn tested(rest: &Rest) -> Result<(), UnknownFault>
 }
 
 /// The variables that it touches.
-fn touched<C>(context: &Context<C>, rest: &Rest) -> Result<Touched, AllocError>
+pub fn touched<C>(context: &Context<C>, rest: &Rest) -> Result<Touched, AllocError>
     ensures { (spot : AnySpot) → IfOk result (IsTouched (rest_by spot rest.now)) }
 {
     match rest {
@@ -143,7 +143,11 @@ fn touched<C>(context: &Context<C>, rest: &Rest) -> Result<Touched, AllocError>
 
 /// Each outer variable that may be assigned is read as it stands before, and written: what it
 /// reads when it begins, and how many cells it writes.
-fn read_before(alloc: Global, variables: &[u32], frame: &Frame) -> Result<(Cost, u64), AllocError>
+pub fn read_before(
+    alloc: Global,
+    variables: &[u32],
+    frame: &Frame,
+) -> Result<(Cost, u64), AllocError>
     ensures reads { (w : AnyWorld) (qs : List Equation) → IfOk result (λ start.
         IsCost start.0 (read_alone (start_reads variables.now (state_of frame.now w qs)))) }
     ensures cells { (c : AnyCounts) → IfOk result (λ start. start.1
@@ -159,7 +163,7 @@ fn read_before(alloc: Global, variables: &[u32], frame: &Frame) -> Result<(Cost,
     Ok((cost, cells))
 }
 
-fn forget(variables: &[u32], frame: &mut Frame)
+pub fn forget(variables: &[u32], frame: &mut Frame)
     ensures { (w : AnyWorld) (qs : List Equation) → state_of frame.new w qs
         ≡ S.forget variables.now (state_of frame.old w qs) }
 {
@@ -170,7 +174,7 @@ fn forget(variables: &[u32], frame: &mut Frame)
 
 /// Puts what stands in a statement behind what it reads when it begins. Of its own variables
 /// nothing is read, and an outer variable that it may assign is read as it stood before.
-fn enclose(cost: &mut Cost, inside: Cost, touched: &Touched) -> Result<(), AllocError>
+pub fn enclose(cost: &mut Cost, inside: Cost, touched: &Touched) -> Result<(), AllocError>
     ensures { (a : AnyStatement AnySpot AnyMeant) (reads : List K.Cell) (c : K.Cost)
         → IsTouched a touched.now → IsCost cost.old (read_alone reads) → IsCost inside c
         → OnOk result (IsCost cost.new
