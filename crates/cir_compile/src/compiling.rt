@@ -113,7 +113,7 @@ fn refusal_at(
 }
 
 /// A place in a file of the program.
-#[derive(Clone, Copy, Debug, PartialEq, Eq)]
+#[derive(Clone, Copy)]
 pub struct Site {
     pub file: u32,
     pub spot: Spot,

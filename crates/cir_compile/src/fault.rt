@@ -4,7 +4,7 @@ use cir_names::LoadFault;
 use std::alloc::AllocError;
 
 /// Why a source doesn't compile.
-#[derive(Debug, Drop)]
+#[derive(Drop)]
 pub enum CompileFault {
     /// There is no file of the source's name.
     Missing,

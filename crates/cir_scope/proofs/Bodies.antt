@@ -19,8 +19,12 @@ use Rattle.cir_checks.specs.Heads.{Table}
 use Rattle.cir_checks.specs.Checked.{AreStatements}
 use Rattle.cir_names.proofs.Unnamed.{statements_same}
 use Rattle.cir_meaning.specs.SignalFree.{AreFreeStatements}
-use Rattle.cir_meaning.specs.Scoped.{Scope, AreScoped}
+use Rattle.cir_meaning.specs.Scoped.{AreScoped, behind_all}
+use Rattle.cir_scope.specs.Runnable.{AllMayRun, body_scope}
+use Rattle.cir_checks.specs.declared.positions.Position.{Position}
 use Rattle.cir_scope.proofs.Given.{OnGiven, given_behind, given_made, given_declared, given_less}
+use Rattle.cir_scope.proofs.Given.{given_both}
+use Rattle.cir_scope.proofs.TemplateStatements.{are_scoped}
 use Rattle.cir_scope.proofs.Agreement.{IsCovered, Covers, Agrees, wider_covered, covers_more}
 use Rattle.cir_scope.proofs.Lookups.{of_definitions}
 use Rattle.cir_scope.proofs.FreeNames.{IsFreeName, AreFreeNames, IsFreeState, free_variable}
@@ -42,10 +46,6 @@ are_defined names n ds none = record {
 }
 
 -- ---- parameters
-abbrev pub body_scope : (functions parameters : ℕ) → Scope
-body_scope functions n =
-    record { functions = functions; seen = λ k. nat_lt k n; variables = n; signals = 0 }
-
 wider : (names : Lookup) (n : ℕ) → Covers (λ k. nat_lt k n) names
     → Covers (λ k. nat_lt k (n + 1)) names
 wider names n h name =
@@ -109,18 +109,19 @@ free_parameters spot (name ∷ names) st s =
     (λ bs z g. g))
 
 -- ---- bodies
-abbrev pub TemplateFits : Table → (functions parameters : ℕ) → Statements Spot Meant → State
+abbrev pub BodyFits : Table → Position → (functions parameters : ℕ) → Statements Spot Meant → State
     → Type 0
-TemplateFits t functions n xs st =
-    AreStatements t Outermost xs → AreScoped (body_scope functions n) xs
+BodyFits t p functions n xs st =
+    (AreStatements t p xs → AllMayRun (body_scope functions n) xs)
+    × ((behind_all (body_scope functions n) xs).variables ≡ st.variables)
 
-pub given_template : (t : Table) (functions : ℕ) (names : Lookup) (spot : Spot)
+pub given_body : (t : Table) (p : Position) (functions : ℕ) (names : Lookup) (spot : Spot)
     (parameters : List (List ℕ)) (xs : Statements Spot Meant) → functions ≡ length t.functions
     → AreDefined names
-    → OnGiven (TemplateFits t functions (length parameters)) (named_body names spot parameters xs)
-given_template t functions names spot parameters xs all d =
+    → OnGiven (BodyFits t p functions (length parameters)) (named_body names spot parameters xs)
+given_body t p functions names spot parameters xs all d =
     given_behind (Counts t functions (length parameters))
-    (TemplateFits t functions (length parameters))
+    (BodyFits t p functions (length parameters))
     (in_turn (named_parameter spot) (opening names) parameters) (λ bs st. named_statements st xs)
     (given_parameters t functions spot parameters (opening names) (length parameters) record {
       functions = all;
@@ -131,30 +132,63 @@ given_template t functions names spot parameters xs all d =
       inner = λ name. tt;
     } (omega arith))
     (λ bs st c. given_less
-    (scoped.StatementsFit t Outermost (body_scope functions (length parameters)))
-    (TemplateFits t functions (length parameters)) (named_statements st xs)
-    (scoped.given_statements t Outermost (body_scope functions (length parameters)) st tt
+    (scoped.StatementsFit t p (body_scope functions (length parameters)))
+    (BodyFits t p functions (length parameters)) (named_statements st xs)
+    (scoped.given_statements t p (body_scope functions (length parameters)) st
     (subst (λ n. Agrees t (body_scope functions n) st) c.1 c.0) xs)
-    (λ ys after f. f.0))
+    (λ ys after f. (f.0, sym f.1.variables)))
 
-abbrev pub FunctionFits : Table → ℕ → Statements Spot Meant → State → Type 0
-FunctionFits t functions xs st =
-    AreStatements t InFunction xs → AreFreeStatements functions xs
+abbrev pub TemplateFits : Table → (functions parameters : ℕ) → Statements Spot Meant → State
+    → Type 0
+TemplateFits t functions n xs st =
+    (AreStatements t Outermost xs → AreScoped (body_scope functions n) xs)
+    × ((behind_all (body_scope functions n) xs).variables ≡ st.variables)
 
-pub given_function : (t : Table) (functions : ℕ) (names : Lookup) (spot : Spot)
+pub given_template : (t : Table) (functions : ℕ) (names : Lookup) (spot : Spot)
+    (parameters : List (List ℕ)) (xs : Statements Spot Meant) → functions ≡ length t.functions
+    → AreDefined names
+    → OnGiven (TemplateFits t functions (length parameters)) (named_body names spot parameters xs)
+given_template t functions names spot parameters xs all d =
+    given_less (BodyFits t Outermost functions (length parameters))
+    (TemplateFits t functions (length parameters)) (named_body names spot parameters xs)
+    (given_body t Outermost functions names spot parameters xs all d)
+    (λ ys after f. (
+      λ h. are_scoped t Outermost (body_scope functions (length parameters)) ys tt h (f.0 h),
+      f.1,
+    ))
+
+abbrev FreeFits : Table → ℕ → Statements Spot Meant → State → Type 0
+FreeFits t functions xs st = AreStatements t InFunction xs → AreFreeStatements functions xs
+
+given_free : (t : Table) (functions : ℕ) (names : Lookup) (spot : Spot)
     (parameters : List (List ℕ)) (xs : Statements Spot Meant) → functions ≡ length t.functions
     → AreDefined names → AreShapedStatements (plain_statements xs)
-    → OnGiven (FunctionFits t functions) (named_body names spot parameters xs)
-given_function t functions names spot parameters xs all d shaped =
-    given_behind (λ bs after. IsFreeState after) (FunctionFits t functions)
+    → OnGiven (FreeFits t functions) (named_body names spot parameters xs)
+given_free t functions names spot parameters xs all d shaped =
+    given_behind (λ bs after. IsFreeState after) (FreeFits t functions)
     (in_turn (named_parameter spot) (opening names) parameters) (λ bs st. named_statements st xs)
     (free_parameters spot parameters (opening names) record {
       defined = d.free;
       outer = λ name. tt;
       inner = λ name. tt;
     })
-    (λ bs st s. subst (OnGiven (FunctionFits t functions)) (statements_same st xs)
-    (given_less (free.StatementsFit t functions all st) (FunctionFits t functions)
+    (λ bs st s. subst (OnGiven (FreeFits t functions)) (statements_same st xs)
+    (given_less (free.StatementsFit t functions all st) (FreeFits t functions)
     (named_statements st (plain_statements xs))
     (free.given_statements t functions all st (plain_statements xs) shaped)
     (λ ys after f. λ h. (f s h).0)))
+
+abbrev pub FunctionFits : Table → (functions parameters : ℕ) → Statements Spot Meant → State
+    → Type 0
+FunctionFits t functions n xs st =
+    FreeFits t functions xs st × BodyFits t InFunction functions n xs st
+
+pub given_function : (t : Table) (functions : ℕ) (names : Lookup) (spot : Spot)
+    (parameters : List (List ℕ)) (xs : Statements Spot Meant) → functions ≡ length t.functions
+    → AreDefined names → AreShapedStatements (plain_statements xs)
+    → OnGiven (FunctionFits t functions (length parameters)) (named_body names spot parameters xs)
+given_function t functions names spot parameters xs all d shaped =
+    given_both (FreeFits t functions) (BodyFits t InFunction functions (length parameters))
+    (named_body names spot parameters xs)
+    (given_free t functions names spot parameters xs all d shaped)
+    (given_body t InFunction functions names spot parameters xs all d)

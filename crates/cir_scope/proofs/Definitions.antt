@@ -1,6 +1,6 @@
 -- The definitions of files, once their names are resolved.
 use Rattle.std.proofs.Common.{◌≡◌, ℕ, ◌+◌, Bool, true, false, cond, List, [], ◌∷◌, length, Result}
-use Rattle.std.proofs.Common.{Ok, Err, refl, sym, subst}
+use Rattle.std.proofs.Common.{Ok, Err, refl, sym, subst, arith}
 use Rattle.std.specs.Prelude.{map, IfOk, ⊤}
 use Rattle.std.specs.List.{AllByRecursion}
 use Rattle.std.proofs.lemmas.List.{length-map}
@@ -31,6 +31,8 @@ use Rattle.cir_meaning.specs.Scoped.{IsTemplateScoped, IsResolved}
 use Rattle.cir_scope.proofs.Given.{OnGiven, given_behind, given_made}
 use Rattle.cir_scope.proofs.Bodies.{AreDefined, are_defined, TemplateFits, given_template}
 use Rattle.cir_scope.proofs.Bodies.{FunctionFits, given_function}
+use Rattle.cir_scope.specs.Counted.{IsCounted, AreCounted}
+use Rattle.cir_scope.specs.Runnable.{IsRunnable, AreRunnable}
 
 -- ---- as they are written
 abbrev IsShapedDefinition : Definition → Type 0
@@ -57,8 +59,10 @@ shaped_files n (file ∷ files) h =
 
 -- ---- once their names are resolved, where they are used as they may be
 abbrev IsRight : Table → ℕ → Definition → Type 0
-IsRight t functions (IsTemplate d) = checked.IsTemplate t d → IsTemplateScoped functions d
-IsRight t functions (IsFunction d) = checked.IsFunction t d → AreFreeStatements functions d.body
+IsRight t functions (IsTemplate d) =
+    checked.IsTemplate t d → IsTemplateScoped functions d × IsCounted functions d
+IsRight t functions (IsFunction d) =
+    checked.IsFunction t d → AreFreeStatements functions d.body × IsRunnable functions d
 IsRight t functions (IsMain m) = ⊤
 
 right_in : {A : Type 0} (P : Definition → Type 0) (file : ℕ) (kind : A → Definition) (b : Bool)
@@ -71,13 +75,14 @@ right_in P file kind false r spot h = tt
 right_template : (t : Table) (functions : ℕ) (d : Template) (s : Naming (Statements Spot Meant))
     → OnGiven (TemplateFits t functions (length d.parameters)) s
     → IfOk (template_of d s) (λ e. IsRight t functions (IsTemplate e))
-right_template t functions d (Ok given) h = h
+right_template t functions d (Ok given) h = λ k. (h.0 k, omega (arith, h.1))
 right_template t functions d (Err spot) h = tt
 
 right_function : (t : Table) (functions : ℕ) (d : Function) (s : Naming (Statements Spot Meant))
-    → OnGiven (FunctionFits t functions) s
+    → OnGiven (FunctionFits t functions (length d.parameters)) s
     → IfOk (function_of d s) (λ e. IsRight t functions (IsFunction e))
-right_function t functions d (Ok given) h = λ k. h k.1
+right_function t functions d (Ok given) h =
+    λ k. (h.0 k.1, record { scoped = h.1.0 k.1; counted = h.1.1 })
 right_function t functions d (Err spot) h = tt
 
 right_definition : (t : Table) (functions : ℕ) → functions ≡ length t.functions
@@ -126,26 +131,33 @@ given_is P (Err stop) h = tt
 right_templates : (t : Table) (functions : ℕ) (ds : List Definition)
     → AllByRecursion (IsRight t functions) ds → Each (checked.IsTemplate t) (templates_among ds)
     → AllByRecursion (IsTemplateScoped functions) (templates_among ds)
-right_templates t functions [] h u = tt
+    × AllByRecursion (IsCounted functions) (templates_among ds)
+right_templates t functions [] h u = (tt, tt)
 right_templates t functions (IsTemplate d ∷ ds) h u =
-    (h.0 u.0, right_templates t functions ds h.1 u.1)
+    let first = h.0 u.0 in
+    let rest = right_templates t functions ds h.1 u.1 in
+    ((first.0, rest.0), (first.1, rest.1))
 right_templates t functions (IsFunction d ∷ ds) h u = right_templates t functions ds h.1 u
 right_templates t functions (IsMain m ∷ ds) h u = right_templates t functions ds h.1 u
 
 right_functions : (t : Table) (functions : ℕ) (ds : List Definition)
     → AllByRecursion (IsRight t functions) ds → Each (checked.IsFunction t) (functions_among ds)
     → AllByRecursion (λ (f : Function). AreFreeStatements functions f.body) (functions_among ds)
-right_functions t functions [] h u = tt
+    × AllByRecursion (IsRunnable functions) (functions_among ds)
+right_functions t functions [] h u = (tt, tt)
 right_functions t functions (IsTemplate d ∷ ds) h u = right_functions t functions ds h.1 u
 right_functions t functions (IsFunction d ∷ ds) h u =
-    (h.0 u.0, right_functions t functions ds h.1 u.1)
+    let first = h.0 u.0 in
+    let rest = right_functions t functions ds h.1 u.1 in
+    ((first.0, rest.0), (first.1, rest.1))
 right_functions t functions (IsMain m ∷ ds) h u = right_functions t functions ds h.1 u
 
 -- the program of these files' definitions
 pub resolved_program : (names : List (List ℕ)) (files : List (File Spot Meant))
     (ds : List Definition) → AllByRecursion IsShaped (map plain_file files)
     → resolved (definitions_from 0 files) ≡ Ok ds → IsUsed (program_with names ds)
-    → IsResolved (program_with names ds)
+    → IsResolved (program_with names ds) × AreRunnable (program_with names ds)
+    × AreCounted (program_with names ds)
 resolved_program names files ds shaped named used =
     let t : Table = table_of (templates_among ds) (functions_among ds) in
     let functions : ℕ = length (functions_among ds) in
@@ -158,7 +170,9 @@ resolved_program names files ds shaped named used =
     (right_turn t functions all (defined_by nothing first_numbers written)
     (are_defined nothing first_numbers written (λ name. refl)) first_numbers written
     (shaped_files 0 files shaped))) in
-    record {
-      functions = right_functions t functions ds now used.functions;
-      templates = right_templates t functions ds now used.templates;
-    }
+    let of_functions = right_functions t functions ds now used.functions in
+    let of_templates = right_templates t functions ds now used.templates in (
+      record { functions = of_functions.0; templates = of_templates.0 },
+      record { free = of_functions.0; runnable = of_functions.1 },
+      of_templates.1,
+    )

@@ -51,3 +51,8 @@ pub given_less : {X E A : Type 0} (P Q : A → X → Type 0) (s : Step X E A) �
     → ((a : A) (x : X) → P a x → Q a x) → OnGiven Q s
 given_less P Q (Ok given) h so = so given.0 given.1 h
 given_less P Q (Err stop) h so = tt
+
+pub given_both : {X E A : Type 0} (P Q : A → X → Type 0) (s : Step X E A) → OnGiven P s
+    → OnGiven Q s → OnGiven (λ a x. P a x × Q a x) s
+given_both P Q (Ok given) h k = (h, k)
+given_both P Q (Err stop) h k = tt

@@ -5,6 +5,7 @@ pub mod ScopedExprs
 pub mod Unlooped
 pub mod ScopedDeclarations
 pub mod ScopedStatements
+pub mod TemplateStatements
 pub mod FreeNames
 pub mod FreeExprs
 pub mod FreeStatements

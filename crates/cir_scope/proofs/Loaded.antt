@@ -1,4 +1,4 @@
--- A program of sources is resolved.
+-- A program of sources is resolved, its functions may run, and its templates are counted.
 use Rattle.std.proofs.Common.{ℕ, List, [], ◌∷◌, Option, sym, subst}
 use Rattle.std.specs.Prelude.{map, All}
 use Rattle.std.specs.List.{AllByRecursion}
@@ -13,6 +13,11 @@ use Rattle.cir_names.specs.Loading.{IsLoaded, IsOfSources}
 use Rattle.cir_names.specs.Programs.{names_of, IsProgramOf}
 use Rattle.cir_meaning.specs.Scoped.{IsResolved}
 use Rattle.cir_scope.proofs.Definitions.{resolved_program}
+use Rattle.cir_scope.specs.Counted.{AreCounted}
+use Rattle.cir_scope.specs.Runnable.{AreRunnable}
+
+abbrev pub IsWhole : Program → Type 0
+IsWhole p = IsResolved p × AreRunnable p × AreCounted p
 
 abbrev AreShaped : List Source → Type 0
 AreShaped sources = AllByRecursion IsShaped (map (λ s. s.tree) sources)
@@ -24,20 +29,20 @@ shaped_sources P shaped (s ∷ ss) h =
     (shaped s (All-head P s ss h), shaped_sources P shaped ss (All-tail P s ss h))
 
 program_of : (sources : List Source) (p : Program) → AreShaped sources → IsProgramOf sources p
-    → IsResolved p
+    → IsWhole p
 program_of sources p shaped is =
-    subst IsResolved (sym is.is)
+    subst IsWhole (sym is.is)
     (resolved_program (names_of sources) is.trees is.definitions
     (subst (AllByRecursion IsShaped) (sym is.are) shaped) is.named
     (is_used (names_of sources) is.definitions is.faultless))
 
-pub of_sources : (p : Program) → IsOfSources p → IsResolved p
+pub of_sources : (p : Program) → IsOfSources p → IsWhole p
 of_sources p o =
     program_of o.sources p
     (shaped_sources IsDecoded (λ s read. read.1.file.is_tree.shaped) o.sources o.are.read) o.theirs
 
 pub loaded : (files : Contents) (name : List ℕ) (library : Option (List ℕ)) (p : Program)
-    → IsLoaded files name library p → IsResolved p
+    → IsLoaded files name library p → IsWhole p
 loaded files name library p l =
     program_of l.sources p
     (subst AreShaped (sym l.all.parts) (

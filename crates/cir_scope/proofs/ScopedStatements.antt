@@ -1,6 +1,6 @@
--- In a template whose names are used as they may be, each statement is in the scope that those
--- before it leave.
-use Rattle.std.proofs.Common.{◌≡◌, ◌∙◌, Ok, refl, sym, subst}
+-- In a body whose names are used as they may be, each statement is in the scope that those before
+-- it leave.
+use Rattle.std.proofs.Common.{◌≡◌, Ok, refl, subst}
 use Rattle.cir_ast.specs.declared.program.Spot.{Spot}
 use Rattle.cir_ast.specs.declared.program.Meant.{Meant}
 use Rattle.cir_ast.specs.declared.program.Meant.TheVariants as meant
@@ -14,20 +14,18 @@ use Rattle.cir_resolve.specs.Naming.{named_expr, named_assign, named_variable, n
 use Rattle.cir_resolve.specs.Naming.{named_component, named_target, named_first, named_simple}
 use Rattle.cir_resolve.specs.Naming.{named_statement, named_statements}
 use Rattle.cir_checks.specs.declared.positions.Position.{Position}
-use Rattle.cir_checks.specs.declared.positions.Position.TheVariants.{InFunction, Outermost, Inner}
-use Rattle.cir_checks.specs.declared.positions.Position.TheVariants.{Looped}
 use Rattle.cir_checks.specs.Heads.{Table}
 use Rattle.cir_checks.specs.Statements.{inside, in_loop, value_room, other_room}
-use Rattle.cir_checks.specs.Checked.{InTemplate, IsSimple, IsHead, IsStatement, AreStatements}
+use Rattle.cir_checks.specs.Checked.{IsSimple, IsHead, IsStatement, AreStatements}
 use Rattle.cir_meaning.specs.Scoped.{Scope, IsSimpleScoped, behind_simple, IsFirstScoped}
-use Rattle.cir_meaning.specs.Scoped.{behind_first, closed, behind, behind_all, IsScoped, AreScoped}
+use Rattle.cir_meaning.specs.Scoped.{behind_first, closed, behind, behind_all}
 use Rattle.cir_scope.proofs.Given.{OnGiven, given_behind, given_made, given_within, given_declared}
 use Rattle.cir_scope.proofs.Agreement.{Agrees, agrees_component, agrees_entered, agrees_left}
 use Rattle.cir_scope.proofs.ScopedExprs.{meant_expr, meant_inputs, meant_assign, meant_arguments}
 use Rattle.cir_scope.proofs.ScopedExprs.{meant_source}
 use Rattle.cir_scope.proofs.ScopedDeclarations.{VariablesFit, given_variables, SignalsFit}
 use Rattle.cir_scope.proofs.ScopedDeclarations.{given_signals, given_components}
-use Rattle.cir_scope.proofs.Unlooped.{first_still, still}
+use Rattle.cir_scope.specs.Runnable.{MayRun, AllMayRun}
 
 abbrev SimpleFits : Table → Position → Scope → Simple Meant → State → Type 0
 SimpleFits t p s x after =
@@ -80,16 +78,16 @@ given_first t p spot s st a (FirstAssign x) = (λ h. meant_assign t s st a p x h
 
 abbrev pub StatementFits : Table → Position → Scope → Statement Spot Meant → State → Type 0
 StatementFits t p s x after =
-    (IsStatement t p x → IsScoped s x) × Agrees t (behind s x) after
+    (IsStatement t p x → MayRun s x) × Agrees t (behind s x) after
 
 abbrev pub StatementsFit : Table → Position → Scope → Statements Spot Meant → State → Type 0
 StatementsFit t p s xs after =
-    (AreStatements t p xs → AreScoped s xs) × Agrees t (behind_all s xs) after
+    (AreStatements t p xs → AllMayRun s xs) × Agrees t (behind_all s xs) after
 
 -- a part that is a block of its own
 abbrev PartFits : Table → Position → Scope → Statement Spot Meant → State → Type 0
 PartFits t p s x after =
-    (IsStatement t p x → IsScoped s x) × Agrees t (closed s (behind s x)) after
+    (IsStatement t p x → MayRun s x) × Agrees t (closed s (behind s x)) after
 
 -- from what its statement gives and leaves
 part_fits : {N : Type 0} (t : Table) (p : Position) (s : Scope) (st : State) (x : Statement Spot N)
@@ -101,93 +99,64 @@ part_fits t p s st x a so =
 
 abbrev BlockFits : Table → Position → Scope → Statements Spot Meant → State → Type 0
 BlockFits t p s xs after =
-    (AreStatements t p xs → AreScoped s xs) × Agrees t (closed s (behind_all s xs)) after
-
-inside_template : (p : Position) → InTemplate p → InTemplate (inside p)
-inside_template InFunction i = i
-inside_template Outermost i = tt
-inside_template Inner i = tt
-inside_template Looped i = tt
-
-looped : (p : Position) → InTemplate p → in_loop p ≡ Looped
-looped InFunction i = absurd i
-looped Outermost i = refl
-looped Inner i = refl
-looped Looped i = refl
-
-no_function : (p : Position) → InTemplate p → p ≡ InFunction → ⊥
-no_function InFunction i e = i
-no_function Outermost i e = cc
-no_function Inner i e = cc
-no_function Looped i e = cc
-
-still_in_loop : (t : Table) (p : Position) (s : Scope) (x : Statement Spot Meant) → InTemplate p
-    → IsStatement t (in_loop p) x → (behind s x).signals ≡ s.signals
-still_in_loop t p s x i h = still t s x (subst (λ q. IsStatement t q x) (looped p i) h)
-
-in_loop_template : (p : Position) → InTemplate p → InTemplate (in_loop p)
-in_loop_template p i = subst InTemplate (sym (looped p i)) tt
+    (AreStatements t p xs → AllMayRun s xs) × Agrees t (closed s (behind_all s xs)) after
 
 -- of a `for`: its state at the end of a block in it, and the scope behind all of it
 abbrev LoopFits : Table → Position → Scope → (Scope → Scope) → Statement Spot Meant → State
     → Type 0
 LoopFits t p s around x end =
-    (IsStatement t p x → IsScoped s x)
+    (IsStatement t p x → MayRun s x)
     × ((r : Scope) × Agrees t r end × (closed s (around r) ≡ behind s x))
 
 mutual
   pub given_statement : {N : Type 0} (t : Table) (p : Position) (s : Scope) (st : State)
-      → InTemplate p → Agrees t s st → (x : Statement Spot N)
+      → Agrees t s st → (x : Statement Spot N)
       → OnGiven (StatementFits t p s) (named_statement st x)
-  given_statement t p s st i a (Block spot ss) =
+  given_statement t p s st a (Block spot ss) =
       given_made (BlockFits t (inside p) s) (StatementFits t p s) (Block spot)
       (within st (λ inner. named_statements inner ss))
       (given_within (StatementsFit t (inside p) s) (BlockFits t (inside p) s) st
       (λ inner. named_statements inner ss)
-      (given_statements t (inside p) s (entered st) (inside_template p i)
+      (given_statements t (inside p) s (entered st)
       (agrees_entered t s st a) ss)
       (λ xs after f. (f.0, agrees_left t s (behind_all s xs) st after a f.1)))
       (λ xs after f. f)
-  given_statement t p s st i a (If spot c x) =
+  given_statement t p s st a (If spot c x) =
       given_made (PartFits t (inside p) s) (StatementFits t p s) (If spot (named_expr st c))
       (within st (λ inner. named_statement inner x))
       (part_fits t (inside p) s st x a
-      (given_statement t (inside p) s (entered st) (inside_template p i)
+      (given_statement t (inside p) s (entered st)
       (agrees_entered t s st a) x))
       (λ y after f. (λ h. (meant_expr t s st a (other_room p) c h.0, f.0 h.1), f.1))
-  given_statement t p s st i a (IfElse spot c x y) =
+  given_statement t p s st a (IfElse spot c x y) =
       given_behind (PartFits t (inside p) s) (StatementFits t p s)
       (within st (λ inner. named_statement inner x))
       (λ x' after. made (IfElse spot (named_expr st c) x')
       (within after (λ inner. named_statement inner y)))
       (part_fits t (inside p) s st x a
-      (given_statement t (inside p) s (entered st) (inside_template p i)
+      (given_statement t (inside p) s (entered st)
       (agrees_entered t s st a) x))
       (λ x' after f. given_made (PartFits t (inside p) (closed s (behind s x')))
       (StatementFits t p s) (IfElse spot (named_expr st c) x')
       (within after (λ inner. named_statement inner y))
       (part_fits t (inside p) (closed s (behind s x')) after y f.1
       (given_statement t (inside p) (closed s (behind s x')) (entered after)
-      (inside_template p i) (agrees_entered t (closed s (behind s x')) after f.1) y))
+      (agrees_entered t (closed s (behind s x')) after f.1) y))
       (λ y' end g. (
         λ h. (meant_expr t s st a (other_room p) c h.0, f.0 h.1, g.0 h.2),
         g.1,
       )))
-  given_statement t p s st i a (While spot c x) =
+  given_statement t p s st a (While spot c x) =
       given_made (PartFits t (in_loop p) s) (StatementFits t p s) (While spot (named_expr st c))
       (within st (λ inner. named_statement inner x))
       (part_fits t (in_loop p) s st x a
-      (given_statement t (in_loop p) s (entered st) (in_loop_template p i)
+      (given_statement t (in_loop p) s (entered st)
       (agrees_entered t s st a) x))
       (λ y after f. (
-        λ h. (
-          meant_expr t s st a (other_room p) c h.0,
-          f.0 h.1,
-          still_in_loop t p s y i h.1,
-        ),
+        λ h. (meant_expr t s st a (other_room p) c h.0, f.0 h.1),
         f.1,
       ))
-  given_statement t p s st i a (For spot first_spot f c step_spot x body) =
+  given_statement t p s st a (For spot first_spot f c step_spot x body) =
       given_within (LoopFits t p s (λ r. r)) (StatementFits t p s) st
       (λ head. and_then (named_first first_spot head f) (λ f' after.
       within after (λ inner. and_then (named_statement inner body) (λ y end.
@@ -206,7 +175,7 @@ mutual
       (named_statement (entered after) body)
       (λ y end.
       Ok (For spot first_spot f' (named_expr after c) step_spot (named_assign end x) y, end))
-      (given_statement t (in_loop p) (behind_first s f') (entered after) (in_loop_template p i)
+      (given_statement t (in_loop p) (behind_first s f') (entered after)
       (agrees_entered t (behind_first s f') after g.1) body)
       (λ y end k. (
         λ h. (
@@ -214,7 +183,6 @@ mutual
           meant_expr t (behind_first s f') after g.1 (other_room p) c h.1,
           k.0 h.3,
           meant_assign t (behind (behind_first s f') y) end k.1 p x h.2,
-          still_in_loop t p (behind_first s f') y i h.3 ∙ first_still s f',
         ),
         (behind (behind_first s f') y, k.1, refl),
       )))
@@ -230,24 +198,25 @@ mutual
         k.0,
         subst (λ r. Agrees t r (left st end)) k.1.2 (agrees_left t s k.1.0 st end a k.1.1),
       ))
-  given_statement t p s st i a (Return spot e) = (λ h. no_function p i h.0, a)
-  given_statement t p s st i a (Assert spot e) =
+  given_statement t p s st a (Return spot e) =
+      (λ h. meant_expr t s st a (other_room p) e h.1, a)
+  given_statement t p s st a (Assert spot e) =
       (λ h. meant_expr t s st a (other_room p) e h, a)
-  given_statement t p s st i a (Log spot arguments) =
+  given_statement t p s st a (Log spot arguments) =
       (λ h. meant_arguments t s st a p arguments h.1, a)
-  given_statement t p s st i a (Ended spot x) =
+  given_statement t p s st a (Ended spot x) =
       given_made (SimpleFits t p s) (StatementFits t p s) (Ended spot) (named_simple spot st x)
       (given_simple t p spot s st a x) (λ y after f. f)
 
   pub given_statements : {N : Type 0} (t : Table) (p : Position) (s : Scope) (st : State)
-      → InTemplate p → Agrees t s st → (xs : Statements Spot N)
+      → Agrees t s st → (xs : Statements Spot N)
       → OnGiven (StatementsFit t p s) (named_statements st xs)
-  given_statements t p s st i a empty = (λ h. tt, a)
-  given_statements t p s st i a (then_more x xs) =
+  given_statements t p s st a empty = (λ h. tt, a)
+  given_statements t p s st a (then_more x xs) =
       given_behind (StatementFits t p s) (StatementsFit t p s) (named_statement st x)
       (λ y after. made (then_more y) (named_statements after xs))
-      (given_statement t p s st i a x)
+      (given_statement t p s st a x)
       (λ y after f. given_made (StatementsFit t p (behind s y)) (StatementsFit t p s)
       (then_more y) (named_statements after xs)
-      (given_statements t p (behind s y) after i f.1 xs)
+      (given_statements t p (behind s y) after f.1 xs)
       (λ ys end g. (λ h. (f.0 h.0, g.0 h.1), g.1)))

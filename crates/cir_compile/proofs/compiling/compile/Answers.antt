@@ -3,7 +3,7 @@ use Rattle.cir_compile.proofs.Meaning.{not_loaded, not_written, compiled}
 use Rattle.cir_compile.proofs.compiling.compile.Goals as goal
 
 pub written-requires-clause-free : goal.written-requires-clause-free
-written-requires-clause-free g c = (of_sources _ c.in_ok-program.ensures.theirs).functions
+written-requires-clause-free g c = (of_sources _ c.in_ok-program.ensures.theirs).0.functions
 
 pub returns-in_err-program-clause-compiles : goal.returns-in_err-program-clause-compiles
 returns-in_err-program-clause-compiles g c =

@@ -3,6 +3,6 @@ use Rattle.cir_scope.proofs.laws.loaded_programs_are_resolved.Goals as goal
 
 pub returns : goal.returns
 returns c = record {
-  any = λ p. of_sources p;
-  loaded = λ files name library p. loaded_program files name library p;
+  any = λ p o. (of_sources p o).0;
+  loaded = λ files name library p l. (loaded_program files name library p l).0;
 }

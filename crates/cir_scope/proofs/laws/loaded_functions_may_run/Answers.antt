@@ -1,0 +1,8 @@
+use Rattle.cir_scope.proofs.Loaded.{of_sources, loaded as loaded_program}
+use Rattle.cir_scope.proofs.laws.loaded_functions_may_run.Goals as goal
+
+pub returns : goal.returns
+returns c = record {
+  any = λ p o. (of_sources p o).1;
+  loaded = λ files name library p l. (loaded_program files name library p l).1;
+}
