@@ -32,7 +32,7 @@ swapped true true c = refl
 swapped true false c = refl
 swapped false b c = refl
 
-moved : {A : Type 0} (test : A → Bool) (x : A) (xs ys : List A)
+pub moved : {A : Type 0} (test : A → Bool) (x : A) (xs ys : List A)
     → list_any test ((x ∷ xs) ++ ys) ≡ list_any test (xs ++ x ∷ ys)
 moved test x [] ys = refl
 moved test x (z ∷ xs) ys =

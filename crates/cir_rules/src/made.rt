@@ -8,7 +8,7 @@ ghost use Rattle.cir_rules.specs.Queue.{with_new};
 use std::alloc::{AllocError, Global};
 
 /// A call that is made when a statement runs: the function, and the dimensions of its arguments.
-#[derive(Debug, Drop)]
+#[derive(Drop)]
 pub struct Made {
     pub function: u32,
     pub shapes: Vec<Vec<u64>>,

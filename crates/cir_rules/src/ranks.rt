@@ -20,7 +20,7 @@ use std::alloc::{AllocError, Global};
 const MOST_RANK: u64 = 300;
 
 /// A function with the rank of each argument.
-#[derive(Debug, Drop)]
+#[derive(Drop)]
 pub struct RankedCall {
     pub function: u32,
     pub ranks: Vec<u64>,

@@ -22,7 +22,7 @@ use std::alloc::{AllocError, Global};
 const MOST_ELEMENTS: u64 = 65536;
 
 /// What the rules say of the functions that calls reach.
-#[derive(Clone, Copy, Debug, PartialEq, Eq)]
+#[derive(Clone, Copy)]
 pub enum Verdict {
     /// A rule is broken.
     Faulty(Kind),

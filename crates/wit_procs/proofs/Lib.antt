@@ -1,0 +1,9 @@
+pub mod Given
+pub mod FittingExprs
+pub mod FittingStatements
+pub mod FittingBodies
+pub mod KeyLists
+pub mod JudgedKeys
+pub mod MadeKeys
+pub mod Tables
+pub mod Adding
