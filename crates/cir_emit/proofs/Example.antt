@@ -2,7 +2,7 @@
 -- the old element, and the code gives what the step gives.
 use Rattle.std.proofs.Common.{◌≡◌, ℕ, Bool, true, false, cond, List, [], ◌∷◌, map, Option, Some}
 use Rattle.std.proofs.Common.{None, Ok, Err, refl, sym, ap, subst, ◌∙◌, arith, inl, inr, ◌⊎◌}
-use Rattle.std.specs.Prelude.{slice_get, if◌then◌else◌, ◌==◌, ◌&&◌}
+use Rattle.std.specs.Prelude.{slice_get, if◌then◌else◌, ◌==◌, ◌&&◌, ◌||◌}
 use Rattle.std.proofs.lemmas.Bool.{and_parts, eqb-true}
 use Rattle.wit_code.specs.declared.code.Proc.{Proc}
 use Rattle.wit_code.specs.Table.{Over, Wrote, exec, start_of}
@@ -26,6 +26,8 @@ use Rattle.wit_lower.specs.Tasks.{step_ground, step_code}
 use Rattle.wit_lower.specs.Steps.{StepFits}
 use Rattle.wit_lower.proofs.Names.{same_name_is}
 use Rattle.cir_emit.specs.Tasks.{step_task}
+use Rattle.cir_emit.specs.Sourced.{IsThere, HasHome, AreSourcesOf}
+use Rattle.std.specs.List.{list_any}
 use Rattle.cir_emit.specs.Lowered.{HasArray, IsLoweredStep}
 
 abbrev variable : ℕ → Expr Meant
@@ -281,6 +283,41 @@ fits = record {
     },
     (record { home = home_at 0 (2 ∷ []); found = refl; within = omega arith }, tt),
   );
+}
+
+-- the sources are shown to be the step's
+abbrev There : Name → Type 0
+There = IsThere step sources.components
+
+target_home : (n : ℕ) → list_any (λ m. m == n) (0 ∷ []) ≡ true
+    → HasHome There (scope_of sources).homes (Variable n)
+target_home n e = at (0 == n) refl e
+  where
+    at : (b : Bool) → (0 == n) ≡ b → (b || false) ≡ true
+        → HasHome There (scope_of sources).homes (Variable n)
+    at true eb f =
+        subst (λ m. HasHome There (scope_of sources).homes (Variable m)) (eqb-true 0 n eb)
+        (λ less. (home_at 0 (2 ∷ []), refl))
+    at false eb f = cc
+
+shown : AreSourcesOf keys step sources
+shown = record {
+  shapes = fits.shapes;
+  list = fits.list;
+  arrays = arrays;
+  components = record { outside = lowered.outside; inside = λ n indices name e. cc };
+  called = λ e. refl;
+  has = (
+    (
+      (λ less. (home_at 0 (2 ∷ []), refl)),
+      ((λ less. (home_at 2 [], refl)), tt),
+      ((tt, (λ less. (home_at 0 (2 ∷ []), refl))), (λ there. (home_at 3 [], refl))),
+    ),
+    (λ n e. cc),
+    target_home,
+  );
+  loaded = lowered.loaded;
+  reads = lowered.reads;
 }
 
 -- what it gives, and what its code gives

@@ -210,7 +210,7 @@ module _ (g : Ground) (homes : Homes) (env : Environment) (store : Store)
   called_long A None p u m x ep fits h e = h (sym (ap (λ q. unless_known q u m) ep) ∙ e)
   called_long A (Some d) p u m x ep fits h e =
       given d.dims d u x
-      record { dims_are = refl; long = fits.count ∙ sym (slots_are d.dims fits.small) }
+      record { dims_are = refl; long = fits.count }
       (sym (ap (λ q. unless_known q u m) ep) ∙ e)
 
   no_port : (rest : Accessors Meant) (known : List (Option ℕ))

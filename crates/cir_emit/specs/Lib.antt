@@ -1,3 +1,4 @@
 pub mod Tasks
 pub mod Reads
 pub mod Lowered
+pub mod Sourced

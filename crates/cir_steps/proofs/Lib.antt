@@ -67,6 +67,7 @@ pub mod StartLaw
 pub mod OwnCells
 pub mod RunningLaw
 pub mod ReadOrigins
+pub mod Wide
 pub mod ReadWalk
 pub mod ReadCells
 pub mod ReadSources

@@ -7,7 +7,7 @@ use Rattle.std.proofs.lemmas.Bool.{ltb-true}
 use Rattle.cir_ast.specs.declared.operators.Direction.{Direction}
 use Rattle.cir_ast.specs.declared.refusal.Kind.TheVariants.{WrongKind, NeverWritten}
 use Rattle.cir_ast.specs.Program.{Program, Template}
-use Rattle.cir_meaning.specs.Scoped.{Scope, IsResolved, IsTemplateScoped}
+use Rattle.cir_meaning.specs.Scoped.{Scope, IsResolved, IsTemplateScoped, behind_all}
 use Rattle.cir_meaning.specs.Tried.{Tried, next, refused, found}
 use Rattle.cir_meaning.specs.Arrays.{Datum}
 use Rattle.cir_meaning.specs.Frame.{SignalEntry, Signals, Sizes, Group, World, Maker, Context}
@@ -39,7 +39,9 @@ use Rattle.cir_steps.proofs.Casting.{Fits as FitsAs, leaves as all_leaves, blank
 use Rattle.cir_steps.proofs.Casting.{casts_fit}
 use Rattle.cir_steps.proofs.Total.{anything}
 use Rattle.cir_steps.proofs.CallsRise.{calls_rise}
-use Rattle.cir_steps.proofs.ReadWalk.{Leaves, Gives, go_all}
+use Rattle.cir_steps.proofs.ReadWalk.{Quiet, Leaves, Gives, go_all}
+use Rattle.cir_steps.proofs.Still.{Still, still_itself, counted_still, dims_still, component_still}
+use Rattle.cir_steps.proofs.Still.{dropped_still, condition_still}
 use Rattle.cir_steps.proofs.ReadCells.{In, Holds}
 use Rattle.cir_steps.proofs.ReadLeaves.{same_ok, Moved, Moves, moves_still, moves_join, equal_leaf}
 use Rattle.cir_steps.proofs.ReadLeaves.{assert_leaf, line_leaf, set_leaf}
@@ -85,7 +87,7 @@ none_covers : (m count : ℕ) → cover_entries m (replicate count None) ≡ 0
 none_covers m zero = refl
 none_covers m (suc count) = none_covers m count
 
-abbrev cast_of : Emitted → Cast
+abbrev pub cast_of : Emitted → Cast
 cast_of y = record {
   own = y.state.cells.own;
   inside = port_tables (known_in y.state).frame.parts y.state.cells.parts;
@@ -180,21 +182,37 @@ module _ (p : Program) (resolved : IsResolved p) (places : ArePlacesMeant p) (si
   abbrev AnyCast : (start : ℕ) → World → Signals × World → Cast → Type 0
   AnyCast start world z o = ⊤
 
-  leaves_of : (q : Emitting) → CallBoth q.context.call → CallKeeps q.context.call
+  leaves_of : (variables : ℕ) (q : Emitting) → CallBoth q.context.call → CallKeeps q.context.call
       → q.context.group_size ≡ size
       → ((make : Maker) → q.context.make ≡ Some make → CastsWell size final make q.cast)
-      → Leaves functions q (Moves size final)
-  leaves_of q both calls sized well = record {
+      → Leaves functions variables q Still (Moves size final)
+  leaves_of variables q both calls sized well = record {
     still = moves_still size final;
     joins = moves_join size final;
     declared = declared_moves size final few q.context sized;
-    set = set_leaf size final room q both calls;
-    wired = wired_leaf size final room q both calls;
+    set = λ w written n accessors e x is none.
+        set_leaf size final room q both calls w written n accessors e x none;
+    wired = λ w written m accessors arrow e x is place.
+        wired_leaf size final room q both calls w written m accessors arrow e x place;
     created = created_leaf size final room q both calls well;
-    equal = equal_leaf size final room q both calls;
-    assertion = assert_leaf size final room q both calls;
-    line = line_leaf size final room q both calls;
-    undecided = undecided_leaf size final room q both calls functions;
+    equal = λ w a b x is_a is_b. equal_leaf size final room q both calls w a b x;
+    assertion = λ w e x is. assert_leaf size final room q both calls w e x;
+    line = λ w arguments x are. line_leaf size final room q both calls w arguments x;
+    undecided = λ scope spot fault a x sounds is places le.
+        undecided_leaf size final room q both calls functions scope spot fault a x sounds is places;
+  }
+
+  quiet_still : (q : Emitting) → CallKeeps q.context.call → Quiet q Still
+  quiet_still q calls = record {
+    still = λ f s h. h;
+    itself = still_itself;
+    counted = λ spot s. counted_still s (place_at q.context spot) s (still_itself s);
+    dims = λ w es s. dims_still s q.context calls w false es s (still_itself s);
+    variable = λ n dims f s h. h;
+    component = λ n name dims s. (refl, refl, refl);
+    components = λ w c s. component_still s q.context calls w c s (still_itself s);
+    dropped = λ w e s. dropped_still s q.context calls w e s (still_itself s);
+    condition = λ spot c s. condition_still s q.context calls spot c s (still_itself s);
   }
 
   -- a body whose components have steps as they should
@@ -223,11 +241,14 @@ module _ (p : Program) (resolved : IsResolved p) (places : ArePlacesMeant p) (si
         × (cast_so two.0 u ≡ Ok o) =
         next_to (ended k (known_in two.0.state)) (cast_so two.0) o two.2 in
         let same : cast_of two.0 ≡ o = same_ok (cast_of two.0) o three.2 in
-        let moves : Gives functions q keeps (Moves size final) leaves [] begun two.0 =
-        good_is (Gives functions q keeps (Moves size final) leaves [] begun)
+        let moves : Gives functions variables q Still quiet (Moves size final) leaves [] begun
+        two.0 =
+        good_is (Gives functions variables q Still quiet (Moves size final) leaves [] begun)
         (emit_all q t.body begun) two.0 two.1
-        (go_all functions q keeps (Moves size final) leaves t.body (plain n t there).0 scope sounds
+        (go_all functions variables q Still quiet (Moves size final) leaves t.body
+        (plain n t there).0 scope sounds
         (all_get (IsTemplateScoped functions) p.templates n t resolved.templates there)
+        (omega arith)
         (all_get (λ (t : Template). AllHavePlaces t.body) p.templates n t places there) [] begun
         clear) in
         subst (λ c. (Fits z.1.sizes × Less world.sizes z.1.sizes)
@@ -255,9 +276,6 @@ module _ (p : Program) (resolved : IsResolved p) (places : ArePlacesMeant p) (si
         clear : Clear (all_declare t.body []) (known_in begun)
         clear = blank_clear (all_declare t.body []) t.signals (plain n t there).1
 
-        leaves : Leaves functions q (Moves size final)
-        leaves = leaves_of q twice keeps refl well
-
         scope : Scope
         scope = record {
           functions = functions;
@@ -268,6 +286,15 @@ module _ (p : Program) (resolved : IsResolved p) (places : ArePlacesMeant p) (si
 
         sounds : IsSound functions scope
         sounds = record { count = refl; below = λ n e. ltb-true n (length t.parameters) e }
+
+        variables : ℕ
+        variables = (behind_all scope t.body).variables
+
+        quiet : Quiet q Still
+        quiet = quiet_still q keeps
+
+        leaves : Leaves functions variables q Still (Moves size final)
+        leaves = leaves_of variables q twice keeps refl well
 
         cast_so : Emitted → Signals × World → Tried Cast
         cast_so y u = Ok (cast_of y)

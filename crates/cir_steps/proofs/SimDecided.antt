@@ -65,7 +65,7 @@ into_rising Q n (m ∷ ms) q h = at (nat_lt n m) (n == m) (into_rising Q n ms q 
     at false true g = h
     at false false g = (h.0, g)
 
-all_rising : (Q : ℕ → Type 0) (ns : List ℕ) → AllByRecursion Q ns → AllByRecursion Q (rising ns)
+pub all_rising : (Q : ℕ → Type 0) (ns : List ℕ) → AllByRecursion Q ns → AllByRecursion Q (rising ns)
 all_rising Q [] h = tt
 all_rising Q (n ∷ ns) h = into_rising Q n (rising ns) h.0 (all_rising Q ns h.1)
 

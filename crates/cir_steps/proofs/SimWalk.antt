@@ -13,8 +13,7 @@ use Rattle.cir_ast.specs.Tree.{Assign, Set, Compound, Left, Increment, Decrement
 use Rattle.cir_ast.specs.Tree.{SlotPlace, SlotDiscard, Target, Discard, Slots, Simple, Vars}
 use Rattle.cir_ast.specs.Tree.{Signals, Declared, Created, Assigned, Constrain, Right, TargetLeft}
 use Rattle.cir_ast.specs.Tree.{TargetRight, Alone, Statement, Block, If, IfElse, While, For, Return}
-use Rattle.cir_ast.specs.Tree.{Assert, Log, Ended, Statements, empty, then_more, Source, One}
-use Rattle.cir_ast.specs.Tree.{Values}
+use Rattle.cir_ast.specs.Tree.{Assert, Log, Ended, Statements, empty, then_more}
 use Rattle.cir_meaning.specs.Tried.{Where, Tried, next}
 use Rattle.cir_meaning.specs.Arrays.{Scalar, the_item}
 use Rattle.cir_meaning.specs.Values.{Value}
@@ -33,7 +32,7 @@ use Rattle.cir_meaning.specs.RunBodies as run'
 use Rattle.cir_meaning.proofs.Good.{good_is}
 use Rattle.cir_meaning.proofs.Likes.{CallKeeps, like_itself, value_like}
 use Rattle.cir_meaning.specs.Scoped.{Scope, AreCallsMeant, IsSetMeant, IsAssignMeant}
-use Rattle.cir_meaning.specs.Scoped.{IsSignalValueMeant, IsSourceMeant}
+use Rattle.cir_meaning.specs.Scoped.{IsSignalValueMeant}
 use Rattle.cir_meaning.proofs.ScopeLaws.{set_meant}
 use Rattle.cir_meaning.proofs.ScopedQuiet.{everything}
 use Rattle.cir_meaning.proofs.LiftedStatements.{IsLifted, LiftsTo, IsWide, LiftedAs, simple_lifted}
@@ -46,6 +45,7 @@ use Rattle.cir_steps.specs.Emission.{made_elements, with_signal}
 use Rattle.cir_steps.specs.Making.{Caster, Emitting}
 use Rattle.cir_steps.specs.Emit as emit
 use Rattle.cir_steps.specs.Statements as emit'
+use Rattle.cir_steps.proofs.Wide.{lifted_wide, values_meant}
 use Rattle.cir_steps.proofs.Simulation.{Calm, calm_like, calm_then, running, emitting, Sim}
 use Rattle.cir_steps.proofs.Simulation.{sim_quiet, sim_bad, sim_calm, sim_same, sim_known, sim_then}
 use Rattle.cir_steps.proofs.Simulation.{sim_each, sim_number, sim_decided}
@@ -164,27 +164,6 @@ module _ (k : Context) (keeps : CallKeeps k.call) (fuel : ℕ) (call : Calling) 
         (run.run_each f as') (emit.emit_each g as') (h a r x is.0)
         (λ r' x'. each_sim Q f g as' r' x' is.1 h)
 
-    lifted_wide : (y : Simple Meant) → IsLifted All y → Wide y
-    lifted_wide (Created name m a) h = tt
-    lifted_wide (Assigned (Left name m accessors arrow a)) h = h
-    lifted_wide (Assigned (Set name m accessors a)) h = absurd h
-    lifted_wide (Assigned (Compound name m accessors op a)) h = absurd h
-    lifted_wide (Assigned (Increment name m accessors)) h = absurd h
-    lifted_wide (Assigned (Decrement name m accessors)) h = absurd h
-    lifted_wide (Vars vs) h = absurd h
-    lifted_wide (Signals d ys) h = absurd h
-    lifted_wide (Declared cs) h = absurd h
-    lifted_wide (Constrain a b) h = absurd h
-    lifted_wide (Right a arrow name m accessors) h = absurd h
-    lifted_wide (TargetLeft target arrow source) h = absurd h
-    lifted_wide (TargetRight source arrow target) h = absurd h
-    lifted_wide (Alone parallel name m arguments inputs) h = absurd h
-
-    values_meant : (source : Source Meant) → IsSourceMeant All source
-        → AllByRecursion (AreCallsMeant All) (simple.values_of source)
-    values_meant (One a) h = (h, tt)
-    values_meant (Values es) h = h
-
     initial_sim : (w : Where) (m : Meant) (o : Option (Expr Meant)) (r : Run) (x : Emission)
         → ((a : Expr Meant) → o ≡ Some a → IsSetMeant All m done a)
         → Beside' r x (run.run_initial q w m o r)
@@ -294,7 +273,8 @@ module _ (k : Context) (keeps : CallKeeps k.call) (fuel : ℕ) (call : Calling) 
     execute_sim spot (Assigned a) r x te = assigned_sim (at k spot) a r x te
     execute_sim spot (Constrain a b) r x te = leaves.compared (at k spot) a b r x
     execute_sim spot (TargetLeft target arrow source) r x te =
-        tuple_sim (at k spot) arrow target (simple.values_of source) r x (values_meant source te)
+        tuple_sim (at k spot) arrow target (simple.values_of source) r x
+        (values_meant All source te)
     execute_sim spot (Right a arrow name m accessors) r x te = sim_bad k fuel call body cast r x _ _
     execute_sim spot (TargetRight source arrow target) r x te =
         sim_bad k fuel call body cast r x _ _
@@ -321,7 +301,7 @@ module _ (k : Context) (keeps : CallKeeps k.call) (fuel : ℕ) (call : Calling) 
         sim_then k fuel call body cast r x _ _ (run.run_execute_counted q spot l.value)
         (emit.emit_execute_counted e spot l.value)
         (each_sim (IsLifted All) _ _ l.before r x its.0
-        (λ y r1 x1 h. one_sim spot y r1 x1 (lifted_wide y h)))
+        (λ y r1 x1 h. one_sim spot y r1 x1 (lifted_wide All k.program k.named_components y h)))
         (λ r1 x1. one_sim spot l.value r1 x1 its.1.0)
 
     condition_sim : (spot : Spot) (c : Expr Meant) (f t u : Run → RunTried Run)

@@ -315,7 +315,6 @@ given_fits = record {
       home = array;
       found = refl;
       value = record {
-        small = refl;
         count = refl;
         numbers = All-from_recursion (λ n. n < P) (4 ∷ 5 ∷ 6 ∷ [])
             (omega arith, (omega arith, (omega arith, tt)));

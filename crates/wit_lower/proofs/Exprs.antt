@@ -40,7 +40,7 @@ use Rattle.wit_lower.proofs.Spots.{Spot, here, body_at, IsWide, step_at, at_stat
 use Rattle.wit_lower.proofs.Pieces.{bounds_do, constants_go}
 use Rattle.wit_lower.proofs.Shows.{Carries, CarriesSome, CarriesFound, Shows, Lies, lies}
 use Rattle.wit_lower.proofs.Shows.{shows_below}
-use Rattle.wit_lower.proofs.Parts.{Valued, stored_does, wired_does, slots_are, rows_made}
+use Rattle.wit_lower.proofs.Parts.{Valued, stored_does, wired_does, rows_made}
 use Rattle.wit_lower.proofs.Operators.{Moved, valued_moved, valued_number, valued_later}
 use Rattle.wit_lower.proofs.Operators.{number_does, either_does, put_number, unless_map, lazy_does}
 
@@ -506,7 +506,7 @@ module _ (k : Setting) (sp : Spot) (params : ℕ → ℕ) (width : ℕ)
         is = refl;
         same = record { size = c.size; under = c.under };
         value = ap (λ xs. record { dims = d.dims; items = xs }) (sym c.row_is ∙
-            ap (row f1 top) (fits.count ∙ sym (slots_are d.dims fits.small)));
+            ap (row f1 top) fits.count);
         less = omega arith;
       })
 

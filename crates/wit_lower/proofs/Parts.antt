@@ -53,7 +53,8 @@ fold_more a b [] h = h
 fold_more a b (d ∷ ds) h = fold_more (max a d) (max b d) ds (omega arith)
 
 -- a list of arrays that are too large is too large
-pub all_large : (n : ℕ) (dims : List ℕ) → is_too_large dims ≡ true → is_too_large (suc n ∷ dims) ≡ true
+pub all_large : (n : ℕ) (dims : List ℕ) → is_too_large dims ≡ true
+    → is_too_large (suc n ∷ dims) ≡ true
 all_large n dims large =
     let less : 1048576 < max (elements dims) (fold max 0 dims) =
     ltb-true 1048576 (max (elements dims) (fold max 0 dims)) large in

@@ -38,10 +38,9 @@ pub record HasKey (keys : List Made) (key : Made) : Type 0 where
   pub function : found.function ≡ key.function
   pub shapes : found.shapes ≡ key.shapes
 
--- a value has all its elements, which are numbers of the field, and is not too large
+-- a value has all its elements, or none where it is too large; they are numbers of the field
 pub record AreNumbers (d : Numbers) : Type 0 where
-  pub small : is_too_large d.dims ≡ false
-  pub count : length d.items ≡ elements d.dims
+  pub count : length d.items ≡ slots_of d.dims
   pub numbers : All (λ n. n < P) d.items
 
 -- of a call that has its value already no argument has to fit, and it has no key
