@@ -4,3 +4,5 @@ pub mod Following
 pub mod Lowered
 pub mod Cutting
 pub mod Telling
+pub mod Coded
+pub mod Making

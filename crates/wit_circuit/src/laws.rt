@@ -9,6 +9,7 @@ ghost use Rattle.cir_meaning.specs.Compile.{Circuit as Compiled, compiled};
 ghost use Rattle.cir_meaning.specs.RunBodies.{ran};
 ghost use Rattle.cir_meaning.specs.Scoped.{IsResolved};
 ghost use Rattle.cir_meaning.specs.RunStatements.{run_call};
+ghost use Rattle.cir_scope.specs.Counted.{AreCounted};
 ghost use Rattle.cir_steps.specs.Step.{Step};
 ghost use Rattle.cir_steps.specs.Circuit.{Circuit, circuit_of};
 ghost use Rattle.cir_steps.specs.Places.{ArePlacesMeant};
@@ -25,6 +26,7 @@ ghost use Rattle.wit_lower.specs.Steps.{StepFits};
 ghost use Rattle.wit_lower.specs.Tasks.{step_code, step_ground};
 ghost use Rattle.cir_emit.specs.Tasks.{step_task};
 ghost use Rattle.cir_emit.specs.Lowered.{IsLoweredStep};
+ghost use Rattle.wit_circuit.specs.Coded.{AreCodeOfSteps};
 ghost use Rattle.wit_circuit.specs.Made.{AreMadeOf, IsMadeOf};
 ghost use Rattle.cir_steps.specs.Lines.{AreLinesOf};
 ghost use Rattle.wit_circuit.specs.Ending.{NeverMisses, IsEnding, ran_from, code_ending};
@@ -53,6 +55,15 @@ pub fn lowered_code_is_made()
         → m.code ≡ step_code (step_ground keys sources (step_task s)) sources (step_task s)
         → m.reads ≡ cells_read sources.list → m.writes ≡ s.targets
         → IsMadeOf (run_call p most_open) procs s m }
+{}
+
+/// The code of all steps of a program's circuit, each with sources that are the step's, stands for
+/// them, over the table of procedures in which its calls have their keys.
+pub fn code_of_circuits_is_made()
+    ensures { (p : Program) (b : Circuit) (keys : List Key) (procs : List Proc)
+        (code : List CodeStep) → IsResolved p → ArePlacesMeant p → AreCounted p
+        → circuit_of p ≡ Ok b → AreCodeOfSteps keys b.steps code → IsTable p keys procs
+        → AreMadeOf (run_call p most_open) procs b.steps code }
 {}
 
 /// Code that is made of the steps of a program's circuit can be cut into strands: each cell is a
