@@ -1,0 +1,154 @@
+ghost use Rattle.std.specs.Prelude.{◌≡◌, ◌<◌, ◌≤◌, ℕ, List, IfOk, length, map, slice_index};
+ghost use Rattle.cir_ast.specs.Program.{Program};
+ghost use Rattle.cir_meaning.specs.RunBodies.{ran};
+ghost use Rattle.cir_meaning.specs.Scoped.{IsResolved};
+ghost use Rattle.cir_steps.specs.Places.{ArePlacesMeant};
+ghost use Rattle.wit_circuit.specs.Whole.{IsCircuitOf};
+ghost use Rattle.wit_run.specs.Ending.{IsEndOf};
+ghost use Rattle.wit_flow.specs.declared.flow.Outcome.TheVariants.{Done, Refused};
+ghost use Rattle.wit_run.specs.Task.{EndsBy, HasPlace, IsTask, code_in};
+
+use crate::ending::RunEnd;
+use crate::lines::{Held, lines_before};
+use flow_engine::{Gate, run_many};
+use gold_field::Gold;
+use items::Items;
+use std::alloc::{AllocError, AllocGlobal, Global};
+use std::sync::Wait;
+use std::thread::Threads;
+use wit_circuit::{CircuitCode, LogLine, StepPlace};
+use wit_code::Stop;
+use wit_flow::{Flow, Outcome, cut, run_one};
+
+/// A circuit whose steps are cut into strands. It is run on any number of inputs.
+#[derive(Drop)]
+pub struct CutCircuit {
+    pub flow: Flow,
+    /// The cells of the signals by their numbers.
+    pub homes: Items<u32>,
+    pub places: Items<StepPlace>,
+    pub logs: Items<LogLine>,
+}
+
+// The numbers in cells, each of which has one.
+fn numbers_in(alloc: Global, values: &[Gold], cells: &[u32]) -> Result<Vec<Gold>, AllocError>
+    ensures { IfOk result (λ v. v.items ≡ map (slice_index values.now) cells.now) }
+{
+    let mut numbers = Vec::with_capacity(alloc, cells.len())?;
+    for cell in cells {
+        let number = values.get(*cell as usize).copied().unwrap_or(Gold::ZERO);
+        numbers.push(number)?;
+    }
+    Ok(numbers)
+}
+
+impl CutCircuit {
+    /// In time linear in all that the steps name.
+    pub fn of(alloc: Global, code: CircuitCode) -> Result<CutCircuit, AllocError>
+        requires { (p : Program) × IsResolved p × ArePlacesMeant p × IsCircuitOf p code }
+        ensures { IfOk result (λ x. code_in x ≡ code) }
+    {
+        let CircuitCode {
+            steps,
+            procs,
+            cells,
+            starts,
+            homes,
+            places,
+            logs,
+        } = code;
+        let flow = cut(
+            alloc,
+            steps.into_vec(),
+            procs.into_vec(),
+            cells,
+            starts.into_vec(),
+        )?;
+        Ok(CutCircuit {
+            flow,
+            homes,
+            places,
+            logs,
+        })
+    }
+
+    // How the run ends where all steps end.
+    fn ended(&self, alloc: Global, values: &[Gold]) -> Result<RunEnd, AllocError>
+        ensures { IfOk result (EndsBy (code_in self.now) (Done values.now)) }
+    {
+        let numbers = numbers_in(alloc, values, self.homes.as_slice())?;
+        let held = Held::All(values);
+        let log = lines_before(alloc, self.logs.as_slice(), self.places.len(), held)?;
+        Ok(RunEnd::Ended {
+            values: Items::of(numbers),
+            log: Items::of(log),
+        })
+    }
+
+    // How it ends where a step stops.
+    fn stopped(
+        &self,
+        alloc: Global,
+        step: u32,
+        stop: Stop,
+        cells: &[Option<Gold>],
+    ) -> Result<RunEnd, AllocError>
+        requires { step < length self.now.places }
+        ensures { IfOk result (EndsBy (code_in self.now) (Refused step stop cells.now)) }
+    {
+        let places = self.places.as_slice();
+        let place = places[step as usize];
+        let held = Held::Some(cells);
+        let log = lines_before(alloc, self.logs.as_slice(), step as usize, held)?;
+        Ok(RunEnd::Stopped {
+            stop,
+            place,
+            log: Items::of(log),
+        })
+    }
+
+    fn end_of(&self, alloc: Global, outcome: Outcome) -> Result<RunEnd, AllocError>
+        requires { HasPlace (code_in self.now) outcome }
+        ensures { IfOk result (EndsBy (code_in self.now) outcome) }
+    {
+        match outcome {
+            Outcome::Done(values) => self.ended(alloc, values.as_slice()),
+            Outcome::Refused { step, stop, cells } => {
+                self.stopped(alloc, step, stop, cells.as_slice())
+            }
+        }
+    }
+
+    /// Runs the steps on one thread, each with this fuel, from these numbers in the start cells: 1,
+    /// and the inputs of the main component. The answer is the program's run.
+    pub fn run_one(&self, alloc: Global, start: &[Gold], fuel: u64) -> Result<RunEnd, AllocError>
+        requires { (p : Program) × (inputs : List ℕ)
+            × IsTask p (code_in self.now) start.now inputs }
+        ensures { (p : Program) (inputs : List ℕ) → IsTask p (code_in self.now) start.now inputs
+            → IfOk result (λ end. IsEndOf end (ran p fuel inputs)) }
+    {
+        let outcome = run_one(alloc, &self.flow, start, fuel)?;
+        self.end_of(alloc, outcome)
+    }
+
+    /// The same on 1 to 64 workers: whatever their number, and whatever comes first in time, the
+    /// answer is the program's run.
+    pub fn run_many<R: Threads + Wait + AllocGlobal + Sync, G: Gate>(
+        &self,
+        rt: &R,
+        start: &[Gold],
+        fuel: u64,
+        workers: u32,
+        gate: &G,
+    ) -> Result<RunEnd, AllocError>
+        requires task { (p : Program) × (inputs : List ℕ)
+            × IsTask p (code_in self.now) start.now inputs }
+        requires some { 0 < workers }
+        requires few { workers ≤ 64 }
+        ensures { (p : Program) (inputs : List ℕ) → IsTask p (code_in self.now) start.now inputs
+            → IfOk result (λ end. IsEndOf end (ran p fuel inputs)) }
+    {
+        let outcome = run_many(rt, &self.flow, start, fuel, workers, gate)?;
+        self.end_of(rt.alloc(), outcome)
+    }
+}
