@@ -3,6 +3,7 @@ pub mod Check
 pub mod Files
 pub mod Proving
 pub mod Reply
+pub mod Running
 pub mod Satisfaction
 pub mod Shown
 pub mod Steps

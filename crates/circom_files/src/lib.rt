@@ -10,12 +10,15 @@ mod outcome;
 mod prove;
 mod publics;
 mod reply;
+mod running;
 mod stop;
 
 pub use audit::audit_reply;
 pub use check::check_reply;
 pub use laws::check_laws;
+pub use outcome::{Generated, Halt, Ran};
 pub use prove::prove_reply;
 pub use publics::public_reply;
 pub use reply::{NewFile, Reply};
+pub use running::input_from;
 pub use stop::Stop;

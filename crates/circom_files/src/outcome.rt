@@ -1,7 +1,9 @@
+use cir_ast::{Place, Text};
 use circom_words::Verdict;
 use gold_field::Gold;
 use iden_files::R1cs;
 use items::Items;
+use wit_code::Stop;
 
 /// A file of constraints, with its bytes, and values for its wires.
 #[derive(Drop)]
@@ -32,4 +34,36 @@ pub enum Outcome {
 pub enum Published {
     Values(Items<Gold>),
     Wrong(Verdict),
+}
+
+/// Why a step of a run stops, where its statement stands, and the log lines of the steps before it.
+#[derive(Drop)]
+pub struct Halt {
+    pub stop: Stop,
+    pub place: Place,
+    pub log: Items<Text>,
+}
+
+/// How the run of a compiled circuit ends: with the values of its file's wires and the log lines,
+/// or where a step stops.
+#[derive(Drop)]
+pub enum Ran {
+    Ended {
+        values: Items<Gold>,
+        log: Items<Text>,
+    },
+    Halted(Halt),
+}
+
+/// What a generated circuit comes to: the wires and constraints of its file, the value of its
+/// output and the log lines, or where a step of its run stops.
+#[derive(Drop)]
+pub enum Generated {
+    Ended {
+        wires: u32,
+        constraints: u32,
+        out: Gold,
+        log: Items<Text>,
+    },
+    Halted(Halt),
 }

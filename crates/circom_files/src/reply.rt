@@ -1,10 +1,15 @@
-ghost use Rattle.std.specs.Prelude.{◌≡◌, IfOk};
+ghost use Rattle.std.specs.Prelude.{◌≡◌, ◌≤◌, ◌++◌, IfOk, length};
+ghost use Rattle.iden_files.specs.Limits.{most_wires};
+ghost use Rattle.circom_words.specs.RunLines.{log_text};
 ghost use Rattle.circom_files.specs.Shown.{shown};
 
-use crate::outcome::{Outcome, Published};
+use crate::outcome::{Generated, Halt, Outcome, Published, Ran};
+use cir_ast::Text;
 use circom_words::{
-    Refusal, Verdict, audit_line, audit_status, fault_line, proved_line, public_line, usage_line,
+    Refusal, Verdict, audit_line, audit_status, fault_line, generated_line, log_text, proved_line,
+    public_line, stop_line, usage_line, witness_line,
 };
+use iden_files::write_wtns;
 use items::Items;
 use lig_proof::Verdict as Audited;
 use std::alloc::{AllocError, Global};
@@ -29,6 +34,7 @@ pub struct NewFile<'w> {
 impl<'w> Reply<'w> {
     ghost use Rattle.circom_files.specs.Reply.{usage, refused, checked, written, proved, published};
     ghost use Rattle.circom_files.specs.Reply.{audited, store_failed};
+    ghost use Rattle.circom_files.specs.Running.{witnessed, generated, halted, values_of};
 
     /// A reply that writes no file.
     fn saying(status: u8, text: Vec<u8>) -> Reply<'w>
@@ -112,4 +118,57 @@ impl<'w> Reply<'w> {
     {
         Ok(Reply::saying(3, fault_line(alloc)?))
     }
+
+    /// The reply of a command whose run stops.
+    fn halted(alloc: Global, halt: &Halt) -> Result<Reply<'w>, AllocError>
+        ensures { IfOk result (λ r. shown r ≡ halted halt.now) }
+    {
+        let line = stop_line(alloc, halt.stop, &halt.place)?;
+        let text = logged(alloc, halt.log.as_slice(), line)?;
+        Ok(Reply::saying(1, text))
+    }
+
+    /// The reply of `witness`.
+    pub fn witnessed(alloc: Global, out: &'w str, ran: Ran) -> Result<Reply<'w>, AllocError>
+        requires { length (values_of ran) ≤ most_wires }
+        ensures { IfOk result (λ r. shown r ≡ witnessed out.entry.now ran) }
+    {
+        match ran {
+            Ran::Ended { values, log } => {
+                let line = witness_line(alloc, values.len())?;
+                let text = logged(alloc, log.as_slice(), line)?;
+                let bytes = write_wtns(alloc, values.as_slice())?;
+                Ok(Reply::written(text, out, Items::of(bytes)))
+            }
+            Ran::Halted(halt) => Reply::halted(alloc, &halt),
+        }
+    }
+
+    /// The reply of `generate`.
+    pub fn generated(alloc: Global, links: u32, found: Generated) -> Result<Reply<'w>, AllocError>
+        ensures { IfOk result (λ r. shown r ≡ generated links found) }
+    {
+        match found {
+            Generated::Ended {
+                wires,
+                constraints,
+                out,
+                log,
+            } => {
+                let line = generated_line(alloc, links, wires, constraints, out.get())?;
+                let text = logged(alloc, log.as_slice(), line)?;
+                Ok(Reply::saying(0, text))
+            }
+            Generated::Halted(halt) => Reply::halted(alloc, &halt),
+        }
+    }
+}
+
+// The log lines, and one more line.
+fn logged(alloc: Global, log: &[Text], line: Vec<u8>) -> Result<Vec<u8>, AllocError>
+    ensures { IfOk result (λ v. v.items ≡ log_text log.now ++ line.items) }
+{
+    let mut text = log_text(alloc, log)?;
+    text.extend_from_slice(line.as_slice())?;
+    Ok(text)
 }

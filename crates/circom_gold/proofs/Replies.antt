@@ -24,13 +24,19 @@ use Rattle.circom_files.specs.Reply.{Reply, NewFile, Says, said, checked, proved
 use Rattle.circom_files.specs.Reply.{audited, store_failed}
 use Rattle.circom_files.specs.declared.outcome.Outcome.{Outcome}
 use Rattle.circom_files.specs.declared.outcome.Outcome.TheVariants.{Made, Unmade}
+use Rattle.circom_files.specs.Running.{witnessed, generated}
+use Rattle.circom_files.specs.declared.outcome.Ran.{Ran}
+use Rattle.circom_files.specs.declared.outcome.Ran.TheVariants.{Ended, Halted}
+use Rattle.circom_files.specs.declared.outcome.Generated.{Generated}
+use Rattle.circom_files.specs.declared.outcome.Generated.TheVariants as made
 use Rattle.circom_files.specs.declared.outcome.Published.{Published}
 use Rattle.circom_files.specs.declared.outcome.Published.TheVariants.{Values, Wrong}
 use Rattle.circom_gold.specs.Reply.{Answers, WritesConstraintsOf, compiled}
 use Rattle.circom_gold.specs.Run.{Ends, Stays, Leaves, LeavesInPart, Puts, Replies, Writing}
 use Rattle.circom_files.specs.Shown.{shown}
 use Rattle.circom_files.specs.Stops.{EndsBy}
-use Rattle.circom_words.specs.Words.{Command, Options, check, compile, prove, public, audit}
+use Rattle.circom_words.specs.Words.{Command, Options, check, compile, witness, prove, public}
+use Rattle.circom_words.specs.Words.{audit, generate}
 use Rattle.circom_words.specs.declared.answer.Refusal.{Refusal}
 use Rattle.circom_words.specs.declared.answer.Verdict.{Verdict}
 use Rattle.circom_words.specs.declared.answer.Verdict.TheVariants.{CountsDiffer, WireZero}
@@ -289,6 +295,14 @@ audit_below audits.LinearColumn = omega arith
 audit_below audits.QuadZero = omega arith
 audit_below audits.QuadColumn = omega arith
 
+witnessed_below : (out : List ℕ) (x : Ran) → (witnessed out x).status < 64
+witnessed_below out (Ended values log) = omega arith
+witnessed_below out (Halted h) = omega arith
+
+generated_below : (links : ℕ) (x : Generated) → (generated links x).status < 64
+generated_below links (made.Ended wires constraints o log) = omega arith
+generated_below links (made.Halted h) = omega arith
+
 said_below : {X : Type 0} (reply : X → Reply) (found : Result X Refusal)
     → ((x : X) → (reply x).status < 64) → (said reply found).status < 64
 said_below reply (Ok x) below = below x
@@ -309,12 +323,16 @@ usage_alone contents (Some (check r1cs wtns)) r answers is =
     absurd (says_below contents checked _ r verdict_below answers is)
 usage_alone contents (Some (compile source out options)) r answers is =
     absurd (says_below contents (compiled out) _ r (λ f. omega arith) answers is)
+usage_alone contents (Some (witness source input out options running)) r answers is =
+    absurd (says_below contents (witnessed out) _ r (witnessed_below out) answers is)
 usage_alone contents (Some (prove r1cs wtns out options)) r answers is =
     absurd (says_below contents (proved out) _ r (proved_below out) answers is)
 usage_alone contents (Some (public r1cs wtns out)) r answers is =
     absurd (says_below contents (published out) _ r (published_below out) answers is)
 usage_alone contents (Some (audit r1cs publics proof)) r answers is =
     absurd (says_below contents audited _ r audit_below answers is)
+usage_alone contents (Some (generate seed size running)) r answers is =
+    absurd (says_below contents (generated size) _ r (generated_below size) answers is)
 
 -- no call failed
 unfailed : (before after : ℕ) → before ≡ 0 → after ≡ before → Rose before after → ⊥

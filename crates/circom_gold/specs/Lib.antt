@@ -1,3 +1,4 @@
 pub mod Compile
 pub mod Reply
 pub mod Run
+pub mod Witness

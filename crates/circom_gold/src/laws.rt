@@ -1,8 +1,16 @@
-ghost use Rattle.std.specs.Prelude.{◌≡◌, Option, Some};
+ghost use Rattle.std.specs.Prelude.{◌≡◌, ◌↔◌, ℕ, List, Option, Some, Ok};
 ghost use Rattle.out_io.specs.Contents.{Contents};
+ghost use Rattle.circom_files.specs.Check.{check_of};
 ghost use Rattle.circom_files.specs.Reply.{Reply};
+ghost use Rattle.circom_files.specs.Running.{halted};
+ghost use Rattle.circom_files.specs.declared.outcome.Halt.{Halt};
+ghost use Rattle.circom_files.specs.declared.outcome.Ran.TheVariants.{Halted};
 ghost use Rattle.circom_gold.specs.Reply.{Answers, IsDecided};
-ghost use Rattle.circom_words.specs.Words.{Command};
+ghost use Rattle.circom_gold.specs.Witness.{HasWitness, HoldsFileOf, HoldsWitnessOf, IsWitnessed};
+ghost use Rattle.circom_gold.specs.Witness.{WritesWitnessOf};
+ghost use Rattle.circom_words.specs.Words.{Command, Options, witness};
+ghost use Rattle.circom_words.specs.declared.answer.Verdict.TheVariants.{Satisfied};
+ghost use Rattle.circom_words.specs.declared.options.RunOptions.{RunOptions};
 
 /// The reply to a command over given files is one: status, text and file. Of `prove` and `audit`
 /// this holds where the file of constraints is within the limits.
@@ -10,4 +18,32 @@ pub fn one_reply()
     ensures { (files : Contents) (command : Option Command) (a b : Reply)
         → IsDecided files command → Answers (Some files) command a → Answers (Some files) command b
         → a ≡ b }
+{}
+
+/// What a reply to `witness` means. Its status is 0 exactly where the source compiles, the input is
+/// read and the run of the source's program doesn't stop. It then writes the values of the run, of
+/// each wire that of the signal that its label names, and these satisfy the file that the source
+/// compiles to. Where the run stops, the reply is its log lines and why and where it stops.
+pub fn witness_laws()
+    ensures status { (files : Contents) (source input out : List ℕ) (options : Options)
+        (running : RunOptions) (r : Reply)
+        → Answers (Some files) (Some (witness source input out options running)) r
+        → (r.status ≡ 0) ↔ HasWitness files source input options running.fuel }
+    ensures written { (files : Contents) (source input out : List ℕ) (options : Options)
+        (running : RunOptions) (r : Reply)
+        → Answers (Some files) (Some (witness source input out options running)) r
+        → r.status ≡ 0 → WritesWitnessOf files source input options running.fuel out r }
+    ensures halted { (files : Contents) (source input out : List ℕ) (options : Options)
+        (running : RunOptions) (r : Reply) (h : Halt)
+        → Answers (Some files) (Some (witness source input out options running)) r
+        → IsWitnessed files source input options running.fuel (Halted h) → r ≡ halted h }
+{}
+
+/// `check` of a file that `compile` writes and of one that `witness` writes, from the same source
+/// at the same level, says that it is satisfied.
+pub fn check_accepts_witnesses()
+    ensures { (files after : Contents) (source input r1cs wtns : List ℕ) (options : Options)
+        (fuel : ℕ) → HoldsFileOf files source options (after r1cs)
+        → HoldsWitnessOf files source input options fuel (after wtns)
+        → check_of after r1cs wtns ≡ Ok Satisfied }
 {}

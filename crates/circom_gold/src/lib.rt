@@ -7,5 +7,5 @@ mod laws;
 mod program;
 
 pub use circom_files::check_laws;
-pub use laws::one_reply;
+pub use laws::{check_accepts_witnesses, one_reply, witness_laws};
 pub use program::{run, run_in_memory};

@@ -14,6 +14,7 @@ use Rattle.cir_ast.specs.declared.refusal.Which.{Which}
 use Rattle.cir_ast.specs.declared.refusal.Which.TheVariants as which
 use Rattle.cir_ast.specs.declared.refusal.Form.{Form}
 use Rattle.cir_ast.specs.declared.refusal.Form.TheVariants as form
+use Rattle.cir_ast.specs.declared.refusal.Place.{Place}
 use Rattle.cir_ast.specs.declared.refusal.Refusal.{Refusal as SourceRefusal}
 use Rattle.circom_words.specs.declared.answer.Refusal.{Refusal}
 use Rattle.circom_words.specs.declared.answer.Refusal.TheVariants.{NoSuchFile, BadFile, BadSource}
@@ -123,12 +124,15 @@ abbrev pub count_text : Kind → List ℕ
 count_text (kind.Limit which count) = decimal count
 count_text _ = []
 
-abbrev pub source_line : SourceRefusal → List ℕ
-source_line r =
+-- a refusal at a place
+abbrev pub placed_line : (what detail count : List ℕ) → Place → List ℕ
+placed_line what detail count place =
     line
-    (codes "refused: " ∷ kind_text r.kind ∷ detail_text r.kind ∷ count_text r.kind
-    ∷ codes " at " ∷ r.place.file ∷ codes ":" ∷ decimal r.place.line ∷ codes ":"
-    ∷ decimal r.place.column ∷ codes " in " ∷ r.place.path ∷ [])
+    (codes "refused: " ∷ what ∷ detail ∷ count ∷ codes " at " ∷ place.file ∷ codes ":"
+    ∷ decimal place.line ∷ codes ":" ∷ decimal place.column ∷ codes " in " ∷ place.path ∷ [])
+
+abbrev pub source_line : SourceRefusal → List ℕ
+source_line r = placed_line (kind_text r.kind) (detail_text r.kind) (count_text r.kind) r.place
 
 abbrev pub count_line : (name has wants : List ℕ) → List ℕ
 count_line name has wants =

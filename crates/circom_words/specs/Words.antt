@@ -7,20 +7,27 @@ use Rattle.std.specs.Str.{bytes_eq}
 use Rattle.std.specs.declared.alloc.Global.{Global}
 use Rattle.clap.specs.Kinds.{Kinds}
 use Rattle.clap.specs.Faults.{fault_of}
-use Rattle.clap.specs.Walk.{Row, Rule, first_of}
-use Rattle.clap.specs.Simple.{App, matches_of, new_app, new_rule, with_rule}
-use Rattle.clap.specs.declared.builder.action.ArgAction.TheVariants.{SetTrue}
+use Rattle.clap.specs.Walk.{Row, first_of}
+use Rattle.clap.specs.Simple.{App, matches_of}
 use Rattle.cir_simplify.specs.declared.types.Level.{Level}
 use Rattle.cir_simplify.specs.declared.types.Level.TheVariants.{O0, O1, O2}
 use Rattle.hex.specs.Hex.{decode_sized}
 use Rattle.lig_proof.specs.declared.version.Version.{Version}
 use Rattle.lig_proof.specs.declared.version.Version.TheVariants.{One, Two}
+use Rattle.circom_words.specs.Forms.{form_of, run_form_of}
 use Rattle.circom_words.specs.Numbers.{number_in}
+use Rattle.circom_words.specs.declared.names.PlainWord.{PlainWord}
+use Rattle.circom_words.specs.declared.names.PlainWord.TheVariants as plain
+use Rattle.circom_words.specs.declared.names.RunWord.{RunWord}
+use Rattle.circom_words.specs.declared.names.RunWord.TheVariants as running
+use Rattle.circom_words.specs.declared.options.Options.{Options as AskedOptions}
+use Rattle.circom_words.specs.declared.options.ProveOptions.{ProveOptions as AskedProving}
+use Rattle.circom_words.specs.declared.options.RunOptions.{RunOptions}
+use Rattle.circom_words.specs.declared.options.ThreeNames.{ThreeNames}
 use Rattle.circom_words.specs.declared.words.Command.{Command as Asked}
 use Rattle.circom_words.specs.declared.words.Command.TheVariants as asked
-use Rattle.circom_words.specs.declared.words.Options.{Options as AskedOptions}
-use Rattle.circom_words.specs.declared.words.ProveOptions.{ProveOptions as AskedProving}
-use Rattle.circom_words.specs.declared.words.ThreeNames.{ThreeNames}
+use Rattle.circom_words.specs.declared.running.RunCommand.{RunCommand as AskedRun}
+use Rattle.circom_words.specs.declared.running.RunCommand.TheVariants as asked_run
 
 -- what the options of a command say
 pub record Options : Type 0 where
@@ -39,72 +46,15 @@ pub record ProveOptions : Type 0 where
 pub data Command : Type 0 where
   check : (r1cs wtns : List ℕ) → Command
   compile : (source out : List ℕ) → (options : Options) → Command
+  witness : (source input out : List ℕ) → (options : Options) → (running : RunOptions) → Command
   prove : (r1cs wtns out : List ℕ) → (options : ProveOptions) → Command
   public : (r1cs wtns out : List ℕ) → Command
   audit : (r1cs publics proof : List ℕ) → Command
+  generate : (seed size : ℕ) → (running : RunOptions) → Command
 
 -- the words by their bytes
 abbrev pub texts : List (String Global) → List (List ℕ)
 texts words = map string_bytes words
-
--- a word that must be given
-abbrev pub given : List ℕ → Rule
-given name = record (new_rule name) { required = true }
-
--- `-l DIR`
-abbrev pub folder : Rule
-folder = record (new_rule (codes "DIR")) { short = Some 108 }
-
--- `--NAME`, without a value
-abbrev pub flag : List ℕ → Rule
-flag name = record (new_rule name) { long = Some name; action = Some SetTrue }
-
--- `--NAME VALUE`
-abbrev pub valued : List ℕ → Rule
-valued name = record (new_rule name) { long = Some name }
-
--- `--seed HEX`, which must be given
-abbrev pub seed : Rule
-seed = record (valued (codes "seed")) { required = true }
-
--- a command with three names
-abbrev pub three_form : (command first second third : List ℕ) → App
-three_form command first second third =
-    with_rule (with_rule (with_rule (new_app command) (given first)) (given second)) (given third)
-
--- `check R1CS WTNS` and `compile SRC OUT [--O0, --O1 or --O2] [-l DIR]`, as `clap` sees them:
--- simple commands without subcommands
-abbrev pub check_form : App
-check_form =
-    with_rule (with_rule (new_app (codes "check")) (given (codes "R1CS"))) (given (codes "WTNS"))
-
-abbrev pub with_files : App
-with_files =
-    with_rule (with_rule (new_app (codes "compile")) (given (codes "SRC"))) (given (codes "OUT"))
-
-abbrev pub with_levels : App
-with_levels =
-    with_rule (with_rule (with_rule with_files (flag (codes "O0"))) (flag (codes "O1")))
-    (flag (codes "O2"))
-
-unfoldable pub compile_form : App
-compile_form = with_rule with_levels folder
-
--- `prove R1CS WTNS OUT --seed HEX [--proof 1 or 2]`
-abbrev pub with_seed : App
-with_seed =
-    with_rule (three_form (codes "prove") (codes "R1CS") (codes "WTNS") (codes "OUT")) seed
-
-unfoldable pub prove_form : App
-prove_form = with_rule with_seed (valued (codes "proof"))
-
--- `public R1CS WTNS OUT`
-unfoldable pub public_form : App
-public_form = three_form (codes "public") (codes "R1CS") (codes "WTNS") (codes "OUT")
-
--- `audit R1CS PUBLIC PROOF`
-unfoldable pub audit_form : App
-audit_form = three_form (codes "audit") (codes "R1CS") (codes "PUBLIC") (codes "PROOF")
 
 -- these rows, where there is no fault
 abbrev pub unless : Kinds → List Row → Option (List Row)
@@ -115,6 +65,10 @@ unless (fault ∷ faults) rows = None
 -- where it refuses them, as it does words that ask for help
 abbrev pub found : App → List (List ℕ) → Option (List Row)
 found form words = unless (fault_of form words) (matches_of form words)
+
+infixl 10 ◌>>=◌
+abbrev pub ◌>>=◌ : {A B : Type 0} → Option A → (A → Option B) → Option B
+o >>= f = option_and_then f o
 
 -- `clap` gives a flag the value `true` where it stands among the words, else `false`
 abbrev pub is_set : List ℕ → List Row → Bool
@@ -137,38 +91,17 @@ options_in rows =
     option_map (λ level. record { level = level; folder = first_of (codes "DIR") rows })
     (level_in rows)
 
--- the command of two words, where both are found
-abbrev pub both : (List ℕ → List ℕ → Command) → Option (List ℕ) → Option (List ℕ) → Option Command
-both command (Some first) (Some second) = Some (command first second)
-both command _ _ = None
+-- the number of an option's word; this one where the option isn't given
+abbrev pub number_or : (default low high : ℕ) → Option (List ℕ) → Option ℕ
+number_or default low high None = Some default
+number_or default low high (Some word) = number_in low high word
 
-abbrev pub check_in : List Row → Option Command
-check_in rows = both check (first_of (codes "R1CS") rows) (first_of (codes "WTNS") rows)
-
-abbrev pub compile_with : List Row → Options → Option Command
-compile_with rows options =
-    both (λ source out. compile source out options)
-    (first_of (codes "SRC") rows) (first_of (codes "OUT") rows)
-
-abbrev pub compile_in : List Row → Option Command
-compile_in rows = option_and_then (compile_with rows) (options_in rows)
-
--- the values of three names, where all are found
-pub record Names : Type 0 where
-  pub first : List ℕ
-  pub second : List ℕ
-  pub third : List ℕ
-
-infixl 10 ◌>>=◌
-abbrev pub ◌>>=◌ : {A B : Type 0} → Option A → (A → Option B) → Option B
-o >>= f = option_and_then f o
-
-abbrev pub names_in : (first second third : List ℕ) → List Row → Option Names
-names_in first second third rows = do
-  a ← first_of first rows
-  b ← first_of second rows
-  c ← first_of third rows
-  Some (record { first = a; second = b; third = c })
+-- 4 workers and 1,048,576 units, where no others are asked for
+abbrev pub running_in : List Row → Option RunOptions
+running_in rows = do
+  workers ← number_or 4 1 64 (first_of (codes "workers") rows)
+  fuel ← number_or 1048576 0 4294967295 (first_of (codes "fuel") rows)
+  Some (record { workers = workers; fuel = fuel })
 
 -- the bytes of 64 hexadecimal digits
 abbrev pub seed_of : List ℕ → Option (List ℕ)
@@ -181,12 +114,34 @@ seed_in rows = option_and_then seed_of (first_of (codes "seed") rows)
 abbrev pub version_at : ℕ → Version
 version_at n = if n == 1 then One else Two
 
-abbrev pub version_of : Option (List ℕ) → Option Version
-version_of None = Some Two
-version_of (Some word) = option_map version_at (number_in 1 2 word)
-
 abbrev pub version_in : List Row → Option Version
-version_in rows = version_of (first_of (codes "proof") rows)
+version_in rows = option_map version_at (number_or 2 1 2 (first_of (codes "proof") rows))
+
+-- the values of three names, where all are found
+pub record Names : Type 0 where
+  pub first : List ℕ
+  pub second : List ℕ
+  pub third : List ℕ
+
+abbrev pub names_in : (first second third : List ℕ) → List Row → Option Names
+names_in first second third rows = do
+  a ← first_of first rows
+  b ← first_of second rows
+  c ← first_of third rows
+  Some (record { first = a; second = b; third = c })
+
+abbrev pub check_in : List Row → Option Command
+check_in rows = do
+  r1cs ← first_of (codes "R1CS") rows
+  wtns ← first_of (codes "WTNS") rows
+  Some (check r1cs wtns)
+
+abbrev pub compile_in : List Row → Option Command
+compile_in rows = do
+  options ← options_in rows
+  source ← first_of (codes "SRC") rows
+  out ← first_of (codes "OUT") rows
+  Some (compile source out options)
 
 abbrev pub prove_in : List Row → Option Command
 prove_in rows = do
@@ -203,24 +158,74 @@ abbrev pub audit_in : List Row → Option Command
 audit_in rows = option_map (λ names. audit names.first names.second names.third)
     (names_in (codes "R1CS") (codes "PUBLIC") (codes "PROOF") rows)
 
+abbrev pub witness_in : List Row → Option Command
+witness_in rows = do
+  names ← names_in (codes "SRC") (codes "INPUT") (codes "OUT") rows
+  options ← options_in rows
+  running ← running_in rows
+  Some (witness names.first names.second names.third options running)
+
+-- the number of a word that must be given
+abbrev pub number_at : (name : List ℕ) → (low high : ℕ) → List Row → Option ℕ
+number_at name low high rows = option_and_then (number_in low high) (first_of name rows)
+
+abbrev pub generate_in : List Row → Option Command
+generate_in rows = do
+  seed ← number_at (codes "SEED") 0 4294967295 rows
+  size ← number_at (codes "SIZE") 1 300000 rows
+  running ← running_in rows
+  Some (generate seed size running)
+
 -- the reading of the words of a form, None where they have none
 abbrev pub reading : App → (List Row → Option Command) → List (List ℕ) → Option Command
 reading form command words = option_and_then command (found form words)
 
--- the reading of words whose first is the name of a command, None where they have none
-abbrev pub named_reading : List ℕ → List (List ℕ) → Option Command
-named_reading name words =
-    if bytes_eq name (codes "check") then reading check_form check_in words
-    else (if bytes_eq name (codes "compile") then reading compile_form compile_in words
-    else (if bytes_eq name (codes "prove") then reading prove_form prove_in words
-    else (if bytes_eq name (codes "public") then reading public_form public_in words
-    else (if bytes_eq name (codes "audit") then reading audit_form audit_in words
+-- the words of commands that wait for nobody
+abbrev pub plain_word : List ℕ → Option PlainWord
+plain_word name =
+    if bytes_eq name (codes "check") then Some plain.Check
+    else (if bytes_eq name (codes "compile") then Some plain.Compile
+    else (if bytes_eq name (codes "prove") then Some plain.Prove
+    else (if bytes_eq name (codes "public") then Some plain.Public
+    else (if bytes_eq name (codes "audit") then Some plain.Audit
     else None))))
 
--- the reading of the words, None where they have none
+abbrev pub plain_in : PlainWord → List Row → Option Command
+plain_in plain.Check = check_in
+plain_in plain.Compile = compile_in
+plain_in plain.Prove = prove_in
+plain_in plain.Public = public_in
+plain_in plain.Audit = audit_in
+
+abbrev pub plain_reading : List (List ℕ) → PlainWord → Option Command
+plain_reading words word = reading (form_of word) (plain_in word) words
+
+abbrev pub plain_command_of : List (List ℕ) → Option Command
+plain_command_of [] = None
+plain_command_of (name ∷ others) =
+    option_and_then (plain_reading (name ∷ others)) (plain_word name)
+
+-- the words of commands that run a circuit
+abbrev pub run_word : List ℕ → Option RunWord
+run_word name =
+    if bytes_eq name (codes "witness") then Some running.Witness
+    else (if bytes_eq name (codes "generate") then Some running.Generate
+    else None)
+
+abbrev pub run_in : RunWord → List Row → Option Command
+run_in running.Witness = witness_in
+run_in running.Generate = generate_in
+
+abbrev pub run_reading : List (List ℕ) → RunWord → Option Command
+run_reading words word = reading (run_form_of word) (run_in word) words
+
+abbrev pub run_command_of : List (List ℕ) → Option Command
+run_command_of [] = None
+run_command_of (name ∷ others) = option_and_then (run_reading (name ∷ others)) (run_word name)
+
+-- the reading of the words, None where they have none: of the commands that are built
 abbrev pub command_of : List (List ℕ) → Option Command
-command_of [] = None
-command_of (name ∷ others) = named_reading name (name ∷ others)
+command_of words = plain_command_of words
 
 -- what the program's own values for options and commands stand for
 abbrev pub meant_options : AskedOptions → Options
@@ -236,6 +241,11 @@ meant (asked.Prove r1cs wtns out options) =
     prove r1cs.now wtns.now out.now (meant_proving options)
 meant (asked.Public r1cs wtns out) = public r1cs.now wtns.now out.now
 meant (asked.Audit r1cs publics proof) = audit r1cs.now publics.now proof.now
+
+abbrev pub meant_run : AskedRun → Command
+meant_run (asked_run.Witness source input out options running) =
+    witness source.now input.now out.now (meant_options options) running
+meant_run (asked_run.Generate seed size running) = generate seed size running
 
 -- what the program's own value for three names stands for
 abbrev pub meant_names : ThreeNames → Names

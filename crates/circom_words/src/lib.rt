@@ -2,14 +2,23 @@
 #![tactic(auto)]
 
 mod answer;
+mod forms;
+mod generated;
 mod lines;
+mod names;
 mod number;
+mod options;
 mod proving;
+mod run_lines;
+mod running;
 mod sources;
 mod words;
 
 pub use answer::{BadInput, Refusal, Verdict};
+pub use generated::{generated_start, generated_text};
 pub use lines::{compiled_line, fault_line, usage_line};
-pub use number::number_in;
+pub use options::{Options, ProveOptions, RunOptions};
 pub use proving::{audit_line, audit_status, proved_line, public_line};
-pub use words::{Command, Options, ProveOptions};
+pub use run_lines::{generated_line, log_text, stop_line, witness_line};
+pub use running::RunCommand;
+pub use words::Command;

@@ -1,11 +1,11 @@
-//! The line of a source's refusal.
+//! The lines of refusals at a place of a source.
 
 ghost use Rattle.std.specs.Prelude.{◌≡◌, IfOk, decimal, string_bytes};
-ghost use Rattle.circom_words.specs.Lines.{line, source_line, kind_text, detail_text, count_text};
-ghost use Rattle.circom_words.specs.Lines.{lex_text, which_text, form_text};
+ghost use Rattle.circom_words.specs.Lines.{placed_line, source_line, kind_text, detail_text};
+ghost use Rattle.circom_words.specs.Lines.{count_text, lex_text, which_text, form_text};
 
 use crate::lines::line;
-use cir_ast::{Form, Kind, Refusal, Which};
+use cir_ast::{Form, Kind, Place, Refusal, Which};
 use cir_token::LexCause;
 use std::alloc::{AllocError, Global};
 
@@ -13,18 +13,32 @@ use std::alloc::{AllocError, Global};
 pub fn source_line(alloc: Global, refusal: &Refusal) -> Result<Vec<u8>, AllocError>
     ensures { IfOk result (λ v. v.items ≡ source_line refusal.now) }
 {
-    let place = &refusal.place;
     let count = count_text(alloc, refusal.kind)?;
+    let kind = kind_text(refusal.kind);
+    let detail = detail_text(refusal.kind);
+    placed_line(alloc, kind, detail, count.as_str(), &refusal.place)
+}
+
+/// The line of a refusal at a place.
+pub fn placed_line(
+    alloc: Global,
+    what: &str,
+    detail: &str,
+    count: &str,
+    place: &Place,
+) -> Result<Vec<u8>, AllocError>
+    ensures { IfOk result (λ v. v.items ≡ placed_line what.now detail.now count.now place.now) }
+{
     let number = place.line;
     let row = format!(in alloc; "{number}")?;
     let number = place.column;
     let column = format!(in alloc; "{number}")?;
     spelled(
         alloc,
-        refusal,
-        kind_text(refusal.kind),
-        detail_text(refusal.kind),
-        count.as_str(),
+        what,
+        detail,
+        count,
+        place,
         row.as_str(),
         column.as_str(),
     )
@@ -32,35 +46,32 @@ pub fn source_line(alloc: Global, refusal: &Refusal) -> Result<Vec<u8>, AllocErr
 
 fn spelled<'a>(
     alloc: Global,
-    refusal: &'a Refusal,
-    kind: &'a str,
+    what: &'a str,
     detail: &'a str,
     count: &'a str,
+    place: &'a Place,
     row: &'a str,
     column: &'a str,
 ) -> Result<Vec<u8>, AllocError>
-    requires kind { kind.now ≡ kind_text refusal.now.kind }
-    requires detail { detail.now ≡ detail_text refusal.now.kind }
-    requires count { count.now ≡ count_text refusal.now.kind }
-    requires row { row.now ≡ decimal refusal.now.place.line }
-    requires column { column.now ≡ decimal refusal.now.place.column }
-    ensures { IfOk result (λ v. v.items ≡ source_line refusal.now) }
+    requires row { row.now ≡ decimal place.now.line }
+    requires column { column.now ≡ decimal place.now.column }
+    ensures { IfOk result (λ v. v.items ≡ placed_line what.now detail.now count.now place.now) }
 {
     line(
         alloc,
         &[
             b"refused: ",
-            kind.as_bytes(),
+            what.as_bytes(),
             detail.as_bytes(),
             count.as_bytes(),
             b" at ",
-            refusal.place.file.as_slice(),
+            place.file.as_slice(),
             b":",
             row.as_bytes(),
             b":",
             column.as_bytes(),
             b" in ",
-            refusal.place.path.as_slice(),
+            place.path.as_slice(),
         ],
     )
 }

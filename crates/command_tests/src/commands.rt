@@ -238,7 +238,7 @@ static USAGE: &str =
     "usage: circom_gold check, compile, witness, prove, public, audit, sym, batch, \
     series, determine, confirm or generate\n";
 
-static NO_READING: [&str; 28] = [
+static NO_READING: [&str; 39] = [
     "",
     "check m.r1cs",
     "check a b c",
@@ -267,6 +267,17 @@ static NO_READING: [&str; 28] = [
     "public m.r1cs m.wtns",
     "audit m.r1cs m.wtns",
     "audit a b c --proof 1",
+    "witness a b",
+    "witness a b c --workers",
+    "witness a b c --workers 0",
+    "witness a b c --workers 65",
+    "witness a b c --fuel 4294967296",
+    "witness a b c --O1 --O2",
+    "generate 7",
+    "generate 7 0",
+    "generate 7 300001",
+    "generate 4294967296 3",
+    "generate 7 3 --O1",
 ];
 
 #[test]

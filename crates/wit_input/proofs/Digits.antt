@@ -1,5 +1,7 @@
 -- Numbers that grow digit by digit.
-use Rattle.std.proofs.Common.{◌≡◌, ◌∙◌, ℕ, ◌+◌, ◌*◌, ◌<◌, ◌≤◌, ◌^◌, Bool, true, false, List, [], ◌∷◌, length, get_or, drop, Option, Some, None, refl, sym, ap, subst, arith, nat_lt, if◌then◌else◌}
+use Rattle.std.proofs.Common.{◌≡◌, ◌∙◌, ℕ, ◌+◌, ◌*◌, ◌<◌, ◌≤◌, ◌^◌, Bool, true, false, List, []}
+use Rattle.std.proofs.Common.{◌∷◌, length, get_or, drop, Option, Some, None, refl, sym, ap, subst}
+use Rattle.std.proofs.Common.{arith, nat_lt, if◌then◌else◌}
 use Rattle.std.proofs.lemmas.List.{drop_more}
 use Rattle.std.proofs.lemmas.Bool.Decides.{nat_tests}
 use Rattle.std.proofs.Math.Nat.{mul-le-mul_left}
@@ -47,7 +49,8 @@ next base n text i h = ap (digits_from base n) (drop_more text i 0 h)
 pub no_digit : (base n : ℕ) (text : List ℕ) (i : ℕ) → i < length text
     → base ≤ digit_value (get_or text i 0) → limited (digits_from base n (drop i text)) ≡ None
 no_digit base n text i h no_value =
-    ap limited (next base n text i h ∙ no _ _ _ (above (digit_value (get_or text i 0)) base no_value))
+    ap limited (next base n text i h ∙
+    no _ _ _ (above (digit_value (get_or text i 0)) base no_value))
 
 pub digit : (base n : ℕ) (text : List ℕ) (i : ℕ) → i < length text
     → digit_value (get_or text i 0) < base

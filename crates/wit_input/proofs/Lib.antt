@@ -3,3 +3,4 @@ pub mod Digits
 pub mod Nested
 pub mod Members
 pub mod Steps
+pub mod InputNumbers

@@ -1,5 +1,7 @@
 -- The values of a circuit's inputs, from the bytes of a JSON object; or the first refusal.
-use Rattle.std.specs.Prelude.{◌==◌, ℕ, ◌+◌, List, [], ◌∷◌, ◌++◌, length, Bool, ◌&&◌, is_none, Option, Some, None, option_and_then, ok_or, Result, Ok, Err, if◌then◌else◌, nat_lt, bytes_eq}
+use Rattle.std.specs.Prelude.{◌==◌, ℕ, ◌+◌, List, [], ◌∷◌, ◌++◌, length, Bool, ◌&&◌, is_none}
+use Rattle.std.specs.Prelude.{Option, Some, None, option_and_then, ok_or, Result, Ok, Err}
+use Rattle.std.specs.Prelude.{if◌then◌else◌, nat_lt, bytes_eq}
 use Rattle.std.specs.List.{list_any}
 use Rattle.std.specs.Option.{option_or}
 use Rattle.binary_format.specs.Reading.{◌>>=◌}
@@ -10,7 +12,8 @@ use Rattle.wit_input.specs.Document.{json_of}
 use Rattle.wit_input.specs.Numbers.{number_of}
 use Rattle.wit_input.specs.Values.{values_at}
 use Rattle.wit_input.specs.declared.fault.InputFault.{InputFault}
-use Rattle.wit_input.specs.declared.fault.InputFault.TheVariants.{NotJson, Missing, UnknownSignal, WrongCount, BadNumber}
+use Rattle.wit_input.specs.declared.fault.InputFault.TheVariants.{NotJson, Missing, UnknownSignal}
+use Rattle.wit_input.specs.declared.fault.InputFault.TheVariants.{WrongCount, BadNumber}
 
 -- the first fault of the elements of a list, each by its place, from this place on
 abbrev pub first_fault : {A : Type 0} → (ℕ → A → Option InputFault) → ℕ → List A

@@ -1,5 +1,7 @@
 -- The number that a value stands for, modulo the order of the field.
-use Rattle.std.specs.Prelude.{◌==◌, ℕ, suc, ◌+◌, ◌-◌, ◌*◌, ◌%◌, ◌^◌, ℤ, pos, negsuc, List, [], ◌∷◌, drop, Option, Some, None, option_map, if◌then◌else◌, nat_lt, nat_eq, codes}
+use Rattle.std.specs.Prelude.{◌==◌, ℕ, suc, ◌+◌, ◌-◌, ◌*◌, ◌%◌, ◌^◌, ℤ, pos, negsuc, List, [], ◌∷◌}
+use Rattle.std.specs.Prelude.{drop, Option, Some, None, option_map, if◌then◌else◌, nat_lt, nat_eq}
+use Rattle.std.specs.Prelude.{codes}
 use Rattle.std.specs.Char.{digit_value}
 use Rattle.std.specs.List.{starts_with}
 use Rattle.serde_json.specs.Data.{Data, null, boolean, number, string, array, object}

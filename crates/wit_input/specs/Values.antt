@@ -1,7 +1,8 @@
--- The values in a JSON value. Arrays nest at will and stand for the values in them; everything else is
--- one value.
+-- The values in a JSON value. Arrays nest at will and stand for the values in them; everything else
+-- is one value.
 use Rattle.std.specs.Prelude.{List, [], ◌∷◌, ◌++◌, Option, Some, None}
-use Rattle.serde_json.specs.Data.{Data, null, boolean, number, string, array, object, Items, no_items, item}
+use Rattle.serde_json.specs.Data.{Data, null, boolean, number, string, array, object, Items}
+use Rattle.serde_json.specs.Data.{no_items, item}
 
 abbrev mutual
   pub values_of : Data → List Data

@@ -1,10 +1,11 @@
 //! The tests of an object of inputs, in their order.
 
-ghost use Rattle.std.specs.Prelude.{◌≡◌, ◌≢◌, ◌≤◌, ◌^◌, length, None, Some, OnOk, IfErr, IfOk, option_map, map};
+ghost use Rattle.std.specs.Prelude.{◌≡◌, ◌≢◌, ◌≤◌, ◌^◌, length, None, Some, OnOk, IfErr, IfOk};
+ghost use Rattle.std.specs.Prelude.{option_map, map};
 ghost use Rattle.serde_json.specs.Find.{get_member};
 ghost use Rattle.serde_json.specs.View.{view, members_view};
-ghost use Rattle.wit_input.specs.Input.{first_fault, is_input, missing, unknown, unless, values_for, wrong_count};
-ghost use Rattle.wit_input.specs.Names.{contained};
+ghost use Rattle.wit_input.specs.Input.{first_fault, is_input, missing, unknown, unless};
+ghost use Rattle.wit_input.specs.Input.{values_for, wrong_count};
 ghost use Rattle.wit_input.specs.declared.fault.InputFault.TheVariants.{OutOfMemory};
 
 use crate::fault::InputFault;

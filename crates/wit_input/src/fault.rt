@@ -6,9 +6,10 @@ use std::alloc::{AllocError, AllocFailed};
 
 /// Why an input or a public file isn't read. An input is named by its place among the inputs of the
 /// signal table, counted from 0, and a value by its place among the values of its input.
-#[derive(Debug, Drop)]
+#[derive(Drop)]
 pub enum InputFault {
-    /// The bytes are no JSON, or no object where inputs are read, or no array where public values are.
+    /// The bytes are no JSON, or no object where inputs are read, or no array where public values
+    /// are.
     NotJson,
     /// An input that has elements has no key.
     Missing { input: u32 },

@@ -6,6 +6,7 @@ mod checks;
 mod document;
 mod fault;
 mod input;
+mod laws;
 mod names;
 mod number;
 mod publics;
@@ -13,4 +14,5 @@ mod values;
 
 pub use fault::InputFault;
 pub use input::read_input;
+pub use laws::inputs_are_numbers;
 pub use publics::{read_publics, write_publics};

@@ -1,9 +1,10 @@
 //! The numbers that values stand for.
 
-ghost use Rattle.std.specs.Prelude.{◌≡◌, ◌≤◌, option_and_then, option_map};
+ghost use Rattle.std.specs.Prelude.{◌≡◌, ◌≤◌, option_map};
 ghost use Rattle.serde_json.specs.Find.{as_integer};
 ghost use Rattle.serde_json.specs.View.{view, number_view};
-ghost use Rattle.wit_input.specs.Numbers.{number_of, residue, text_number, whole_of, limited, digits_of, digits_from, reduced, negated};
+ghost use Rattle.wit_input.specs.Numbers.{number_of, residue, text_number, whole_of, limited};
+ghost use Rattle.wit_input.specs.Numbers.{digits_of, digits_from};
 
 use gold_field::Gold;
 use serde_json::{Number, Value};

@@ -1,5 +1,6 @@
 ghost use Rattle.std.specs.Prelude.{◌≡◌, ◌≢◌, ◌++◌, Ok, Err, IfErr, IfOk, OnOk};
-ghost use Rattle.wit_input.specs.Publics.{publics_of, publics_text, items_text, others_text, quoted};
+ghost use Rattle.wit_input.specs.Publics.{publics_of, publics_text, items_text, others_text};
+ghost use Rattle.wit_input.specs.Publics.{quoted};
 ghost use Rattle.wit_input.specs.declared.fault.InputFault.TheVariants.{OutOfMemory};
 
 use crate::document::document;

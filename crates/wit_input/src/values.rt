@@ -12,8 +12,8 @@ use gold_field::Gold;
 use serde_json::Value;
 use std::alloc::{AllocError, Global};
 
-/// The values in a list of JSON values, an array's own in its place. Arrays that are begun wait in a
-/// list, so that nesting takes no stack.
+/// The values in a list of JSON values, an array's own in its place. Arrays that are begun wait in
+/// a list, so that nesting takes no stack.
 pub(crate) fn values_in<'v>(alloc: Global, items: &'v [Value]) -> Result<Vec<&'v Value>, AllocError>
     ensures { IfOk result (λ found. map (λ v. view v.now) found.items
         ≡ values_in (items_of (map view items.now))) }

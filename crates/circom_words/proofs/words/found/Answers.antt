@@ -3,7 +3,7 @@ use Rattle.clap.specs.Faults.{fault_of}
 use Rattle.clap.specs.Simple.{app_of, matches_of}
 use Rattle.circom_words.specs.Matches.{rows_in}
 use Rattle.circom_words.specs.Words.{texts}
-use Rattle.circom_words.proofs.Forms.{simple, found_rows, nothing_found}
+use Rattle.circom_words.proofs.Found.{simple, found_rows, nothing_found}
 use Rattle.circom_words.proofs.words.found.Goals as goal
 
 pub returns-in-Ok : goal.returns-in-Ok

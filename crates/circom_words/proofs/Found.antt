@@ -1,5 +1,5 @@
 -- What `clap` finds in the words of a form.
-use Rattle.std.proofs.Common.{◌≡◌, ◌∙◌, true, List, [], ◌∷◌, Option, Some, None, refl, ap, ap₂, sym}
+use Rattle.std.proofs.Common.{◌≡◌, ◌∙◌, true, List, [], ◌∷◌, Option, Some, None, refl, ap, sym}
 use Rattle.clap.specs.Faults.{fault_of, is_simple_and_free}
 use Rattle.clap.specs.Kinds.{Kinds, IsAmong}
 use Rattle.clap.specs.Simple.{App, is_simple, matches_of}
@@ -9,7 +9,7 @@ use Rattle.clap.specs.declared.parser.matches.Found.{Found}
 use Rattle.clap.specs.declared.error.kind.ErrorKind.{ErrorKind}
 use Rattle.clap.proofs.WalkLemmas.{both as each, first_value-rows}
 use Rattle.std.specs.Option.{option_and_then}
-use Rattle.circom_words.specs.Words.{Command, both, found, reading, unless}
+use Rattle.circom_words.specs.Words.{Command, found, reading, unless}
 
 -- a value by its name in the form is the row's
 pub first_rows : (f : Found) (name : Text) → first_value f name ≡ first_of name (rows_of f)
@@ -42,22 +42,3 @@ pub rows_reading : (form app : App) (command : List Row → Option Command) (wor
     → result ≡ command rows → result ≡ reading form command words
 rows_reading form app command words rows result same some is =
     is ∙ ap (option_and_then command) (some ∙ ap (λ (a : App). found a words) same)
-
--- the command of two names of the form, where the first is missing, the second is, or none
-pub no_first : (command : Text → Text → Command) (f : Found) (p q : Text)
-    → None ≡ first_value f p
-    → None ≡ both command (first_of p (rows_of f)) (first_of q (rows_of f))
-no_first command f p q none =
-    ap (λ (a : Option Text). both command a (first_of q (rows_of f))) (none ∙ first_rows f p)
-
-pub no_second : (command : Text → Text → Command) (f : Found) (p q : Text) (x : Text)
-    → Some x ≡ first_value f p → None ≡ first_value f q
-    → None ≡ both command (first_of p (rows_of f)) (first_of q (rows_of f))
-no_second command f p q x some none =
-    ap₂ (both command) (some ∙ first_rows f p) (none ∙ first_rows f q)
-
-pub both_found : (command : Text → Text → Command) (f : Found) (p q : Text) (x y : Text)
-    → Some x ≡ first_value f p → Some y ≡ first_value f q
-    → Some (command x y) ≡ both command (first_of p (rows_of f)) (first_of q (rows_of f))
-both_found command f p q x y first second =
-    ap₂ (both command) (first ∙ first_rows f p) (second ∙ first_rows f q)

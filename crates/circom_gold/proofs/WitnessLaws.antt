@@ -1,0 +1,189 @@
+-- What the replies to `witness` mean.
+use Rattle.std.proofs.Common.{◌≡◌, ◌∙◌, ◌↔◌, ℕ, suc, ◌+◌, ◌<◌, ◌≤◌, List, [], ◌∷◌, All, length}
+use Rattle.std.proofs.Common.{slice_index, Some, Result, Ok, Err, refl, ap, sym, subst, arith}
+use Rattle.std.proofs.lemmas.List.Elements.{All-nil, All-cons}
+use Rattle.std.specs.Prelude.{sum_by}
+use Rattle.binary_format.specs.Reading.{◌>>=◌}
+use Rattle.gold_field.specs.declared.gold.TheConstants.{P}
+use Rattle.iden_files.specs.Limits.{most_wires}
+use Rattle.iden_files.specs.ReadWtns.{wtns_of}
+use Rattle.iden_files.specs.Spelling.{wtns_bytes}
+use Rattle.iden_files.proofs.ReadAgain.{values_again}
+use Rattle.cir_scope.proofs.Loaded.{loaded}
+use Rattle.cir_values.specs.declared.signals.InputShape.{InputShape}
+use Rattle.cir_meaning.specs.Compile.{InputShape as Shape}
+use Rattle.cir_meaning.specs.Scoped.{IsResolved}
+use Rattle.cir_compile.specs.Written.{AreValues}
+use Rattle.wit_input.specs.Input.{input_of}
+use Rattle.wit_input.specs.declared.fault.InputFault.{InputFault}
+use Rattle.wit_input.proofs.InputNumbers.{input_counted}
+use Rattle.out_io.specs.Contents.{Contents}
+use Rattle.iden_files.specs.File.{File}
+use Rattle.cir_ast.specs.Program.{Program}
+use Rattle.circom_words.specs.Words.{Options}
+use Rattle.circom_words.specs.declared.answer.Refusal.{Refusal}
+use Rattle.circom_words.specs.declared.answer.Verdict.TheVariants.{Satisfied}
+use Rattle.circom_files.specs.Check.{check_of}
+use Rattle.circom_files.specs.Reply.{Reply, Says, said}
+use Rattle.circom_files.specs.Files.{bytes_in}
+use Rattle.circom_files.specs.Running.{witnessed, accepted_input, input_in}
+use Rattle.circom_files.specs.Satisfaction.{Satisfies}
+use Rattle.circom_files.specs.declared.outcome.Ran.{Ran}
+use Rattle.circom_files.specs.declared.outcome.Ran.TheVariants.{Ended, Halted}
+use Rattle.circom_files.proofs.Checked.{check_of_read}
+use Rattle.circom_files.proofs.CheckLaws.{satisfied}
+use Rattle.cir_compile.proofs.OneFile.{one_file}
+use Rattle.circom_gold.specs.Compile.{task_of}
+use Rattle.circom_gold.specs.Witness.{HasWitness, HoldsFileOf, HoldsWitnessOf, IsWitnessed}
+use Rattle.circom_gold.specs.Witness.{Witnesses, GivesInput, IsWitnessOf, WritesWitnessOf}
+use Rattle.circom_gold.specs.Witness.{values_by_wire}
+use Rattle.circom_gold.proofs.InputCounts.{main_inputs, shapes_counted}
+use Rattle.circom_gold.proofs.Satisfied.{values_are, few_values, satisfied_file}
+use Rattle.circom_gold.proofs.OneRun.{one_witness, compiled_as}
+
+module _ (files : Contents) (source input out : List ℕ) (options : Options) (fuel : ℕ) where
+  abbrev Answered : Reply → Type 0
+  Answered r =
+      Says (Some files) (witnessed out)
+      (λ from found. Witnesses from source input options fuel found) r
+
+  -- the status of a reply to what was found
+  abbrev status_in : Result Ran Refusal → ℕ
+  status_in (Ok (Ended values log)) = 0
+  status_in (Ok (Halted h)) = 1
+  status_in (Err refusal) = 1
+
+  status_said : (found : Result Ran Refusal)
+      → (said (witnessed out) found).status ≡ status_in found
+  status_said (Ok (Ended values log)) = refl
+  status_said (Ok (Halted h)) = refl
+  status_said (Err refusal) = refl
+
+  ended : (found : Result Ran Refusal) → Witnesses files source input options fuel found
+      → status_in found ≡ 0 → HasWitness files source input options fuel
+  ended (Ok (Ended values log)) x e = record { values = values; log = log; found = x }
+  ended (Ok (Halted h)) x e = let bad : 1 ≡ 0 = e in absurd (omega (arith, bad))
+  ended (Err refusal) x e = let bad : 1 ≡ 0 = e in absurd (omega (arith, bad))
+
+  pub one_answer : (found : Ran) (r : Reply) → Answered r
+      → IsWitnessed files source input options fuel found → r ≡ witnessed out found
+  one_answer found r (other, x, e) y =
+      e ∙ ap (said (witnessed out))
+      (one_witness files source input options fuel other (Ok found) x y)
+
+  pub status_of : (r : Reply) → Answered r
+      → (r.status ≡ 0) ↔ HasWitness files source input options fuel
+  status_of r (found, x, e) = (
+    λ zero. ended found x
+        (sym (status_said found) ∙ sym (ap (λ (s : Reply). s.status) e) ∙ zero),
+    λ has. ap (λ (s : Reply). s.status)
+        (one_answer (Ended has.values has.log) r (found, x, e) has.found),
+  )
+
+all_small : (xs : List ℕ) → ((k : ℕ) → slice_index xs k < P) → All (λ n. n < P) xs
+all_small [] h = All-nil (λ n. n < P)
+all_small (x ∷ xs) h =
+    All-cons (λ n. n < P) x xs (h 0) (all_small xs (λ k. h (suc k)))
+
+-- an input that is read
+accepted_is : (inputs : List InputShape) (r : Result (List ℕ) InputFault) (ns : List ℕ)
+    → accepted_input inputs r ≡ Ok ns → r ≡ Ok ns
+accepted_is inputs (Ok ms) ns e = let same : ms ≡ ns = cc in ap Ok same
+accepted_is inputs (Err fault) ns e = cc
+
+input_read : (inputs : List InputShape) (b : Result (List ℕ) Refusal) (ns : List ℕ)
+    → (b >>= λ bytes. accepted_input inputs (input_of bytes inputs)) ≡ Ok ns
+    → (bytes : List ℕ) × (input_of bytes inputs ≡ Ok ns)
+input_read inputs (Ok bytes) ns e = (bytes, accepted_is inputs (input_of bytes inputs) ns e)
+input_read inputs (Err r) ns e = let bad : ⊥ = cc in absurd bad
+
+module _ (files : Contents) (input : List ℕ) (p : Program) (resolved : IsResolved p)
+    (inputs : List ℕ) (g : GivesInput files input p (Ok (1 ∷ inputs))) where
+  bytes_read : (bytes : List ℕ) × (input_of bytes g.inputs ≡ Ok (1 ∷ inputs))
+  unfolding input_in
+  bytes_read = input_read g.inputs (bytes_in files input) (1 ∷ inputs) g.reads
+
+  many : length inputs ≡ g.has.meaning.public_inputs + g.has.meaning.private_inputs
+  many =
+      (input_counted bytes_read.0 g.inputs inputs bytes_read.1).many
+      ∙ sym (shapes_counted g.inputs)
+      ∙ ap (λ (shapes : List Shape). sum_by (λ (i : Shape). i.count) shapes) g.has.are
+      ∙ main_inputs p g.has.meaning resolved g.has.compiles
+
+  small : All (λ n. n < P) inputs
+  small = (input_counted bytes_read.0 g.inputs inputs bytes_read.1).below
+
+module _ (files : Contents) (source input out : List ℕ) (options : Options) (fuel : ℕ)
+    (values : List ℕ) (log : List (List ℕ))
+    (w : IsWitnessed files source input options fuel (Ended values log)) where
+  resolved : IsResolved w.program
+  resolved = (loaded files source options.folder w.program w.compiled.loaded).0
+
+  each : length w.inputs
+      ≡ w.given.has.meaning.public_inputs + w.given.has.meaning.private_inputs
+  each = many files input w.program resolved w.inputs w.given
+
+  below : All (λ n. n < P) w.inputs
+  below = small files input w.program resolved w.inputs w.given
+
+  are : AreValues w.file (values_by_wire w.file w.run.0)
+  are = values_are w.program options.level w.file w.compiled.written resolved w.given.has.meaning
+      w.given.has.compiles fuel w.inputs w.run.0 log each below w.run.1
+
+  few : length (values_by_wire w.file w.run.0) ≤ most_wires
+  few = few_values w.program options.level w.file w.compiled.written resolved w.given.has.meaning
+      w.given.has.compiles fuel w.inputs w.run.0 log each below w.run.1
+
+  back : wtns_of (wtns_bytes values) ≡ Ok (values_by_wire w.file w.run.0)
+  back =
+      ap (λ (v : List ℕ). wtns_of (wtns_bytes v)) w.run.2
+      ∙ values_again (values_by_wire w.file w.run.0) few
+      (all_small (values_by_wire w.file w.run.0) are.below)
+
+  pub is_witness : IsWitnessOf files source input options fuel (wtns_bytes values)
+  is_witness = record {
+    program = w.program;
+    file = w.file;
+    compiled = w.compiled;
+    inputs = w.inputs;
+    given = w.given;
+    numbers = w.run.0;
+    log = log;
+    runs = w.run.1;
+    read = back;
+    satisfied =
+        satisfied_file w.program options.level w.file w.compiled.written resolved
+        w.given.has.meaning w.given.has.compiles fuel w.inputs w.run.0 log each below w.run.1;
+  }
+
+-- the reply that says so writes them
+pub written_witness : (files : Contents) (source input out : List ℕ) (options : Options) (fuel : ℕ)
+    (r : Reply) → Says (Some files) (witnessed out)
+    (λ from found. Witnesses from source input options fuel found) r → r.status ≡ 0
+    → WritesWitnessOf files source input options fuel out r
+written_witness files source input out options fuel r answered zero =
+    let has = (status_of files source input out options fuel r answered).0 zero in
+    let is = one_answer files source input out options fuel (Ended has.values has.log) r answered
+    has.found in
+    record {
+      bytes = wtns_bytes has.values;
+      file = ap (λ (s : Reply). s.file) is;
+      witness = is_witness files source input out options fuel has.values has.log has.found;
+    }
+
+-- the two files are read, and `check` of them is satisfied
+pub check_accepts : (files after : Contents) (source input r1cs wtns : List ℕ) (options : Options)
+    (fuel : ℕ) → HoldsFileOf files source options (after r1cs)
+    → HoldsWitnessOf files source input options fuel (after wtns)
+    → check_of after r1cs wtns ≡ Ok Satisfied
+check_accepts files after source input r1cs wtns options fuel f w =
+    let task = task_of source options in
+    let same : w.witness.file ≡ f.file =
+    one_file files task w.witness.file f.file
+    (compiled_as files source options w.witness.program w.witness.file w.witness.compiled)
+    f.compiles in
+    let values = values_by_wire w.witness.file w.witness.numbers in
+    check_of_read after r1cs wtns f.bytes w.bytes f.file values f.there f.read w.there
+    w.witness.read
+    ∙ ap Ok ((satisfied f.file values).1
+    (subst (λ (g : File). Satisfies g values) same w.witness.satisfied))
