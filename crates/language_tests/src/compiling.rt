@@ -1,4 +1,5 @@
 use crate::checks::same;
+use crate::faults::is_kind;
 use crate::loading::{expect_place, store_of};
 use cir_ast::{Form, Kind, Refusal, Which};
 use cir_compile::{CompileFault, Level, compile};
@@ -182,7 +183,7 @@ static REFUSALS: [(&str, Kind, (u32, u32), &str); 25] = [
 fn refusals_stand_at_their_statements(rt: HostRuntime) {
     for (statements, kind, (line, column), path) in REFUSALS.as_slice() {
         let refusal = refusal(&rt, statements);
-        same(&rt, (refusal.kind, *statements), (*kind, *statements));
+        assert!(rt; is_kind(refusal.kind, *kind));
         expect_place(&rt, &refusal, *line, *column, "t.circom");
         same(&rt, refusal.place.path.as_slice(), path.as_bytes());
     }

@@ -40,20 +40,19 @@ fn outer_variables_are_assigned(rt: HostRuntime) {
         let block = conditional(&program).expect(&rt, "a block");
         let found = assigned(rt.alloc(), block).expect(&rt, "memory");
         same(&rt, found.as_slice(), *wanted);
-        same(&rt, allowed_unknown(block), Ok(()));
+        assert!(rt; allowed_unknown(block).is_ok());
     }
 }
 
-static FAULTS: [(&str, UnknownFault); 2] = [
+// A source, whether its first fault is a `log`, and where it stands.
+static FAULTS: [(&str, bool, (u32, u32)); 2] = [
     (
         "template T() { signal output a; signal output b; if (1) {
  for (var i = 0; 1; a <== 1) b <== 2;
 } }
 component main = T();",
-        UnknownFault::Control {
-            line: 2,
-            column: 21,
-        },
+        false,
+        (2, 21),
     ),
     (
         "template T(x) { if (x) {
@@ -61,18 +60,21 @@ component main = T();",
  assert(x);
 } }
 component main = T(1);",
-        UnknownFault::Log {
-            line: 2,
-            column: 21,
-        },
+        true,
+        (2, 21),
     ),
 ];
 
 #[test]
 fn the_first_fault_is_named(rt: HostRuntime) {
-    for (source, wanted) in FAULTS.as_slice() {
+    for (source, is_log, place) in FAULTS.as_slice() {
         let program = program_of(&rt, source);
         let block = conditional(&program).expect(&rt, "a block");
-        same(&rt, allowed_unknown(block), Err(*wanted));
+        let found = match allowed_unknown(block) {
+            Err(UnknownFault::Control { line, column }) => (false, (line, column)),
+            Err(UnknownFault::Log { line, column }) => (true, (line, column)),
+            _ => panic!(rt; "no fault"),
+        };
+        same(&rt, found, (*is_log, *place));
     }
 }

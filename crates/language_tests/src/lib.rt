@@ -12,6 +12,8 @@ mod conditions;
 #[cfg(test)]
 mod expressions;
 #[cfg(test)]
+mod faults;
+#[cfg(test)]
 mod loading;
 #[cfg(test)]
 mod parsing;

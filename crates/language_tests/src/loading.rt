@@ -1,4 +1,5 @@
 use crate::checks::same;
+use crate::faults::is_kind;
 use cir_ast::program::Program;
 use cir_ast::{Kind, Refusal};
 use cir_names::load;
@@ -41,7 +42,7 @@ pub(crate) fn expect_at(
     column: u32,
     file: &str,
 ) {
-    same(rt, refusal.kind, kind);
+    assert!(rt; is_kind(refusal.kind, kind));
     expect_place(rt, refusal, line, column, file);
 }
 

@@ -4,13 +4,17 @@ use cir_lexer::lex;
 use cir_parse::{ParseFault, parse};
 use std::process::Abort;
 
-// The number of the file's items, or the fault.
-fn parsed<R: AllocGlobal + Abort>(rt: &R, source: &str) -> Result<usize, ParseFault> {
+// The number of the file's items, or the token of the fault and the form that is left out.
+fn parsed<R: AllocGlobal + Abort>(rt: &R, source: &str) -> Result<usize, (u32, Option<Form>)> {
     assert!(rt; source.len() <= 4096);
     let tokens = lex(rt.alloc(), source.as_bytes()).ok().expect(rt, "tokens");
     assert!(rt; tokens.len() <= 4096);
-    let file = parse(rt.alloc(), &tokens)?;
-    Ok(file.items.as_slice().len())
+    match parse(rt.alloc(), &tokens) {
+        Ok(file) => Ok(file.items.as_slice().len()),
+        Err(ParseFault::Form { token, form }) => Err((token, Some(form))),
+        Err(ParseFault::Syntax { token }) => Err((token, None)),
+        Err(ParseFault::OutOfMemory) => panic!(rt; "memory"),
+    }
 }
 
 static EACH: &str = "pragma circom 2.1.0; include \"a.circom\"; function f(n) { return n; }
@@ -26,32 +30,11 @@ fn items_of_each_kind_are_read(rt: HostRuntime) {
     same(&rt, parsed(&rt, EACH), Ok(5));
 }
 
-static FAULTS: [(&str, ParseFault); 4] = [
-    (
-        "template A() { } template B() { x <== ; }",
-        ParseFault::Syntax { token: 6 },
-    ),
-    (
-        "template A() { signal input {t} a;",
-        ParseFault::Form {
-            token: 5,
-            form: Form::Tag,
-        },
-    ),
-    (
-        "pragma custom_templates;",
-        ParseFault::Form {
-            token: 0,
-            form: Form::CustomTemplate,
-        },
-    ),
-    (
-        "; bus B() { }",
-        ParseFault::Form {
-            token: 1,
-            form: Form::Bus,
-        },
-    ),
+static FAULTS: [(&str, (u32, Option<Form>)); 4] = [
+    ("template A() { } template B() { x <== ; }", (6, None)),
+    ("template A() { signal input {t} a;", (5, Some(Form::Tag))),
+    ("pragma custom_templates;", (0, Some(Form::CustomTemplate))),
+    ("; bus B() { }", (1, Some(Form::Bus))),
 ];
 
 #[test]
@@ -82,6 +65,5 @@ fn nested<R: AllocGlobal + Abort>(rt: &R, pairs: u32) -> String {
 #[test]
 fn a_tree_is_at_most_256_high(rt: HostRuntime) {
     same(&rt, parsed(&rt, nested(&rt, 254).as_str()), Ok(1));
-    let fault = ParseFault::Syntax { token: 0 };
-    same(&rt, parsed(&rt, nested(&rt, 255).as_str()), Err(fault));
+    same(&rt, parsed(&rt, nested(&rt, 255).as_str()), Err((0, None)));
 }

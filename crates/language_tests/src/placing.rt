@@ -5,10 +5,19 @@ use cir_ast::program::{
 };
 use std::process::Abort;
 
+// Whether both mean the same variable or signal.
+fn is(found: Meant, wanted: Meant) -> bool {
+    match (found, wanted) {
+        (Meant::Variable(n), Meant::Variable(m)) => n == m,
+        (Meant::Signal(a, n), Meant::Signal(b, m)) => a == b && n == m,
+        _ => false,
+    }
+}
+
 // Whether the expression is a name of this meaning.
 fn reads(expression: &Expr, meant: Meant) -> bool {
     match expression {
-        Expr::Place(place) => place.meant == meant,
+        Expr::Place(place) => is(place.meant, meant),
         _ => false,
     }
 }
@@ -18,7 +27,7 @@ fn declares(statement: &Statement, declared: Meant, read: Meant) -> bool {
     match &statement.form {
         StatementForm::Simple(Simple::Vars(vars)) => match vars.variables.get(0) {
             Some(variable) => match &variable.value {
-                Some(value) => variable.meant == declared && reads(value, read),
+                Some(value) => is(variable.meant, declared) && reads(value, read),
                 None => false,
             },
             None => false,

@@ -48,10 +48,14 @@ static CAUSES: [(&[u8], LexCause, u32); 5] = [
 fn names_each_cause(rt: HostRuntime) {
     for (bytes, cause, offset) in CAUSES.as_slice() {
         assert!(rt; bytes.len() <= 4096);
-        let fault = LexFault::At {
-            cause: *cause,
-            offset: *offset,
-        };
-        same(&rt, lex(rt.alloc(), bytes).err(), Some(fault));
+        match lex(rt.alloc(), bytes) {
+            Err(
+                LexFault::At {
+                    cause: c,
+                    offset: o,
+                },
+            ) => same(&rt, (c, o), (*cause, *offset)),
+            _ => panic!(rt; "no fault"),
+        }
     }
 }

@@ -27,15 +27,11 @@ fn a_chain_becomes_one_constraint(rt: HostRuntime) -> Result<(), Fail> {
     let short = simplify(rt.alloc(), list, 1002, 2, Level::O1)?;
     assert_eq!(rt; counts(&short), (3, 1, 1000));
     let last = short.constraints.as_slice().last().ok_or("none is left")?;
-    let output = Term {
-        signal: 1,
-        coef: Gold::ONE.neg(),
+    let [output, input] = last.c.as_slice() else {
+        return Err(Fail::from("no two terms"));
     };
-    let input = Term {
-        signal: 2,
-        coef: Gold::ONE,
-    };
-    assert_eq!(rt; last.c.as_slice(), [output, input].as_slice());
+    assert!(rt; output.signal == 1 && output.coef == Gold::ONE.neg());
+    assert!(rt; input.signal == 2 && input.coef == Gold::ONE);
     Ok(())
 }
 

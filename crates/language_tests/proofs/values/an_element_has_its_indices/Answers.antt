@@ -8,7 +8,8 @@ pub name-requires : goal.name-requires
 name-requires g c =
     let two : decimal 2 ≡ 50 ∷ [] = decimal_digit 2 (omega arith) in
     let declared : List ℕ = 105 ∷ 110 ∷ [] in
-    let spelled-with : List ℕ → List ℕ = λ d. 105 ∷ 110 ∷ 91 ∷ (d ++ (93 ∷ 91 ∷ (d ++ (93 ∷ [])))) in
+    let spelled-with : List ℕ → List ℕ =
+    λ d. 105 ∷ 110 ∷ 91 ∷ (d ++ (93 ∷ 91 ∷ (d ++ (93 ∷ [])))) in
     record {
       first = omega arith;
       entry = record { instance = 0; base = spelled-with (50 ∷ []); place = 2 };
