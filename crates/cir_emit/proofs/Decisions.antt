@@ -8,31 +8,28 @@ use Rattle.cir_ast.specs.declared.program.Meant.{Meant}
 use Rattle.cir_ast.specs.Tree.{Statement, Vars, Assigned, Signals, Declared, Created, Constrain}
 use Rattle.cir_ast.specs.Tree.{Right, TargetLeft, TargetRight, Alone, Block, If, IfElse, While, For}
 use Rattle.cir_ast.specs.Tree.{Return, Assert, Log, Ended}
-use Rattle.cir_meaning.specs.Tried.{Where, next}
+use Rattle.cir_meaning.specs.Tried.{Where}
 use Rattle.cir_meaning.specs.Places.{numbers_from}
 use Rattle.cir_meaning.specs.Arrays.{Datum, single, filled, forgotten}
 use Rattle.cir_meaning.specs.Values.{Known, Opaque}
 use Rattle.cir_meaning.specs.Costs.{Made}
-use Rattle.cir_meaning.specs.Frame.{State, Context, at, settle, variable_at, Part}
+use Rattle.cir_meaning.specs.Frame.{State, Context, at, variable_at, Part}
 use Rattle.cir_meaning.specs.Scoped.{Scope as Names, IsScoped, behind}
 use Rattle.cir_meaning.specs.Scan.{forget_one, forget, scan, undecided}
-use Rattle.cir_meaning.specs.Steps.{stepped, undecided_cost, undecided_cells}
+use Rattle.cir_meaning.specs.Steps.{undecided_cost}
 use Rattle.cir_meaning.specs.Unknown.{Fault, writes, declares, outer_assigned}
 use Rattle.cir_meaning.proofs.Good.{good_is}
-use Rattle.cir_meaning.proofs.Likes.{CallKeeps, Like, like_itself}
+use Rattle.cir_meaning.proofs.Likes.{CallKeeps}
 use Rattle.cir_meaning.proofs.FineValues.{FineContext, Fine}
 use Rattle.cir_meaning.proofs.FineWriting.{forgotten_fine, set_fine}
 use Rattle.cir_meaning.proofs.KnownCalls.{CallBoth}
 use Rattle.cir_meaning.proofs.Fading.{Rest, rest_like, scan_rest}
 use Rattle.cir_meaning.proofs.PartWrites.{set_count}
 use Rattle.cir_meaning.proofs.Scans.{may_any, like_valued, scan_kept}
-use Rattle.cir_meaning.proofs.ScanPoints.{next_to}
 use Rattle.cir_meaning.proofs.ScanStarts.{forget_count, rest_between}
 use Rattle.cir_meaning.proofs.ScopeLaws.{IsSound}
-use Rattle.cir_meaning.proofs.StepRuns.{settle_like, added_like}
 use Rattle.cir_meaning.proofs.UndecidedRuns.{forget_rest}
 use Rattle.cir_meaning.proofs.UndecidedReal.{Scanned}
-use Rattle.cir_meaning.proofs.VariableRuns.{IsAdded, stepped_adds}
 use Rattle.cir_steps.specs.Step.{Step, Deciding}
 use Rattle.cir_steps.specs.Emission.{Emission, known_in, step_of}
 use Rattle.cir_steps.specs.Making.{wanted_of, count_of}
@@ -59,35 +56,9 @@ use Rattle.cir_emit.specs.Sourced.{IsThere, AreSourcesOf, HasAll}
 use Rattle.cir_emit.proofs.MadeSteps.{IsSound as IsSoundStep, lowered_step}
 use Rattle.cir_emit.proofs.Ready.{outer_less, statement_ready}
 use Rattle.cir_steps.specs.Places.{HasPlaces}
+use Rattle.cir_steps.proofs.ReadDecided.{scanned}
 use Rattle.cir_steps.proofs.Sized.{SizedCall}
 use Rattle.cir_meaning.specs.Run.{RunPart}
-
--- the state behind the scan, from which the next one differs in counts alone
-scanned : (k : Context) (spot : Spot) (fault : Option Fault) (a : Statement Spot Meant)
-    (f s : State) → undecided k spot fault a f ≡ Ok s → Scanned k (at k spot) a f s
-scanned k spot (Some x) a f s e = cc
-scanned k spot None a f s e =
-    let one : (s1 : State) × (scan k (at k spot) a (forget (outer_assigned a) f) ≡ Ok s1)
-    × (next (stepped k (at k spot) (undecided_cost k (at k spot) a f s1) (undecided_cells a f) s1)
-    (settle (at k spot)) ≡ Ok s) =
-    next_to (scan k (at k spot) a (forget (outer_assigned a) f)) (λ s1.
-    next (stepped k (at k spot) (undecided_cost k (at k spot) a f s1) (undecided_cells a f) s1)
-    (settle (at k spot))) s e in
-    let two : (s2 : State)
-    × (stepped k (at k spot) (undecided_cost k (at k spot) a f one.0) (undecided_cells a f) one.0
-    ≡ Ok s2) × (settle (at k spot) s2 ≡ Ok s) =
-    next_to (stepped k (at k spot) (undecided_cost k (at k spot) a f one.0) (undecided_cells a f)
-    one.0) (settle (at k spot)) s one.2 in record {
-      after = one.0;
-      scans = one.1;
-      like = good_is (λ t. Like one.0 t) (settle (at k spot) two.0) s two.2
-          (settle_like one.0 (at k spot) two.0
-          (added_like one.0 one.0 two.0 (like_itself one.0)
-          (good_is (IsAdded one.0) (stepped k (at k spot)
-          (undecided_cost k (at k spot) a f one.0) (undecided_cells a f) one.0) two.0 two.1
-          (stepped_adds k (at k spot) (undecided_cost k (at k spot) a f one.0)
-          (undecided_cells a f) one.0))));
-    }
 
 scan_count : (k : Context) (keeps : CallKeeps k.call) (w : Where) (a : Statement Spot Meant)
     (t t1 : State) → scan k w a t ≡ Ok t1

@@ -2,7 +2,7 @@
 use Rattle.std.proofs.Common.{◌≡◌, ℕ, zero, suc, ◌+◌, ◌<◌, ◌≤◌, Bool, true, false, cond, List, []}
 use Rattle.std.proofs.Common.{◌∷◌, ◌++◌, length, Option, Some, None, Ok, Err, refl, sym, ap, subst}
 use Rattle.std.proofs.Common.{◌∙◌, arith, slice_get}
-use Rattle.std.specs.Prelude.{⊤, not, ◌==◌, ◌&&◌, is_none}
+use Rattle.std.specs.Prelude.{not, ◌==◌, ◌&&◌, is_none}
 use Rattle.std.specs.List.{AllByRecursion}
 use Rattle.std.proofs.lemmas.Bool.{ltb-true}
 use Rattle.cir_ast.specs.declared.operators.Arrow.{Arrow}

@@ -1,7 +1,7 @@
 -- What a condition that isn't known left is a step that reads what is there already.
-use Rattle.std.proofs.Common.{◌≡◌, ℕ, ◌+◌, ◌<◌, Bool, true, false, cond, List, [], ◌∷◌, ◌++◌}
-use Rattle.std.proofs.Common.{Option, Some, None, Ok, refl, sym, ap, ◌∙◌, slice_get}
-use Rattle.std.specs.Prelude.{⊤, not, filter, unwrap_or}
+use Rattle.std.proofs.Common.{◌≡◌, ℕ, Bool, true, false, cond, List, [], ◌∷◌, ◌++◌}
+use Rattle.std.proofs.Common.{Option, Some, None, Ok, refl, sym, ap, slice_get}
+use Rattle.std.specs.Prelude.{not, filter, unwrap_or}
 use Rattle.std.specs.List.{AllByRecursion}
 use Rattle.cir_ast.specs.declared.program.Spot.{Spot}
 use Rattle.cir_ast.specs.declared.program.Meant.{Meant}
@@ -18,6 +18,7 @@ use Rattle.cir_meaning.specs.Scan.{scan, undecided, forget}
 use Rattle.cir_meaning.specs.Texts.{Wanted, wanted_in}
 use Rattle.cir_meaning.specs.Costs.{Cell as Read, Element, cost_of, unknown_at}
 use Rattle.cir_meaning.specs.Steps.{stepped, undecided_cost, undecided_cells, start_reads, is_outer}
+use Rattle.cir_meaning.proofs.UndecidedReal.{Scanned}
 use Rattle.cir_meaning.proofs.Good.{good_ok, good_as, good_is}
 use Rattle.cir_meaning.proofs.Rows.{all_append, all_map, all_joined}
 use Rattle.cir_meaning.proofs.Likes.{CallKeeps, Like, like_itself}
@@ -42,13 +43,8 @@ use Rattle.cir_steps.proofs.ReadSources.{in_from, variables_put}
 use Rattle.cir_steps.proofs.ReadScans.{statement_told}
 use Rattle.cir_steps.proofs.ReadLeaves.{Moves, Reads, one_moves, value_told, stays_clear, Good}
 
--- the states of a statement that is scanned
-record Scanned (k : Context) (w : Where) (a : Statement Spot Meant) (f s : State) : Type 0 where
-  after : State
-  scans : scan k w a (forget (outer_assigned a) f) ≡ Ok after
-  like : Like after s
-
-scanned : (k : Context) (spot : Spot) (fault : Option Fault) (a : Statement Spot Meant)
+-- the state behind the scan, from which the next one differs in counts alone
+pub scanned : (k : Context) (spot : Spot) (fault : Option Fault) (a : Statement Spot Meant)
     (f s : State) → undecided k spot fault a f ≡ Ok s → Scanned k (at k spot) a f s
 scanned k spot (Some x) a f s e = cc
 scanned k spot None a f s e =

@@ -2,7 +2,7 @@
 -- and are written.
 use Rattle.std.proofs.Common.{◌≡◌, ℕ, zero, suc, ◌+◌, ◌*◌, ◌<◌, ◌≤◌, Bool, true, false, cond, List}
 use Rattle.std.proofs.Common.{[], ◌∷◌, ◌++◌, map, flat_map, Option, Some, None, Ok, refl, sym, ap}
-use Rattle.std.proofs.Common.{subst, ◌∙◌, arith, slice_get, ◌&&◌, ◌||◌, nat_lt, is_some, ◌⊎◌, inl}
+use Rattle.std.proofs.Common.{subst, ◌∙◌, arith, slice_get, ◌||◌, nat_lt, is_some, ◌⊎◌, inl}
 use Rattle.std.proofs.Common.{inr}
 use Rattle.std.specs.Prelude.{⊤, not, filter}
 use Rattle.std.specs.List.{AllByRecursion, list_all}

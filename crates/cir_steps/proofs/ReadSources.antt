@@ -1,7 +1,7 @@
 -- Where the elements of variables have their numbers from, while steps are made.
-use Rattle.std.proofs.Common.{◌≡◌, ◌⊎◌, inl, inr, ℕ, zero, suc, ◌+◌, ◌<◌, ◌≤◌, List, [], ◌∷◌, ◌++◌}
-use Rattle.std.proofs.Common.{map, sym, subst, ◌∙◌, arith, slice_set, eq-or-lt_of_le}
-use Rattle.std.specs.Prelude.{⊤, slice_index_or}
+use Rattle.std.proofs.Common.{◌≡◌, ◌⊎◌, inl, inr, ℕ, zero, suc, ◌+◌, ◌<◌, ◌≤◌, List, [], ◌∷◌}
+use Rattle.std.proofs.Common.{map, sym, subst, arith, slice_set, eq-or-lt_of_le}
+use Rattle.std.specs.Prelude.{slice_index_or}
 use Rattle.std.specs.List.{AllByRecursion}
 use Rattle.cir_meaning.specs.Places.{numbers_from}
 use Rattle.cir_meaning.specs.Arrays.{put_items}

@@ -4,7 +4,7 @@ use Rattle.std.proofs.Common.{◌≡◌, ◌≢◌, ◌⊎◌, inl, inr, ℕ, ze
 use Rattle.std.proofs.Common.{false, cond, List, [], ◌∷◌, ◌++◌, map, length, Option, Some, None, Ok}
 use Rattle.std.proofs.Common.{refl, sym, ap, subst, ◌∙◌, arith, slice_get, slice_set, is_some}
 use Rattle.std.proofs.Common.{nat_eq}
-use Rattle.std.specs.Prelude.{⊤, ◌&&◌, ◌||◌, not}
+use Rattle.std.specs.Prelude.{◌&&◌, not}
 use Rattle.std.specs.List.{list_all}
 use Rattle.std.proofs.lemmas.Bool.{eqb-true}
 use Rattle.cir_ast.specs.declared.program.Meant.{Meant}
@@ -16,7 +16,6 @@ use Rattle.cir_ast.specs.declared.refusal.Kind.TheVariants.{ReadBeforeWrite, Sec
 use Rattle.cir_ast.specs.declared.refusal.Kind.TheVariants.{ShapeDiffers}
 use Rattle.cir_ast.specs.Tree.{Expr, Accessors, done, index, member}
 use Rattle.cir_meaning.specs.Tried.{Where, Tried, next, needed}
-use Rattle.cir_meaning.specs.Places.{elements}
 use Rattle.cir_meaning.specs.Arrays.{Datum, Scalar, Whole, the_item, same_dims}
 use Rattle.cir_meaning.specs.Values.{Value, Parts, parts_of, difference_of, known_number}
 use Rattle.cir_meaning.specs.Frame.{SignalEntry, Signals, Part, Sizes, State, Context, is_input}
@@ -46,7 +45,7 @@ use Rattle.cir_steps.specs.Step.{Step}
 use Rattle.cir_steps.specs.Making.{written_elements}
 use Rattle.cir_steps.specs.Written.{times}
 use Rattle.cir_steps.specs.Places.{HasFewMembers, IsWiredPlace}
-use Rattle.cir_steps.proofs.Wiring.{marks_at, flag, behind}
+use Rattle.cir_steps.proofs.Wiring.{marks_at, flag}
 use Rattle.cir_steps.proofs.ReadCells.{In, in_first, in_rest, Behind, behind_weaker, Given}
 use Rattle.cir_steps.proofs.ReadLeaves.{Reads, both_reads, value_told, none_left}
 
