@@ -1,11 +1,13 @@
 ghost use Rattle.std.specs.Prelude.{◌≡◌, ◌<◌, ◌≤◌, ◌+◌, ◌-◌, ◌^◌, suc, [], ◌∷◌, length, map, IfOk};
+ghost use Rattle.std.specs.Prelude.{true};
 ghost use Rattle.cir_token.specs.declared.token.Symbol.TheVariants.{CloseBracket, CloseParenthesis};
+ghost use Rattle.cir_token.specs.declared.token.Symbol.TheVariants.{Question};
 ghost use Rattle.cir_expression.specs.Reading.{expression, place, arguments, climb, chain, choice};
 ghost use Rattle.cir_expression.specs.Reading.{operand_by, grouped_by, named_by, arguments_by};
 ghost use Rattle.cir_expression.specs.Reading.{called_by, listed_to, named_to, accessors_by};
 ghost use Rattle.cir_expression.specs.Reading.{element, elements_to, whole, continued, group};
 ghost use Rattle.cir_ast.specs.Tree.{done, unnamed};
-ghost use Rattle.cir_expression.specs.Front.{next};
+ghost use Rattle.cir_expression.specs.Front.{next, begins};
 ghost use Rattle.cir_expression.specs.Answers.{kinds, Reads, seen, seen_element, seen_group, named};
 ghost use Rattle.cir_expression.specs.Measured.{IsMeasured, IsMeasuredElement, IsLowElement};
 ghost use Rattle.cir_expression.specs.Measured.{seen_reading, Elements, Measures, Gathers, Names};
@@ -248,6 +250,29 @@ impl<'a> Reader<'a> {
         if !self.begins(Symbol::Question) {
             return Ok(condition);
         }
+        let found = self.branches(alloc, inner, condition)?;
+        Ok(found)
+    }
+
+    // `?` and what follows it. Few expressions have it, so the room that this takes on the stack is
+    // kept out of the way of all others.
+    #[cycle(expressions)]
+    #[inline(never)]
+    fn branches<N: Blank + Drop>(
+        &mut self,
+        alloc: Global,
+        inner: u32,
+        condition: Reading<N>,
+    ) -> Result<Reading<N>, Stop>
+        requires room { inner + 1 < 2 ^ 16 }
+        requires condition { IsMeasured condition }
+        requires condition_low { condition.height ≤ inner + 1 }
+        requires asked { begins Question (kinds self.old.rest.now) ≡ true }
+        ensures read { Measures result (kinds self.new.rest.now)
+            (choice (climb inner) (inner + 1) 1 (seen condition.tree)
+            (kinds self.old.rest.now)) }
+        ensures low { IfOk result (λ r. r.height ≤ inner + 1) }
+    {
         self.skip();
         let first = self.climb(alloc, inner, 1)?;
         self.behind(Symbol::Colon)?;

@@ -12,7 +12,10 @@ abbrev pub decreases-chain : goal.decreases-chain
 decreases-chain g l = 8 * l.inner + 1
 
 abbrev pub decreases-choice : goal.decreases-choice
-decreases-choice g l = 8 * l.inner + 1
+decreases-choice g l = 8 * l.inner + 2
+
+abbrev pub decreases-branches : goal.decreases-branches
+decreases-branches g l = 8 * l.inner + 1
 
 abbrev pub decreases-list : goal.decreases-list
 decreases-list g l = 8 * l.room + 1
