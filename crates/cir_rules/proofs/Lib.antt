@@ -3,3 +3,4 @@ pub mod Reaching
 pub mod Shaping
 pub mod Judging
 pub mod Called
+pub mod Placing

@@ -3,3 +3,4 @@ pub mod Queue
 pub mod Ranked
 pub mod Shaped
 pub mod Judged
+pub mod Table

@@ -6,8 +6,10 @@
 mod made;
 mod ranks;
 mod shapes;
+mod table;
 mod verdict;
 
 pub use cir_texts::has_literal;
 pub use made::Made;
+pub use table::CallTable;
 pub use verdict::{Verdict, add_called, judge};

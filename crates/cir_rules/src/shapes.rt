@@ -17,8 +17,9 @@ ghost use Rattle.cir_rules.specs.Queue.{with_new};
 ghost use Rattle.cir_rules.specs.Shaped.{dims_in, lists_in, all_shapes, shaped, literal_of};
 ghost use Rattle.cir_rules.specs.Shaped.{dropped, fits_all, written_size};
 
-use crate::made::{Made, add_new};
+use crate::made::Made;
 use crate::ranks::indices_count;
+use crate::table::CallTable;
 use cir_arrays::{Want, size_of};
 use cir_ast::program::{Accessor, Assign, DeclaredVariable, Expr, Meant, Place};
 use cir_texts::{Assigned, Called, Texts, Wanted, declaration_of, value_of, written_dims};
@@ -261,15 +262,15 @@ impl Shapes<'_, '_, '_> {
     }
 
     /// Adds the calls in the body, with the shapes of their arguments.
-    pub fn add_calls(&self, calls: &[Called], known: &mut Vec<Made>) -> Result<(), AllocError>
-        ensures { OnOk result (map made_of known.new.items
-            ≡ with_new F.same_made (map made_of known.old.items)
+    pub fn add_calls(&self, calls: &[Called], known: &mut CallTable) -> Result<(), AllocError>
+        ensures { OnOk result (map made_of known.new.calls.items
+            ≡ with_new F.same_made (map made_of known.old.calls.items)
             (shaped (dims_in self.now) (map called_of calls.now))) }
     {
         for inner in calls {
             let shapes = self.argument_shapes(inner.arguments)?;
             let function = inner.function;
-            add_new(known, Made { function, shapes })?;
+            known.add(self.alloc, Made { function, shapes })?;
         }
         Ok(())
     }

@@ -10,9 +10,10 @@ ghost use Rattle.cir_rules.specs.Shown.{made_of};
 ghost use Rattle.cir_rules.specs.Judged.{Judges, function_calls, dimension_runs, misplaces};
 ghost use Rattle.cir_rules.specs.Judged.{misfits, too_many, too_large};
 
-use crate::made::{Made, made_in};
+use crate::made::Made;
 use crate::ranks::has_run_array;
 use crate::shapes::Shapes;
+use crate::table::CallTable;
 use cir_ast::program::Program;
 use cir_ast::{Form, Kind};
 use cir_texts::{has_misplaced, has_run_dimension, text_of};
@@ -152,13 +153,13 @@ fn made_reached(alloc: Global, program: &Program, made: &[Made]) -> Result<Shape
     ensures elements { IfOk result (λ s. s.elements
         ≡ standing (F.function_elements (bare_program program.now) (map made_of made.now))) }
 {
-    let mut known = made_in(alloc, made)?;
+    let mut known = CallTable::of(alloc, made)?;
     let mut shaped = Shaped {
         has_misfit: false,
         elements: 0,
     };
     let mut at = 0;
-    'visits: while at < known.len() {
+    'visits: while at < known.calls.len() {
         let one = visit_made(alloc, program, at, &mut known)?;
         shaped = shaped.and(one);
         at += 1;
@@ -203,13 +204,13 @@ pub fn add_called(
     alloc: Global,
     program: &Program,
     at: usize,
-    known: &mut Vec<Made>,
+    known: &mut CallTable,
 ) -> Result<(), AllocError>
-    ensures { OnOk result (map made_of known.new.items
+    ensures { OnOk result (map made_of known.new.calls.items
         ≡ visited F.same_made (F.shaped_calls (bare_program program.now)) at
-        (map made_of known.old.items)) }
+        (map made_of known.old.calls.items)) }
 {
-    let Some(call) = known.get(at) else {
+    let Some(call) = known.calls.get(at) else {
         return Ok(());
     };
     let call = call.copy(alloc)?;
@@ -229,18 +230,19 @@ fn visit_made(
     alloc: Global,
     program: &Program,
     at: usize,
-    known: &mut Vec<Made>,
+    known: &mut CallTable,
 ) -> Result<Shaped, AllocError>
     ensures misfit { IfOk result (λ s. s.has_misfit
-        ≡ told (misfits (bare_program program.now)) (slice_get (map made_of known.old.items) at)) }
+        ≡ told (misfits (bare_program program.now))
+        (slice_get (map made_of known.old.calls.items) at)) }
     ensures elements { IfOk result (λ s. s.elements
         ≡ standing (too_large (bare_program program.now)
-        (slice_get (map made_of known.old.items) at))) }
-    ensures more { OnOk result (map made_of known.new.items
+        (slice_get (map made_of known.old.calls.items) at))) }
+    ensures more { OnOk result (map made_of known.new.calls.items
         ≡ visited F.same_made (F.shaped_calls (bare_program program.now)) at
-        (map made_of known.old.items)) }
+        (map made_of known.old.calls.items)) }
 {
-    let Some(call) = known.get(at) else {
+    let Some(call) = known.calls.get(at) else {
         return Ok(Shaped {
             has_misfit: false,
             elements: 0,

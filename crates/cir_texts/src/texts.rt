@@ -154,7 +154,7 @@ impl<'p> Texts<'p> {
     }
 
     #[cycle(adding)]
-    fn add(&mut self, statement: &'p Statement) -> Result<(), AllocError>
+    pub fn add(&mut self, statement: &'p Statement) -> Result<(), AllocError>
         ensures wanted { OnOk result (map wanted_of self.new.wanted.items
             ≡ map wanted_of self.old.wanted.items ++ T.wanted_in (bare_statement statement.now)) }
         ensures returned { OnOk result (map (λ e. bare e.now) self.new.returned.items
@@ -321,7 +321,7 @@ impl<'p> Texts<'p> {
         Ok(())
     }
 
-    fn add_assign(&mut self, assign: &'p Assign) -> Result<(), AllocError>
+    pub fn add_assign(&mut self, assign: &'p Assign) -> Result<(), AllocError>
         ensures wanted { OnOk result (map wanted_of self.new.wanted.items
             ≡ map wanted_of self.old.wanted.items ++ T.assign_wanted (bare_assign assign.now)) }
         ensures returned { self.new.returned ≡ self.old.returned }

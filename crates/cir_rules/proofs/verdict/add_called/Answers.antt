@@ -13,11 +13,11 @@ use Rattle.cir_rules.proofs.verdict.add_called.Goals as goal
 
 pub returns-in_default : goal.returns-in_default
 returns-in_default c =
-    let known = map made_of c.args.known.now.items in
+    let known = map made_of c.args.known.now.calls.items in
     sym (ap (λ o. Q.with_new F.same_made known
     (Q.calls_of (F.shaped_calls (bare_program c.args.program.now)) o))
-    (not_found made_of c.args.known.now.items c.deref.result.now c.args.at c.deref.ensures.value
-    c.in_default.ensures.lookup.3)
+    (not_found made_of c.args.known.now.calls.items c.deref.result.now c.args.at
+    c.deref.ensures.value c.in_default.ensures.lookup.3)
     ∙ append-nil known)
 
 pub returns : goal.returns
@@ -25,8 +25,8 @@ returns c =
     let p = bare_program c.args.program.now in
     let call = c.in_ok-call.call in
     let t = c.in_ok-texts.texts in
-    let known = map made_of c.args.known.now.items in
-    let here = found_at made_of c.args.known.now.items c.deref.result.now c.args.at
+    let known = map made_of c.args.known.now.calls.items in
+    let here = found_at made_of c.args.known.now.calls.items c.deref.result.now c.args.at
     c.in-Some.call.now c.deref.ensures.value c.in-Some.ensures.lookup.3.0
     c.in-Some.ensures.lookup.1 in
     c.in_ok-add_calls.ensures

@@ -16,12 +16,13 @@ pub visits-preserved : goal.visits-preserved
 visits-preserved c =
     let p = bare_program c.args.program.now in
     let at = c.visits.at in
-    let known = map made_of c.visits.known.items in
-    let new = map made_of c.visit_made.new.known.items in
+    let known = map made_of c.visits.known.calls.items in
+    let new = map made_of c.visit_made.new.known.calls.items in
     let one = c.in_ok-one.one in
     let so_far = first_too_large (map (elements_of p) (take at known)) in
     let lt : at < length known =
-    let size = length-map c.visits.known.items made_of in omega (arith, size, c.len.ensures) in
+    let size = length-map c.visits.known.calls.items made_of in
+    omega (arith, size, c.len.ensures) in
     record {
       misfit = rw c.and-shaped.ensures.misfit (visits_more same_made (shaped_calls p) (misfits p)
           (map made_of c.args.made.now) known _ at _ _ c.visits.invariant.misfit lt
@@ -42,19 +43,19 @@ pub returns-clause-misfit : goal.returns-clause-misfit
 returns-clause-misfit c =
     let p = bare_program c.args.program.now in
     visits_all same_made (shaped_calls p) (misfits p) (map made_of c.args.made.now)
-    (map made_of c.visits.known.items) c.visits.at _ c.visits.invariant.misfit
-    (let size = length-map c.visits.known.items made_of in omega (arith, size, c.len.ensures))
+    (map made_of c.visits.known.calls.items) c.visits.at _ c.visits.invariant.misfit
+    (let size = length-map c.visits.known.calls.items made_of in omega (arith, size, c.len.ensures))
     (omega (arith, c.visits.auto.at-fits))
 
 pub returns-clause-elements : goal.returns-clause-elements
 returns-clause-elements c =
     let p = bare_program c.args.program.now in
-    let known = map made_of c.visits.known.items in
+    let known = map made_of c.visits.known.calls.items in
     c.visits.invariant.elements
     ∙ ap (λ k. standing (first_too_large (map (elements_of p) k)))
     (take_all c.visits.at known
-    (let size = length-map c.visits.known.items made_of in omega (arith, size, c.len.ensures))
+    (let size = length-map c.visits.known.calls.items made_of in omega (arith, size, c.len.ensures))
     ∙ sym (all_reached-is same_made (shaped_calls p) (map made_of c.args.made.now) known c.visits.at
     c.visits.invariant.misfit.known_is
-    (let size = length-map c.visits.known.items made_of in omega (arith, size, c.len.ensures))
+    (let size = length-map c.visits.known.calls.items made_of in omega (arith, size, c.len.ensures))
     (omega (arith, c.visits.auto.at-fits))))

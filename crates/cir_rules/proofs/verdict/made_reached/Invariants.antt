@@ -13,9 +13,9 @@ invariant-visits l =
     let p = bare_program l.program in
     record {
       misfit : Visits same_made (shaped_calls p) (misfits p) (map made_of l.made)
-          (map made_of l.known.items) l.at l.shaped.has_misfit;
+          (map made_of l.known.calls.items) l.at l.shaped.has_misfit;
       elements : l.shaped.elements ≡ standing
-          (first_too_large (map (elements_of p) (take l.at (map made_of l.known.items))));
+          (first_too_large (map (elements_of p) (take l.at (map made_of l.known.calls.items))));
     }
 
 abbrev pub decreases-visits : goal.decreases-visits

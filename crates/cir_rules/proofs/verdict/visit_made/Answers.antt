@@ -35,11 +35,11 @@ fits_is p m t s =
 
 pub returns-in_default-clause-more : goal.returns-in_default-clause-more
 returns-in_default-clause-more c =
-    let known = map made_of c.args.known.now.items in
+    let known = map made_of c.args.known.now.calls.items in
     sym (ap (λ o. Q.with_new F.same_made known
     (Q.calls_of (F.shaped_calls (bare_program c.args.program.now)) o))
-    (not_found made_of c.args.known.now.items c.deref.result.now c.args.at c.deref.ensures.value
-    c.in_default.ensures.lookup.3)
+    (not_found made_of c.args.known.now.calls.items c.deref.result.now c.args.at
+    c.deref.ensures.value c.in_default.ensures.lookup.3)
     ∙ append-nil known)
 
 pub returns-clause-misfit : goal.returns-clause-misfit
@@ -47,7 +47,7 @@ returns-clause-misfit c =
     let p = bare_program c.args.program.now in
     let call = c.in_ok-call.call in
     let t = c.in_ok-texts.texts in
-    let here = found_at made_of c.args.known.now.items c.deref.result.now c.args.at
+    let here = found_at made_of c.args.known.now.calls.items c.deref.result.now c.args.at
     c.in-Some.call.now c.deref.ensures.value c.in-Some.ensures.lookup.3.0
     c.in-Some.ensures.lookup.1 in
     ap not (c.in_ok-fits.ensures
@@ -63,7 +63,7 @@ returns-clause-elements c =
     let p = bare_program c.args.program.now in
     let call = c.in_ok-call.call in
     let t = c.in_ok-texts.texts in
-    let here = found_at made_of c.args.known.now.items c.deref.result.now c.args.at
+    let here = found_at made_of c.args.known.now.calls.items c.deref.result.now c.args.at
     c.in-Some.call.now c.deref.ensures.value c.in-Some.ensures.lookup.3.0
     c.in-Some.ensures.lookup.1 in
     c.if_too_many.ensures
@@ -82,8 +82,8 @@ returns-clause-more c =
     let p = bare_program c.args.program.now in
     let call = c.in_ok-call.call in
     let t = c.in_ok-texts.texts in
-    let known = map made_of c.args.known.now.items in
-    let here = found_at made_of c.args.known.now.items c.deref.result.now c.args.at
+    let known = map made_of c.args.known.now.calls.items in
+    let here = found_at made_of c.args.known.now.calls.items c.deref.result.now c.args.at
     c.in-Some.call.now c.deref.ensures.value c.in-Some.ensures.lookup.3.0
     c.in-Some.ensures.lookup.1 in
     c.in_ok-add_calls.ensures

@@ -14,7 +14,7 @@ use Rattle.cir_rules.proofs.shapes.Shapes.add_calls.Goals as goal
 
 pub loop-inner-preserved : goal.loop-inner-preserved
 loop-inner-preserved c =
-    let known = map made_of c.loop-inner.known.items in
+    let known = map made_of c.loop-inner.known.calls.items in
     let dims = dims_in c.args.self.now in
     let x = c.inner-item.result in
     let next : Made = record {
@@ -26,6 +26,6 @@ loop-inner-preserved c =
     (ap (λ shapes. record { function = x.function; shapes = shapes }
     ∷ shaped dims (map called_of (drop (c.loop-inner.inner-index + 1) c.args.calls.now)))
     (map_bare (λ e. unwrap_or (shape_in dims Whole e) []) x.arguments.now))
-    (c.in_ok-add_new.ensures ∙ ap (λ shapes. with_new same_made known
+    (c.in_ok-add.ensures ∙ ap (λ shapes. with_new same_made known
     (record { function = x.function; shapes = shapes } ∷ [])) c.in_ok-shapes.ensures)
     c.loop-inner.invariant

@@ -9,7 +9,7 @@ use Rattle.cir_rules.proofs.shapes.Shapes.add_calls.Given as goal
 
 abbrev pub invariant-loop-inner : goal.invariant-loop-inner
 invariant-loop-inner l =
-    with_new same_made (map made_of l.known.items)
+    with_new same_made (map made_of l.known.calls.items)
     (shaped (dims_in l.self) (map called_of (drop l.inner-index l.calls)))
-    ≡ with_new same_made (map made_of l.fn.known.items)
+    ≡ with_new same_made (map made_of l.fn.known.calls.items)
     (shaped (dims_in l.self) (map called_of l.calls))
