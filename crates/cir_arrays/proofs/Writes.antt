@@ -26,7 +26,7 @@ pub put_nothing : {A : Type 0} (ks : List ℕ) (items : List A) → put_items ks
 put_nothing [] items = refl
 put_nothing (k ∷ ks) items = refl
 
-put_nowhere : {A : Type 0} (ks : List ℕ) (new : List A) → put_items ks new [] ≡ []
+pub put_nowhere : {A : Type 0} (ks : List ℕ) (new : List A) → put_items ks new [] ≡ []
 put_nowhere [] new = refl
 put_nowhere (k ∷ ks) [] = refl
 put_nowhere (k ∷ ks) (a ∷ new) = put_nowhere ks new

@@ -18,5 +18,6 @@ pub use assigning::{
 pub use body::Body;
 pub use creating::{Creation, created_at, may_be, path_of, template_call};
 pub use declaring::{components, created, declared_number, signals, variables};
+pub use record::constrain;
 pub use setting::set;
 pub use wiring::{Wiring, equal, set_signal, target_in, wiring_cost, write_signal};

@@ -9,4 +9,5 @@ mod steps;
 
 pub use cost::{Cost, log_cost};
 pub use reads::Cell;
+pub use seen::seen as seen_value;
 pub use steps::stepped;

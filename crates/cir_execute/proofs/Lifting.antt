@@ -177,7 +177,7 @@ module _ (p : Program) (first : ℕ) where
   assign_left (Increment name m accessors) n = tt
   assign_left (Decrement name m accessors) n = tt
 
-  before_left : (x : Simple Meant) (n : ℕ) → LiftsLeft (lift_simple p first x n)
+  pub before_left : (x : Simple Meant) (n : ℕ) → LiftsLeft (lift_simple p first x n)
   before_left (Vars vs) n = tt
   before_left (Signals d signals) n =
       left_both (lift_each signal_lift signals n).before _
@@ -207,7 +207,7 @@ module _ (p : Program) (first : ℕ) where
   assign_value (Increment name m accessors) n = tt
   assign_value (Decrement name m accessors) n = tt
 
-  value_is_left : (x : Simple Meant) (n : ℕ) → IsLeft (lift_simple p first x n).value
+  pub value_is_left : (x : Simple Meant) (n : ℕ) → IsLeft (lift_simple p first x n).value
   value_is_left (Vars vs) n = tt
   value_is_left (Signals d signals) n = tt
   value_is_left (Declared cs) n = tt

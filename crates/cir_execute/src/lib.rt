@@ -8,5 +8,8 @@ mod statement;
 mod undecided;
 
 pub use inside::inside_cost;
-pub use statement::{Flow, decide, decide_branch, execute_all, too_many};
-pub use undecided::{Loop, Rest, allowed, enclose, forget, read_before, scan_rest, touched};
+pub use statement::{Flow, decide, decide_branch, execute_all, log, too_many};
+pub use undecided::{
+    Loop, Rest, allowed, enclose, forget, read_before, scan_rest, touched,
+    undecided as execute_undecided,
+};

@@ -345,7 +345,7 @@ fn assert<C: Fn(Spot, u32, Vec<Datum>, &mut World) -> Result<Datum, Fault>>(
 }
 
 /// The values of a `log` are cells.
-fn log<C: Fn(Spot, u32, Vec<Datum>, &mut World) -> Result<Datum, Fault>>(
+pub fn log<C: Fn(Spot, u32, Vec<Datum>, &mut World) -> Result<Datum, Fault>>(
     context: &Context<C>,
     spot: Spot,
     arguments: &[LogArgument],

@@ -42,7 +42,7 @@ pub struct Opening<'a> {
 }
 
 impl<'a> Opening<'a> {
-    fn inside(self, room: u32) -> Opening<'a>
+    pub fn inside(self, room: u32) -> Opening<'a>
         ensures { result ≡ record self.entry { room = room } }
     {
         Opening {
@@ -238,7 +238,7 @@ fn emptied(alloc: Global, world: &World) -> World
     }
 }
 
-fn more_than(variables: u32, arguments: usize) -> u32
+pub fn more_than(variables: u32, arguments: usize) -> u32
     ensures { result ≡ variables - arguments }
 {
     match u32::try_from(arguments) {
@@ -387,7 +387,7 @@ where
     }
 }
 
-fn new_instance(alloc: Global, path: &[u8], world: &mut World) -> Result<u32, AllocError>
+pub fn new_instance(alloc: Global, path: &[u8], world: &mut World) -> Result<u32, AllocError>
     ensures number { IfOk result (λ n. n ≡ length world.old.instances.items) }
     ensures world { (qs : List Equation) → OnOk result (world_of world.new qs
         ≡ record (world_of world.old qs) {
@@ -405,7 +405,7 @@ fn new_instance(alloc: Global, path: &[u8], world: &mut World) -> Result<u32, Al
 
 /// At the end of a body every output and every inner signal is written, and every input of each
 /// component.
-fn ended<C>(context: &Context<C>, frame: Frame) -> Result<Vec<Option<SignalEntry>>, Fault>
+pub fn ended<C>(context: &Context<C>, frame: Frame) -> Result<Vec<Option<SignalEntry>>, Fault>
     ensures { (call : F.Caller) (make : _) (s : F.State) →
         s.frame.signals ≡ signals_of frame.signals.items →
         s.frame.parts ≡ map part_of frame.parts.items →

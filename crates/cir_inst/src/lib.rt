@@ -5,4 +5,7 @@ mod bodies;
 mod circuit;
 mod table;
 
+pub use bodies::{
+    MOST_OPEN, Opening, Place, call_function, context_in, ended, more_than, new_instance,
+};
 pub use circuit::{Circuit, InstFault, instantiate};

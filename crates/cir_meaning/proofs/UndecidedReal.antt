@@ -51,7 +51,7 @@ pub record Scanned (k : Context) (w : Where) (a : Statement Spot Meant) (f s : S
   pub scans : scan k w a (forget (outer_assigned a) f) ≡ Ok after
   pub like : Like after s
 
-scanned : (k : Context) (spot : Spot) (fault : Option Fault) (a : Statement Spot Meant)
+pub scanned : (k : Context) (spot : Spot) (fault : Option Fault) (a : Statement Spot Meant)
     (f s : State) → undecided k spot fault a f ≡ Ok s → Scanned k (at k spot) a f s
 scanned k spot (Some x) a f s e = cc
 scanned k spot None a f s e =

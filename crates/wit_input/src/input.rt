@@ -11,8 +11,8 @@ use cir_values::{InputShape, Signals};
 use gold_field::Gold;
 use std::alloc::Global;
 
-/// 1, and then the values of the inputs in the order of their numbers, from a JSON object that has a
-/// key for each input.
+/// 1, and then the values of the inputs in the order of their numbers, from a JSON object that has
+/// a key for each input.
 #[tactic(auto, unfolding(crate::specs::Input::input_of))]
 pub fn read_input(alloc: Global, bytes: &[u8], signals: &Signals) -> Result<Vec<Gold>, InputFault>
     requires { length signals.now.inputs ≤ 2 ^ 32 }

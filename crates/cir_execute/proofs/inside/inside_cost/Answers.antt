@@ -42,8 +42,8 @@ returns-in_ok-add_assign-in-Loop-clause-cost g c =
     rw c.in-Loop.is
     (once_alone c.new-cost.result c.add_assign.new.cost _ c.new-cost.ensures
     (loop_stands k w s c.new-cost.result one two three c.add.new.self
-    c.add_statement-in-Loop.new.cost c.add_assign.new.cost spot spot_in (bare l.condition.now) step body
-    c.node.ensures
+    c.add_statement-in-Loop.new.cost c.add_assign.new.cost spot spot_in (bare l.condition.now) step
+    body c.node.ensures
     c.node-in-Loop.ensures c.node-in-Loop-2.ensures
     (stands_one k w s three c.add.new.self Scalar (bare l.condition.now) h.shaded s dark refl
     (test.cost m qs))

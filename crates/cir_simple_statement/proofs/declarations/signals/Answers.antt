@@ -14,7 +14,8 @@ pub returns : goal.returns
 unfolding signals
 returns g c =
     let all =
-    seen_map plain_signal bare_signal c.tight.result c.in_ok-signals.signals.items c.tight.ensures in
+    seen_map plain_signal bare_signal c.tight.result c.in_ok-signals.signals.items
+    c.tight.ensures in
     elim c.if-begins_word.branch [
       | then-begins_word w ↦
           let same : kinds c.if-begins_word.reader.rest.now ≡ kinds w.skip.new.self.rest.now =
