@@ -55,7 +55,7 @@ use Rattle.wit_lower.specs.Homes.{Found, Lost, find, port_at, port_of, offset, s
 use Rattle.wit_lower.specs.Sources.{Constant, Sources, scope_of, input_of}
 use Rattle.wit_lower.specs.Pieces.{decided}
 use Rattle.wit_lower.specs.Fits.{IsCalled, HaveShape, UnlessSkipped, Sides, UnlessCalled, Fits}
-use Rattle.wit_lower.specs.Fits.{AllFit, PlaceFits}
+use Rattle.wit_lower.specs.Fits.{AllFit, PlaceFits, IsElement}
 use Rattle.wit_lower.proofs.Parts.{slots_are}
 use Rattle.cir_meaning.proofs.Pairs.{good_both}
 use Rattle.cir_meaning.proofs.Likes.{CallKeeps, Like, value_like}
@@ -68,7 +68,7 @@ use Rattle.cir_emit.proofs.Standing.{IsStanding, Told, told_nothing, single_told
 use Rattle.cir_emit.proofs.Standing.{part_told_by, known_is, no_dims, no_shape, all_dropped}
 use Rattle.cir_emit.specs.Sourced.{HasHome, PortHas, KeyHas, UnlessKnown, HasAll, EachHas, PlaceHas}
 use Rattle.cir_emit.proofs.KnownNumbers.{known_are_numbers}
-use Rattle.cir_emit.proofs.Outside.{dims_same}
+use Rattle.cir_emit.proofs.Outside.{dims_same, element_told}
 use Rattle.cir_steps.proofs.Sized.{SizedCall}
 use Rattle.cir_meaning.specs.Scoped.{Scope as Names, IsSeen, AreCallsMeant, AreAllMeant}
 use Rattle.cir_meaning.specs.Scoped.{AreIndicesMeant}
@@ -317,7 +317,8 @@ module _ (k : Context) (keeps : CallKeeps k.call) (both : CallBoth k.call) (fine
   origin_told : (n : ℕ) (name : List ℕ) (shaded : Bool) (os ks : List (Option ℕ)) (s : State)
       → Like f s → Sharper os ks
       → PortHas There g homes (Named (meant.Component n)) ks name
-      → OnGood (λ source. OriginOf source (port_of g homes (Named (meant.Component n)) ks name))
+      → OnGood (λ source. IsElement g (Named (meant.Component n)) ks
+      × OriginOf source (port_of g homes (Named (meant.Component n)) ks name))
       (inner_origin w shaded (NamedRoot (meant.Component n)) os name s.frame)
   origin_told n name shaded os ks s l sharp has =
       good_next (PartAt n os s.frame) Q (part_at w shaded n os s.frame) _
@@ -329,7 +330,7 @@ module _ (k : Context) (keeps : CallKeeps k.call) (both : CallBoth k.call) (fine
       front = port_of g homes (Named (meant.Component n)) ks name
 
       Q : Origin → Type 0
-      Q source = OriginOf source front
+      Q source = IsElement g (Named (meant.Component n)) ks × OriginOf source front
 
       home : ComponentEntry → List ℕ → Option Home
       home c is = find (Port n (offset c.dims is) name) homes
@@ -370,10 +371,16 @@ module _ (k : Context) (keeps : CallKeeps k.call) (both : CallBoth k.call) (fine
           → entry_at f.frame.components n ≡ Some c → ks ≡ map Some is → IsSpot c os is o
           → OnGood Q (located w name o s.frame.parts)
       spot None c is ec ks_are outside =
-          good_ok Q LostOrigin (subst (OriginOf LostOrigin)
-          (sym (front_known is ks_are ∙
-          ap (λ t. cond t (Found (find (Port n (offset (sources.components n) is) name) homes))
-          Lost) (stands.component n c ec is ∙ outside))) tt)
+          let nowhere : is_inside (sources.components n) (map Some is) ≡ false =
+          stands.component n c ec is ∙ outside in
+          good_ok Q LostOrigin (
+            element_told g n ks is ks_are (λ inside.
+                let never : true ≡ false = sym inside ∙ nowhere in cc),
+            subst (OriginOf LostOrigin)
+                (sym (front_known is ks_are ∙
+                ap (λ t. cond t (Found (find (Port n (offset (sources.components n) is) name)
+                homes)) Lost) nowhere)) tt,
+          )
       spot (Some j) c is ec ks_are (inside, full, ej) =
           let there : front ≡ Found (home c is) =
           front_known is ks_are ∙
@@ -382,10 +389,13 @@ module _ (k : Context) (keeps : CallKeeps k.call) (both : CallBoth k.call) (fine
           good_found Q w ReadBeforeWrite (slice_get s.frame.parts j) _ (λ p ep.
           good_next (λ x. named_signal w name p.signals ≡ Ok x) Q (named_signal w name p.signals) _
           (good_itself (named_signal w name p.signals)) (λ x ex.
-          good_ok Q (Wired (is_input x.1.direction || is_fed p.signals) x.1)
-          (subst (OriginOf (Wired (is_input x.1.direction || is_fed p.signals) x.1)) (sym there)
-          (homed c is j p x ec ks_are inside full ej (ap (λ xs. slice_get xs j) (sym l.3) ∙ ep) ex
-          (home c is) refl))))
+          good_ok Q (Wired (is_input x.1.direction || is_fed p.signals) x.1) (
+            element_told g n ks is ks_are
+                (λ there. full ∙ ap length (sym (same c is ec inside full))),
+            subst (OriginOf (Wired (is_input x.1.direction || is_fed p.signals) x.1)) (sym there)
+                (homed c is j p x ec ks_are inside full ej (ap (λ xs. slice_get xs j) (sym l.3)
+                ∙ ep) ex (home c is) refl),
+          )))
 
   -- operators
   binary_accepted : (o : BinaryOp) (a b : Expr Meant) (shaded : Bool) (want : Want)
@@ -717,12 +727,9 @@ module _ (k : Context) (keeps : CallKeeps k.call) (both : CallBoth k.call) (fine
         covered =
         signal_done direction n shaded want os ks s _ l sharp stand
     named_accepted done meant.Other shaded want os ks s l i sharp stand sm is covered = good_bad _ _
-    named_accepted done (meant.Component n) shaded want os ks s l i sharp stand sm is covered =
-        good_bad _ _
-    named_accepted done (meant.Template n) shaded want os ks s l i sharp stand sm is covered =
-        good_bad _ _
-    named_accepted done (meant.Function n) shaded want os ks s l i sharp stand sm is covered =
-        good_bad _ _
+    named_accepted done (meant.Component n) shaded want os ks s l _ _ _ _ _ _ = good_bad _ _
+    named_accepted done (meant.Template n) shaded want os ks s l _ _ _ _ _ _ = good_bad _ _
+    named_accepted done (meant.Function n) shaded want os ks s l _ _ _ _ _ _ = good_bad _ _
     named_accepted (index e rest) m shaded want os ks s l i sharp (se, sr) sm is covered =
         good_next (Both Scalar e) (PlaceAccepts want (Named m) ks (index e rest)
         (λ v. place_known sources changed m ks (index e rest) ≡ Some v))
@@ -742,7 +749,8 @@ module _ (k : Context) (keeps : CallKeeps k.call) (both : CallBoth k.call) (fine
         (λ y q. ((p.1.0, no_shape (shape_of g homes e) (Tell e) x.0 p.1.1, q.0), q.1)))
     named_accepted (member name rest) (meant.Component n) shaded want os ks s l i sharp stand sm
         is covered =
-        good_next (λ source. OriginOf source (port_of g homes (Named (meant.Component n)) ks name))
+        good_next (λ source. IsElement g (Named (meant.Component n)) ks
+        × OriginOf source (port_of g homes (Named (meant.Component n)) ks name))
         (PlaceAccepts want (Named (meant.Component n)) ks (member name rest)
         (λ v. place_known sources changed (meant.Component n) ks (member name rest) ≡ Some v))
         (inner_origin w shaded (NamedRoot (meant.Component n)) os name s.frame) _
@@ -753,19 +761,13 @@ module _ (k : Context) (keeps : CallKeeps k.call) (both : CallBoth k.call) (fine
         (λ v. place_known sources changed (meant.Component n) ks (member name rest) ≡ Some v))
         (read_in k w shaded want (FoundRoot source) [] rest s)
         (found_accepted rest source (port_of g homes (Named (meant.Component n)) ks name) _ shaded
-        want [] [] s l i source_is tt stand.1 is covered)
-        (λ y q. ((tt, q.0), told_nothing want _ _ y.0 q.1)))
-    named_accepted (member name rest) meant.Other shaded want os ks s l i sharp stand sm is
-        covered =
-        good_bad _ _
-    named_accepted (member name rest) (meant.Variable n) shaded want os ks s l i sharp stand sm
-        is covered = good_bad _ _
-    named_accepted (member name rest) (meant.Signal d n) shaded want os ks s l i sharp stand sm
-        is covered = good_bad _ _
-    named_accepted (member name rest) (meant.Template n) shaded want os ks s l i sharp stand sm
-        is covered = good_bad _ _
-    named_accepted (member name rest) (meant.Function n) shaded want os ks s l i sharp stand sm
-        is covered = good_bad _ _
+        want [] [] s l i source_is.1 tt stand.1 is covered)
+        (λ y q. ((source_is.0, q.0), told_nothing want _ _ y.0 q.1)))
+    named_accepted (member name rest) meant.Other _ _ _ _ _ _ _ _ _ _ _ _ = good_bad _ _
+    named_accepted (member name rest) (meant.Variable n) _ _ _ _ _ _ _ _ _ _ _ _ = good_bad _ _
+    named_accepted (member name rest) (meant.Signal d n) _ _ _ _ _ _ _ _ _ _ _ _ = good_bad _ _
+    named_accepted (member name rest) (meant.Template n) _ _ _ _ _ _ _ _ _ _ _ _ = good_bad _ _
+    named_accepted (member name rest) (meant.Function n) _ _ _ _ _ _ _ _ _ _ _ _ = good_bad _ _
 
     found_accepted : (rest : Accessors Meant) (source : Origin) (front : Front) (x : Option Name)
         (shaded : Bool) (want : Want) (os ks : List (Option ℕ)) (s : State)

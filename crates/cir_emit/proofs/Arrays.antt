@@ -196,14 +196,15 @@ module _ (keys : List Made) (step : Step) (sources : Sources)
 
   pub ports_same : (n : ℕ) (indices name : List ℕ) (h : Home)
       → is_inside (sources.components n) (map Some indices) ≡ true
+      → length indices ≡ length (sources.components n)
       → find (Port n (offset (sources.components n) indices) name) homes ≡ Some h
       → PortPair (Loaded (Port n (offset (sources.components n) indices) name)) h.dims
       (first_env.part n indices name) (second_env.part n indices name)
-  ports_same n indices name h inside e =
+  ports_same n indices name h inside full e =
       let x : Name = Port n (offset (sources.components n) indices) name in
       let a : HasArray step sources x h = low.arrays x h e in
       let p : (s : Shaped (Option ℕ)) × (step.names.part n indices name ≡ Ok s)
-      × (a.array ≡ shaped_map cell_input s) = a.is indices inside refl in record {
+      × (a.array ≡ shaped_map cell_input s) = a.is indices inside full refl in record {
         one = read_as sources numbers x h;
         two = shaped_map (in_cell cells) p.0;
         is_one = ap (λ b. cond b (or_missing (signal_at sources numbers x)) (Err index_out)) inside

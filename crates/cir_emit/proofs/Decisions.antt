@@ -12,7 +12,7 @@ use Rattle.cir_meaning.specs.Tried.{Where}
 use Rattle.cir_meaning.specs.Places.{numbers_from}
 use Rattle.cir_meaning.specs.Arrays.{Datum, single, filled, forgotten}
 use Rattle.cir_meaning.specs.Values.{Known, Opaque}
-use Rattle.cir_meaning.specs.Costs.{Made}
+use Rattle.cir_meaning.specs.Costs.{Made, Cell as Read, cost_of}
 use Rattle.cir_meaning.specs.Frame.{State, Context, at, variable_at, Part}
 use Rattle.cir_meaning.specs.Scoped.{Scope as Names, IsScoped, behind}
 use Rattle.cir_meaning.specs.Scan.{forget_one, forget, scan, undecided}
@@ -29,7 +29,8 @@ use Rattle.cir_meaning.proofs.Scans.{may_any, like_valued, scan_kept}
 use Rattle.cir_meaning.proofs.ScanStarts.{forget_count, rest_between}
 use Rattle.cir_meaning.proofs.ScopeLaws.{IsSound}
 use Rattle.cir_meaning.proofs.UndecidedRuns.{forget_rest}
-use Rattle.cir_meaning.proofs.UndecidedReal.{Scanned}
+use Rattle.cir_meaning.proofs.Rows.{all_append, all_joined}
+use Rattle.cir_meaning.proofs.UndecidedReal.{Scanned, scanned}
 use Rattle.cir_steps.specs.Step.{Step, Deciding}
 use Rattle.cir_steps.specs.Emission.{Emission, known_in, step_of}
 use Rattle.cir_steps.specs.Making.{wanted_of, count_of}
@@ -37,8 +38,11 @@ use Rattle.wit_lower.specs.Homes.{Variable, Home, Homes, find, slots_of, Name, G
 use Rattle.wit_lower.specs.Known.{changes}
 use Rattle.wit_lower.specs.Sources.{Sources, scope_of}
 use Rattle.wit_lower.specs.Steps.{StepFits}
-use Rattle.cir_emit.specs.Tasks.{step_task}
-use Rattle.cir_emit.specs.Reads.{expr_reads}
+use Rattle.wit_lower.specs.Statements.{scope_behind}
+use Rattle.wit_lower.specs.Fits.{StatementFits}
+use Rattle.wit_lower.proofs.Listed.{In}
+use Rattle.cir_emit.specs.Tasks.{step_task, all_elements}
+use Rattle.cir_emit.specs.Reads.{Reading, expr_reads, kept}
 use Rattle.cir_emit.proofs.Lists.{all_front, all_flat}
 use Rattle.cir_emit.proofs.Loads.{statement_more}
 use Rattle.cir_meaning.specs.Texts.{Wanted, wanted_in}
@@ -47,7 +51,15 @@ use Rattle.cir_emit.proofs.Fitting.{ground_of, IsHeld}
 use Rattle.cir_emit.proofs.Emitted.{step_stands, IsFrom}
 use Rattle.cir_emit.proofs.Forgotten.{from_scan}
 use Rattle.cir_emit.proofs.Scanned.{StatementReady}
-use Rattle.cir_emit.proofs.Scanning.{Stood, statement_done}
+use Rattle.cir_emit.proofs.Scanning.{Stood, Tells, statement_done}
+use Rattle.cir_emit.proofs.Cells.{IsCellRead}
+use Rattle.cir_emit.proofs.DecisionCells.{IsOuterRead, decision_led, wanted_counted, outer_read}
+use Rattle.cir_emit.proofs.Evaluated.{AllOf}
+use Rattle.cir_emit.proofs.Few.{cells_of_few}
+use Rattle.cir_emit.proofs.KeptCells.{kept_told}
+use Rattle.cir_emit.proofs.ReadSteps.{AreReadAll}
+use Rattle.cir_emit.proofs.Seen.{Closes}
+use Rattle.cir_emit.proofs.SmallArrays.{scanned_none}
 use Rattle.cir_emit.proofs.Counts.{wanted_count}
 use Rattle.cir_emit.proofs.Targets.{elements_are, wanted_fit, home_small, home_below}
 use Rattle.cir_emit.proofs.Targets.{variables_long}
@@ -56,9 +68,14 @@ use Rattle.cir_emit.specs.Sourced.{IsThere, AreSourcesOf, HasAll}
 use Rattle.cir_emit.proofs.MadeSteps.{IsSound as IsSoundStep, lowered_step}
 use Rattle.cir_emit.proofs.Ready.{outer_less, statement_ready}
 use Rattle.cir_steps.specs.Places.{HasPlaces}
-use Rattle.cir_steps.proofs.ReadDecided.{scanned}
+use Rattle.cir_steps.proofs.ReadCells.{IsTabled}
 use Rattle.cir_steps.proofs.Sized.{SizedCall}
 use Rattle.cir_meaning.specs.Run.{RunPart}
+
+all_then : {A : Type 0} (P Q : A → Type 0) (xs : List A) → AllByRecursion (λ x. P x → Q x) xs
+    → AllByRecursion P xs → AllByRecursion Q xs
+all_then P Q [] f h = tt
+all_then P Q (x ∷ xs) f h = (f.0 h.0, all_then P Q xs f.1 h.1)
 
 scan_count : (k : Context) (keeps : CallKeeps k.call) (w : Where) (a : Statement Spot Meant)
     (t t1 : State) → scan k w a t ≡ Ok t1
@@ -104,7 +121,7 @@ module _ (k : Context) (keeps : CallKeeps k.call) (both : CallBoth k.call) (fine
     (sized : SizedCall k.call) (spot : Spot) (fault : Option Fault) (a : Statement Spot Meant)
     (x : Emission) (fine_state : Fine (known_in x))
     (runs : (j : ℕ) (p : Part) → slice_get (known_in x).frame.parts j ≡ Some p
-    → (r : RunPart) × (slice_get x.cells.parts j ≡ Some r)) (s : State)
+    → (r : RunPart) × (slice_get x.cells.parts j ≡ Some r)) (tabled : IsTabled x) (s : State)
     (es : undecided k spot fault a (known_in x) ≡ Ok s) (functions : ℕ) (scope : Names)
     (sounds : IsSound functions scope) (is : IsScoped scope a) (places : HasPlaces a)
     (few : (behind scope a).variables ≤ length (known_in x).frame.variables) where
@@ -150,13 +167,14 @@ module _ (k : Context) (keeps : CallKeeps k.call) (both : CallBoth k.call) (fine
         omega (arith, long),
       )
 
-  ends : ((behind scope a).variables ≤ length s.frame.variables)
-      × ((n : ℕ) → n < (behind scope a).variables
-      → variable_at its.after.frame n ≡ variable_at s.frame n)
+  ends : Closes k keeps w functions s (behind scope a).variables its.after
   ends = (
-    omega (arith, few, counts.0, counts.1),
-    λ n less.
-        ap (λ (vs : List Datum). unwrap_or (slice_get vs n) (single (Known 0))) (sym its.like.0),
+    (
+      omega (arith, few, counts.0, counts.1),
+      λ n less.
+          ap (λ (vs : List Datum). unwrap_or (slice_get vs n) (single (Known 0))) (sym its.like.0),
+    ),
+    scanned_none k spot fault a f s es its.after its.scans,
   )
 
   module _ (keys : List Made) (sources : Sources) (are : AreSourcesOf keys step sources) where
@@ -199,8 +217,21 @@ module _ (k : Context) (keeps : CallKeeps k.call) (both : CallBoth k.call) (fine
     there : (n : ℕ) → n < length s.frame.variables → There (Variable n)
     there n less = omega (arith, less, counts.0)
 
+    abbrev IsOuter : Read → Type 0
+    IsOuter =
+        IsOuterRead k w a (Deciding a (wanted_of (outer_assigned a) f))
+        (numbers_from x.next (count_of (wanted_of (outer_assigned a) f))) None x sources s begun
+        (changes a) from are.arrays are.components runs_s (home_small count sources are.shapes)
+        (sym rest_begun.0) (sym rest_begun.2) tabled are.has.1
+
+    abbrev IsIn : Reading → Type 0
+    IsIn = IsCellRead sources step.reads
+
+    room : (n : ℕ) → free n → n < length s.frame.variables
+    room n less = omega (arith, less, counts.0)
+
     begun_stands : Stood k keeps both fine sized w functions s keys sources (changes a) There there
-        are.called free (λ n less. omega (arith, less, counts.0)) homes begun
+        are.called free room IsOuter IsIn homes begun
     begun_stands = record {
       stands = step_stands k w (undecided_cost k w a f s)
           (Deciding a (wanted_of (outer_assigned a) f))
@@ -208,6 +239,10 @@ module _ (k : Context) (keeps : CallKeeps k.call) (both : CallBoth k.call) (fine
           begun (changes a) from are.arrays are.components runs_s
           (home_small count sources are.shapes);
       fine_state = forget_fine (outer_assigned a) f fine_state;
+      led = decision_led k w a (Deciding a (wanted_of (outer_assigned a) f))
+          (numbers_from x.next (count_of (wanted_of (outer_assigned a) f))) None x sources s begun
+          (changes a) from are.arrays are.components runs_s (home_small count sources are.shapes)
+          (sym rest_begun.0) (sym rest_begun.2) tabled are.has.1;
     }
 
     loaded : AllByRecursion (λ (v : Wanted). AllByRecursion (IsLoaded sources)
@@ -228,24 +263,61 @@ module _ (k : Context) (keeps : CallKeeps k.call) (both : CallBoth k.call) (fine
         (declares a) a scope (scope_of sources) sounds is places
         (omega (arith, few, counts.1)) (λ n i. i) (λ n i le. are.has.1 n i) are.has.0) loaded
 
+    scan_done : StatementFits free ⊥ g (scope_of sources) a × Stood k keeps both fine sized w
+        functions s keys sources (changes a) There there are.called free room IsOuter IsIn
+        (scope_behind g (scope_of sources) a).homes its.after
+        × AllOf (Tells k keeps both fine sized w functions s keys sources (changes a) There there
+        are.called free room IsOuter IsIn) (wanted_in a)
+    scan_done =
+        statement_done k keeps both fine sized w functions s keys sources (changes a) There there
+        are.called free room IsOuter IsIn a scope (scope_of sources) begun its.after sounds
+        (rest_between f s begun rest_s rest_begun, lengths) begun_stands is are.has.1 ready
+        its.scans ends
+
+    outer_homes : (n : ℕ) → In n (outer_assigned a) → (h : Home)
+        × (find (Variable n) homes ≡ Some h)
+    outer_homes n i =
+        are.has.2 n i (omega (arith, outer_less functions a scope sounds is n i, few, counts.1))
+
+    wanted_read : AllByRecursion IsIn (flat_map (λ (v : Wanted). expr_reads g homes v.expr)
+        (wanted_in a))
+    wanted_read =
+        all_joined IsIn (λ (v : Wanted). expr_reads g homes v.expr) (wanted_in a)
+        (all_then (λ (v : Wanted). AllByRecursion IsOuter (cost_of k w true v.expr s).reads)
+        (λ (v : Wanted). AllByRecursion IsIn (expr_reads g homes v.expr)) (wanted_in a) scan_done.2
+        (all_flat IsOuter (λ (v : Wanted). (cost_of k w true v.expr s).reads) (wanted_in a)
+        (wanted_counted k w a (Deciding a (wanted_of (outer_assigned a) f))
+        (numbers_from x.next (count_of (wanted_of (outer_assigned a) f))) None x sources s begun
+        (changes a) from are.arrays are.components runs_s (home_small count sources are.shapes)
+        (sym rest_begun.0) (sym rest_begun.2) tabled are.has.1)))
+
+    kept_read : AllByRecursion IsIn (kept g homes a (all_elements (wanted_of (outer_assigned a) f)))
+    kept_read =
+        kept_told IsIn g homes a f are.has.1 outer_homes (λ n p h found i.
+        outer_read k w a (Deciding a (wanted_of (outer_assigned a) f))
+        (numbers_from x.next (count_of (wanted_of (outer_assigned a) f))) None x sources s begun
+        (changes a) from are.arrays are.components runs_s (home_small count sources are.shapes)
+        (sym rest_begun.0) (sym rest_begun.2) tabled are.has.1 n p h found i)
+
+    decision_reads : AreReadAll step sources
+    decision_reads =
+        cells_of_few sources _ step.reads are.few
+        (all_append IsIn (flat_map (λ (v : Wanted). expr_reads g homes v.expr) (wanted_in a))
+        (kept g homes a (all_elements (wanted_of (outer_assigned a) f))) wanted_read kept_read)
+
     decision_fits : StepFits keys sources count (step_task step)
     decision_fits = record {
       shapes = are.shapes;
       list = are.list;
       fits = (
-        (statement_done k keeps both fine sized w functions s keys sources (changes a) There there
-            are.called free (λ n less. omega (arith, less, counts.0)) a scope (scope_of sources)
-            begun its.after sounds
-            (rest_between f s begun rest_s rest_begun, lengths) begun_stands is ready its.scans
-            ends).0,
-        wanted_fit homes f (λ n h e. (whole n h e).1) (outer_assigned a)
-            (λ n i. are.has.2 n i
-            (omega (arith, outer_less functions a scope sounds is n i, few, counts.1))),
+        scan_done.0,
+        wanted_fit homes f (λ n h e. (whole n h e).1) (outer_assigned a) outer_homes,
       );
     }
 
   pub decision_sound : IsSoundStep step
   decision_sound keys sources are = (
-    lowered_step keys step sources are (wanted_count x.next (wanted_of (outer_assigned a) f)),
+    lowered_step keys step sources are (decision_reads keys sources are)
+        (wanted_count x.next (wanted_of (outer_assigned a) f)),
     decision_fits keys sources are,
   )

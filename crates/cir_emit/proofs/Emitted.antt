@@ -85,13 +85,13 @@ wired_as e dims a wires n is same count = record {
         let linear : Linear (signal (e.first + k)) ≡ Known v =
         sym (ap (λ o. cond (is_some o) (Linear (signal (e.first + k))) (Known 0)) there) ∙ i in cc
 
-some_is : {A : Type 0} (a b : A) → Some a ≡ Some b → a ≡ b
+pub some_is : {A : Type 0} (a b : A) → Some a ≡ Some b → a ≡ b
 some_is a b e = cc
 
-ok_is : (a b : Shaped (Option ℕ)) → ◌≡◌ {A = Result (Shaped (Option ℕ)) ℕ} (Ok a) (Ok b) → a ≡ b
+pub ok_is : (a b : Shaped (Option ℕ)) → ◌≡◌ {A = Result (Shaped (Option ℕ)) ℕ} (Ok a) (Ok b) → a ≡ b
 ok_is a b e = cc
 
-told_is : (w : Where) (inner : Bool) (o : Option (ℕ × SignalEntry)) (y : ℕ × SignalEntry)
+pub told_is : (w : Where) (inner : Bool) (o : Option (ℕ × SignalEntry)) (y : ℕ × SignalEntry)
     → told_signal w inner o ≡ Ok y → o ≡ Some y
 told_is w inner None y e = cc
 told_is w inner (Some x) y e = let same : x ≡ y = cc in ap Some same
@@ -151,14 +151,15 @@ module _ (k : Context) (w : Where) (cost : Cost) (work : Work) (targets : List �
         sized_agree k w cost work targets line x s sources.components components n c
         (ap (λ xs. entry_at xs n) from.components ∙ ec)
 
-    same : (n : ℕ) (c : ComponentEntry) (indices : List ℕ) → entry_at f.frame.components n ≡ Some c
+    pub same : (n : ℕ) (c : ComponentEntry) (indices : List ℕ)
+        → entry_at f.frame.components n ≡ Some c
         → is_inside c.dims (map Some indices) ≡ true → length indices ≡ length c.dims
         → sources.components n ≡ c.dims
     same n c indices ec inside full =
         sym (dims_same c.dims (sources.components n) (λ js. sym (agree n c ec js)) indices full
         inside)
 
-    part_told : (n : ℕ) (c : ComponentEntry) (indices name : List ℕ) (j : ℕ) (p : Part)
+    pub part_told : (n : ℕ) (c : ComponentEntry) (indices name : List ℕ) (j : ℕ) (p : Part)
         → entry_at f.frame.components n ≡ Some c
         → is_inside c.dims (map Some indices) ≡ true → length indices ≡ length c.dims
         → entry_at c.parts (offset c.dims indices) ≡ Some j → slice_get f.frame.parts j ≡ Some p
@@ -224,7 +225,7 @@ module _ (k : Context) (w : Where) (cost : Cost) (work : Work) (targets : List �
         let s1 : (d : Shaped (Option ℕ)) × (step.names.part n indices name ≡ Ok d)
         × (a.array ≡ shaped_map cell_input d) =
         a.is indices (ap (λ ds. is_inside ds (map Some indices)) dims ∙ inside)
-        (ap (λ ds. offset ds indices) dims) in
+        (full ∙ ap length (sym dims)) (ap (λ ds. offset ds indices) dims) in
         let port : part_port name (Some p) (slice_get x.cells.parts j) ≡ Ok s1.0 =
         sym (part_told n c indices name j p ec inside full ej ep) ∙ s1.1 in
         let r = part_is w name p (slice_get x.cells.parts j) y s1.0 ey port in
@@ -251,6 +252,7 @@ module _ (k : Context) (w : Where) (cost : Cost) (work : Work) (targets : List �
         told_is w _ (find_signal (λ e. not (is_inner e.direction)) name 0 p.signals) y ey in (
           indices,
           agree n c ec indices ∙ inside,
+          full ∙ ap length (sym (same n c indices ec inside full)),
           ap (λ ds. offset ds indices) (same n c indices ec inside full),
           wires_of r.0.ports y.0 y.1,
           part_told n c indices name j p ec inside full ej ep ∙

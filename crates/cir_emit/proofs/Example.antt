@@ -317,7 +317,13 @@ shown = record {
     target_home,
   );
   loaded = lowered.loaded;
-  reads = lowered.reads;
+  few = (
+    record { among = inl refl; last = refl },
+    (
+      record { among = inr (inl refl); last = refl },
+      (record { among = inr (inr (inl refl)); last = refl }, tt),
+    ),
+  );
 }
 
 -- what it gives, and what its code gives

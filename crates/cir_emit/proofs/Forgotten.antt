@@ -147,7 +147,7 @@ in_with m n (k ∷ ks) h = at (λ j. in_with m n ks j) (nat_lt n k) (n == k) ref
         (list_any (λ j. j == m) (with_number n ks)) h later
         (λ c. later (or_right (n == m) (list_any (λ j. j == m) ks) c))
 
-in_rising : (m : ℕ) (ns : List ℕ) → In m ns → In m (rising ns)
+pub in_rising : (m : ℕ) (ns : List ℕ) → In m ns → In m (rising ns)
 in_rising m [] h = h
 in_rising m (n ∷ ns) h = at (n == m) refl h (λ j. in_rising m ns j)
   where
@@ -156,7 +156,7 @@ in_rising m (n ∷ ns) h = at (n == m) refl h (λ j. in_rising m ns j)
     at true eb h later = in_with m n (rising ns) (or_left (n == m) _ eb)
     at false eb h later = in_with m n (rising ns) (or_right (n == m) _ (later h))
 
-in_either : (m : ℕ) (xs ys : List ℕ) → In m (xs ++ ys) → In m xs ⊎ In m ys
+pub in_either : (m : ℕ) (xs ys : List ℕ) → In m (xs ++ ys) → In m xs ⊎ In m ys
 in_either m [] ys h = inr h
 in_either m (x ∷ xs) ys h = at (x == m) refl h (λ j. in_either m xs ys j)
   where
@@ -169,7 +169,7 @@ in_either m (x ∷ xs) ys h = at (x == m) refl h (λ j. in_either m xs ys j)
           | inr j ↦ inr j
         ]
 
-in_filter : (p : ℕ → Bool) (m : ℕ) (xs : List ℕ) → In m xs → p m ≡ true → In m (filter p xs)
+pub in_filter : (p : ℕ → Bool) (m : ℕ) (xs : List ℕ) → In m xs → p m ≡ true → In m (filter p xs)
 in_filter p m [] h e = h
 in_filter p m (x ∷ xs) h e = at (x == m) (p x) refl refl h (λ j. in_filter p m xs j e)
   where

@@ -181,8 +181,8 @@ module _ (program : Program) (keys : List Made) (step : Step) (sources : Sources
     alike : Alike g homes Loaded one two
     alike = record {
       signal = λ n h e. signals_same keys step sources low call cells numbers have n h e;
-      port = λ n indices name h inside e.
-          ports_same keys step sources low call cells numbers have n indices name h inside e;
+      port = λ n indices name h inside full e.
+          ports_same keys step sources low call cells numbers have n indices name h inside full e;
       outside = λ n indices name e.
           first_outside keys step sources low call cells numbers have n indices name e;
       other_outside = λ n indices name e.
@@ -207,8 +207,8 @@ module _ (program : Program) (keys : List Made) (step : Step) (sources : Sources
           let p = alike.signal n h e in
           let same : p.one ≡ w = (let x : Some p.one ≡ Some w = sym p.is_one ∙ ew in cc) in
           ap (λ d. d.dims) (sym same) ∙ p.same.first;
-      port = λ n indices name h w inside e ew.
-          let p = alike.port n indices name h inside e in
+      port = λ n indices name h w inside full e ew.
+          let p = alike.port n indices name h inside full e in
           let same : p.one ≡ w =
           (let x : ◌≡◌ {A = Result (Shaped (Option ℕ)) ℕ} (Ok p.one) (Ok w) = sym p.is_one ∙ ew
           in cc)

@@ -16,7 +16,7 @@ use Rattle.cir_meaning.specs.Tried.{Where, Tried, next, found}
 use Rattle.cir_meaning.specs.Arrays.{Datum, Scalar, the_item}
 use Rattle.cir_meaning.specs.Values.{Value, Known, Linear, Quadratic, Opaque}
 use Rattle.cir_meaning.specs.Frame.{SignalEntry, Signals, Part, World, State, Context, at, is_fed}
-use Rattle.cir_meaning.specs.Frame.{entry_at, adding, one_statement}
+use Rattle.cir_meaning.specs.Frame.{Sizes, Maker, entry_at, adding, one_statement}
 use Rattle.cir_meaning.specs.Evaluate.{value_in}
 use Rattle.cir_meaning.specs.Run.{RunPart}
 use Rattle.cir_meaning.specs.Declaring.{Creation, creation, create, create_each, may_be}
@@ -34,17 +34,20 @@ use Rattle.cir_meaning.specs.Writing.{with_part_signals}
 use Rattle.cir_meaning.proofs.Creating.{creation_like, one_longer}
 use Rattle.cir_meaning.proofs.FineValues.{FineContext, Fine, FineWorld, IsDatum}
 use Rattle.cir_meaning.proofs.FineWriting.{FineCreation, creation_fine}
-use Rattle.cir_meaning.proofs.Good.{OnGood, good_ok, good_next, good_on, good_needed, good_as}
-use Rattle.cir_meaning.proofs.Good.{good_is, either}
+use Rattle.cir_meaning.proofs.Good.{OnGood, good_ok, good_next, good_needed, good_as, good_is}
+use Rattle.cir_meaning.proofs.Good.{either}
 use Rattle.cir_steps.specs.Making.{with_variables, wanted_of, with_cells, new_places, Cast, Caster}
 use Rattle.cir_steps.specs.Making.{Emitting, freed, freed_at, with_cast, make_assignment}
 use Rattle.cir_steps.specs.Making.{make_assertion}
 use Rattle.cir_meaning.proofs.Keepings.{component_keeps, dropped_keeps, condition_keeps}
 use Rattle.cir_meaning.proofs.Keepings.{undecided_keeps, assert_keeps, log_keeps}
+use Rattle.cir_meaning.proofs.GroupSizes.{Fits, Less, less_then}
 use Rattle.cir_meaning.proofs.KnownCalls.{CallBoth, all_get}
 use Rattle.cir_meaning.proofs.Likes.{CallKeeps, Like, like_itself, value_like}
 use Rattle.cir_meaning.proofs.PartWrites.{set_count}
+use Rattle.cir_meaning.proofs.NumberPlaces.{Roomy}
 use Rattle.cir_meaning.proofs.Rows.{all_append}
+use Rattle.cir_meaning.proofs.ScanPoints.{found_to}
 use Rattle.cir_meaning.proofs.ScopeLaws.{IsSound as IsSoundScope}
 use Rattle.cir_meaning.proofs.ValueKeepings.{dims_kept}
 use Rattle.cir_steps.specs.Step.{Step, variable_sources}
@@ -55,7 +58,11 @@ use Rattle.cir_steps.specs.Emit.{make_wiring, emit_equal}
 use Rattle.cir_steps.specs.Statements.{emit_undecided, emit_assert, emit_log}
 use Rattle.cir_steps.specs.Places.{HasNoMember, IsWiredPlace, HasPlaces}
 use Rattle.cir_steps.proofs.Casting.{Written, stays_clear, set_signal_written, with_element}
-use Rattle.cir_steps.proofs.ReadLeaves.{same_ok, stays_clear as still_stays}
+use Rattle.cir_steps.specs.Written.{targets_of}
+use Rattle.cir_steps.proofs.Following.{joined}
+use Rattle.cir_steps.proofs.ReadCells.{Holds, IsTabled, are_tabled, roomy_less}
+use Rattle.cir_steps.proofs.ReadLeaves.{same_ok, stays_clear as still_stays, sizes_of, Moved, Moves}
+use Rattle.cir_steps.proofs.ReadLeaves.{moves_join}
 use Rattle.cir_steps.proofs.ReadWalk.{Quiet, Leaf, Leaves}
 use Rattle.cir_steps.proofs.Sized.{SizedCall}
 use Rattle.cir_steps.proofs.Still.{Still, still_itself, still_like, counted_still, dims_still}
@@ -81,8 +88,15 @@ pub record IsPrepared (room : ℕ) (x : Emission) : Type 0 where
   pub runs : length x.cells.parts ≡ length (known_in x).frame.parts
   pub waiting : AllByRecursion AllSound x.bodies
 
-abbrev pub Makes : ℕ → Emission → Emitted → Type 0
-Makes room x y = IsPrepared room x → IsPrepared room y.state × AllSound y.steps
+-- a program has no more signals in the end, and the cells of signals stand in the tables
+pub record IsNumbered (final : Sizes) (x : Emission) (y : Emitted) : Type 0 where
+  pub fits : Fits (sizes_of x)
+  pub less : Less (sizes_of y.state) final
+  pub tabled : IsTabled x
+
+abbrev pub Makes : (final : Sizes) → ℕ → Emission → Emitted → Type 0
+Makes final room x y =
+    IsNumbered final x y → IsPrepared room x → IsPrepared room y.state × AllSound y.steps
 
 -- as many of both
 beside_there : {A B : Type 0} (xs : List A) (ys : List B) (j : ℕ) (b : B)
@@ -137,32 +151,49 @@ parts_count = record {
   joins = λ f s t h g. g ∙ h;
 }
 
--- steps of components
-abbrev pub CastsSound : Caster → Type 0
-CastsSound cast =
-    (w : Where) (n : ℕ) (ds : List Datum) (path : List ℕ) (world : World) (start : ℕ) (o : Cast)
-    → AllByRecursion IsDatum ds → FineWorld world → cast w n ds path world start ≡ Ok o
-    → AllSound o.steps
+-- steps of components, where bodies are made as they are executed
+abbrev pub CastsSound : (final : Sizes) → Maker → Caster → Type 0
+CastsSound final make cast =
+    (w : Where) (n : ℕ) (ds : List Datum) (path : List ℕ) (world : World) (start : ℕ)
+    (z : Signals × World) (o : Cast) → make w n ds path world ≡ Ok z
+    → cast w n ds path world start ≡ Ok o → Fits world.sizes → Less z.1.sizes final
+    → AllByRecursion IsDatum ds → FineWorld world → AllSound o.steps
 
--- what is to be created, and as many components more
-abbrev Creates : Creation → State → Type 0
-Creates c s =
-    (s.frame.signals ≡ c.state.frame.signals)
-    × (length s.frame.parts ≡ suc (length c.state.frame.parts))
+-- what is created, with one component more
+record IsCreated (k : Context) (w : Where) (c : Creation) (s : State) : Type 0 where
+  signals : s.frame.signals ≡ c.state.frame.signals
+  count : length s.frame.parts ≡ suc (length c.state.frame.parts)
+  make : Maker
+  makes : k.make ≡ Some make
+  body : Signals × World
+  is : make w c.template c.arguments (path_of k c.entry c.indices) c.state.world ≡ Ok body
+  sizes : body.1.sizes ≡ s.world.sizes
 
-create_counts : (k : Context) (w : Where) (c : Creation) (place : ℕ) (places : List ℕ)
-    → OnGood (Creates c) (create_each k w c (place ∷ places))
-create_counts k w c place places =
-    good_needed (Creates c) (is_none (entry_at c.entry.parts place)) w SecondWrite _
-    (good_on (Creates c) (found w TooDeep k.make) _ (λ make.
-    good_needed (Creates c) (may_be c.template (template_of c.state.frame.parts c.entry.parts)) w
+created_is : (k : Context) (w : Where) (c : Creation) (place : ℕ) (places : List ℕ)
+    → OnGood (IsCreated k w c) (create_each k w c (place ∷ places))
+created_is k w c place places =
+    good_needed Is (is_none (entry_at c.entry.parts place)) w SecondWrite _
+    (good_as Is (found w TooDeep k.make) _ (λ make there.
+    good_needed Is (may_be c.template (template_of c.state.frame.parts c.entry.parts)) w
     (NotInProfile MixedComponents) _
-    (good_on (Creates c) (make w c.template c.arguments (path_of k c.entry c.indices)
-    c.state.world) _ (λ a. good_ok (Creates c) _ (refl, one_longer c.state.frame.parts _)))))
+    (good_as Is (make w c.template c.arguments (path_of k c.entry c.indices) c.state.world) _
+    (λ a ea. good_ok Is _ record {
+      signals = refl;
+      count = one_longer c.state.frame.parts _;
+      make = make;
+      makes = found_to w TooDeep k.make make there;
+      body = a;
+      is = ea;
+      sizes = refl;
+    }))))
+  where
+    Is : State → Type 0
+    Is = IsCreated k w c
 
-module _ (functions room : ℕ) (q : Emitting) (keeps : CallKeeps q.context.call)
+module _ (functions room : ℕ) (final : Sizes) (q : Emitting) (keeps : CallKeeps q.context.call)
     (both : CallBoth q.context.call) (fine : FineContext q.context)
-    (sized : SizedCall q.context.call) (casts : CastsSound q.cast) where
+    (sized : SizedCall q.context.call)
+    (casts : (make : Maker) → q.context.make ≡ Some make → CastsSound final make q.cast) where
   abbrev k : Context
   k = q.context
 
@@ -198,7 +229,7 @@ module _ (functions room : ℕ) (q : Emitting) (keeps : CallKeeps q.context.call
   }
 
   abbrev pub R : Emission → Emitted → Type 0
-  R = Makes room
+  R = Makes final room
 
   abbrev Right : Emission → Tried Emitted → Type 0
   Right x m = OnGood (Leaf R x) m
@@ -230,18 +261,18 @@ module _ (functions room : ℕ) (q : Emitting) (keeps : CallKeeps q.context.call
 
   -- one step
   one : (x y : Emission) (step : Step) → y.cells.parts ≡ x.cells.parts → y.bodies ≡ x.bodies
-      → Turns (known_in x) (known_in y) → (IsPrepared room x → IsSound step)
+      → Turns (known_in x) (known_in y) → (IsTabled x → IsPrepared room x → IsSound step)
       → Right x (Ok record { state = y; steps = step ∷ [] })
   one x y step parts bodies h sound =
       good_ok (Leaf R x) _ (
-        (λ p. (prepared x y parts bodies h p, (sound p, tt))),
+        (λ u p. (prepared x y parts bodies h p, (sound u.tabled p, tt))),
         still_stays (known_in x) (known_in y) h.0,
       )
 
   none : (x : Emission) (s : State) → Turns (known_in x) s → Right x (quiet (with_state s x))
   none x s h =
       good_ok (Leaf R x) _ (
-        (λ p. (prepared x (with_state s x) refl refl h p, tt)),
+        (λ u p. (prepared x (with_state s x) refl refl h p, tt)),
         still_stays (known_in x) s h.0,
       )
 
@@ -255,7 +286,7 @@ module _ (functions room : ℕ) (q : Emitting) (keeps : CallKeeps q.context.call
       (turns (known_in x) (λ t. t) _
       (equal_still (known_in x) k keeps w a b (known_in x) (still_itself (known_in x)))
       ((keeping room k keeps fine).equal w a b (known_in x))))
-      (λ p. comparison_sound k keeps both fine sized w x p.fine (runs_of x p)
+      (λ t p. comparison_sound k keeps both fine sized w x p.fine (runs_of x p) t
       (below functions room) (few_of x p) a b s es meant_a meant_b))
 
   line_leaf : (w : Where) (arguments : List (LogArgument Meant)) (x : Emission)
@@ -268,7 +299,7 @@ module _ (functions room : ℕ) (q : Emitting) (keeps : CallKeeps q.context.call
       (turns (known_in x) (λ t. t) _
       (log_still (known_in x) k keeps w arguments (known_in x) (still_itself (known_in x)))
       (log_keeps k (keeping room k keeps fine) w arguments (known_in x))))
-      (λ p. line_sound k keeps both fine sized w x p.fine (runs_of x p)
+      (λ t p. line_sound k keeps both fine sized w x p.fine (runs_of x p) t
       (below functions room) (few_of x p) arguments s es meant_all))
 
   assert_leaf : (w : Where) (e : Expr Meant) (x : Emission)
@@ -295,7 +326,7 @@ module _ (functions room : ℕ) (q : Emitting) (keeps : CallKeeps q.context.call
           → Turns f s → Right x (make_assertion k w e s x)
       step y ey s h =
           one x (with_state s x) _ refl refl h
-          (λ p. assertion_sound k keeps both fine sized w x p.fine (runs_of x p)
+          (λ t p. assertion_sound k keeps both fine sized w x p.fine (runs_of x p) t
           (below functions room) (few_of x p) e y ey meant_e)
 
       by : (y : Datum × State) → value_in k w false Scalar e f ≡ Ok y → (s : State) → Turns f s
@@ -318,7 +349,7 @@ module _ (functions room : ℕ) (q : Emitting) (keeps : CallKeeps q.context.call
       (turns (known_in x) (λ t. t) _
       (undecided_still (known_in x) k keeps spot fault a (known_in x) (still_itself (known_in x)))
       (undecided_keeps k (keeping room k keeps fine) spot fault a (known_in x))))
-      (λ p. decision_sound k keeps both fine sized spot fault a x p.fine (runs_of x p) s es
+      (λ t p. decision_sound k keeps both fine sized spot fault a x p.fine (runs_of x p) t s es
       functions scope sounds is places (omega (arith, le, p.long))))
 
   set_leaf : (w : Where) (written : Assign Meant) (n : ℕ) (accessors : Accessors Meant)
@@ -348,7 +379,7 @@ module _ (functions room : ℕ) (q : Emitting) (keeps : CallKeeps q.context.call
           (quiet (with_state s x)))
       by a ea s h true =
           one x (with_cells n (new_places n a) s x) _ refl refl h
-          (λ p. assigned_sound k keeps both fine sized w x p.fine (runs_of x p)
+          (λ t p. assigned_sound k keeps both fine sized w x p.fine (runs_of x p) t
           (below functions room) (few_of x p) written n accessors e a ea none_there is)
       by a ea s h false = none x s h
 
@@ -390,13 +421,13 @@ module _ (functions room : ℕ) (q : Emitting) (keeps : CallKeeps q.context.call
       by : (b : SignalAssignment) → signal_assignment k w m accessors e f ≡ Ok b → (s : State)
           → simple.set_signal k w written m accessors a e f ≡ Ok s → (places : List ℕ)
           → Right x (make_wiring q w written accessors e b s places x)
-      by b eb s es [] = good_ok (Leaf R x) _ ((λ p. (behind s es p, tt)), clear s es)
+      by b eb s es [] = good_ok (Leaf R x) _ ((λ u p. (behind s es p, tt)), clear s es)
       by b eb s es (place ∷ places) =
           good_ok (Leaf R x) _ (
-            (λ p. (
+            (λ u p. (
               behind s es p,
               (
-                wiring_sound k keeps both fine sized w x p.fine (runs_of x p)
+                wiring_sound k keeps both fine sized w x p.fine (runs_of x p) u.tabled
                     (below functions room) (few_of x p) written m accessors e b eb meant_e,
                 all_append IsSound (freed_at b.target.part
                     (is_fed (signals_of b.target.part f.frame)) (with_state s x)) []
@@ -436,7 +467,7 @@ module _ (functions room : ℕ) (q : Emitting) (keeps : CallKeeps q.context.call
           let same : c.state ≡ s = same_ok c.state s es in
           let h : Still f s = subst (Still f) same (rests c ec) in
           good_ok (Leaf R x) _ (
-            (λ p. (
+            (λ u p. (
               record {
                 fine = (fits p).0;
                 long = (fits p).1;
@@ -450,35 +481,36 @@ module _ (functions room : ℕ) (q : Emitting) (keeps : CallKeeps q.context.call
       by c ec s (place ∷ places) es fits =
           good_as (Leaf R x) (q.cast w c.template c.arguments (path_of k c.entry c.indices)
           c.state.world x.next) _ (λ o eo.
-          good_ok (Leaf R x) _ ((λ p. made o eo p), clear))
+          good_ok (Leaf R x) _ ((λ u p. made o eo u.fits u.less p), clear))
         where
-          its : Creates c s
+          its : IsCreated k w c s
           its =
-              good_is (Creates c) (create_each k w c (place ∷ places)) s es
-              (create_counts k w c place places)
+              good_is (IsCreated k w c) (create_each k w c (place ∷ places)) s es
+              (created_is k w c place places)
 
           clear : StaysClear f s
           clear ns h =
-              subst (ClearIn ns) (sym (its.0 ∙ (rests c ec).0)) h
+              subst (ClearIn ns) (sym (its.signals ∙ (rests c ec).0)) h
 
           made : (o : Cast) → q.cast w c.template c.arguments (path_of k c.entry c.indices)
-              c.state.world x.next ≡ Ok o → IsPrepared room x
-              → IsPrepared room (with_cast k w c o s x)
+              c.state.world x.next ≡ Ok o → Fits (sizes_of x) → Less s.world.sizes final
+              → IsPrepared room x → IsPrepared room (with_cast k w c o s x)
               × AllSound (freed_at (Some (length x.bodies)) false (with_cast k w c o s x) ++ [])
-          made o eo p =
+          made o eo numbers less p =
               let args : FineCreation c =
               good_is FineCreation (creation k w n accessors e f) c ec
               (creation_fine k fine w n accessors e f p.fine) in
               let sound : AllSound o.steps =
-              casts w c.template c.arguments (path_of k c.entry c.indices) c.state.world x.next o
-              args.0 args.1.1 eo in
+              casts its.make its.makes w c.template c.arguments (path_of k c.entry c.indices)
+              c.state.world x.next its.body o its.is eo (subst Fits (sym (rests c ec).2) numbers)
+              (subst (λ z. Less z final) (sym its.sizes) less) args.0 args.1.1 in
               let waits : AllByRecursion AllSound (x.bodies ++ o.steps ∷ []) =
               all_append AllSound x.bodies (o.steps ∷ []) p.waiting (sound, tt) in (
                 record {
                   fine = (fits p).0;
                   long = (fits p).1;
                   runs = one_longer x.cells.parts _ ∙ ap (λ (n : ℕ). suc n) (p.runs
-                      ∙ sym (ap (λ (ps : List Part). length ps) (rests c ec).1)) ∙ sym its.1;
+                      ∙ sym (ap (λ (ps : List Part). length ps) (rests c ec).1)) ∙ sym its.count;
                   waiting = waits;
                 },
                 all_append IsSound (freed_at (Some (length x.bodies)) false
@@ -486,22 +518,76 @@ module _ (functions room : ℕ) (q : Emitting) (keeps : CallKeeps q.context.call
                     (freed_sound (Some (length x.bodies)) false (with_cast k w c o s x) waits) tt,
               )
 
-  pub sound_leaves : Leaves functions room q Turns R
-  sound_leaves = record {
-    still = λ x s h p. (prepared x (with_state s x) refl refl h p, tt);
-    joins = λ x y z h g p.
-        let a : IsPrepared room y.state × AllSound y.steps = h p in
-        let b : IsPrepared room z.state × AllSound z.steps = g a.0 in
-        (b.0, all_append IsSound y.steps z.steps a.1 b.1);
-    declared = λ spot direction n name dims x clear p. (
-      record { fine = p.fine; long = p.long; runs = p.runs; waiting = p.waiting },
-      tt,
-    );
-    set = set_leaf;
-    wired = wired_leaf;
-    created = created_leaf;
-    equal = equal_leaf;
-    assertion = assert_leaf;
-    line = line_leaf;
-    undecided = undecided_leaf;
-  }
+  -- from any numbers that hold where a statement begins its steps are right
+  module _ (size : ℕ) (roomy : Roomy size final)
+      (moves : Leaves functions room q Still (Moves size final)) where
+    abbrev Sound : Emission → Emitted → Type 0
+    Sound x y =
+        Less (sizes_of y.state) final → Fits (sizes_of x) → (first : Sizes) (before : List ℕ)
+        → Holds size first before x → IsPrepared room x → IsPrepared room y.state × AllSound y.steps
+
+    abbrev pub MovesSound : Emission → Emitted → Type 0
+    MovesSound x y = Moves size final x y × Sound x y
+
+    sound_from : (x : Emission) (y : Emitted) → Moves size final x y → R x y → Sound x y
+    sound_from x y h g less fits first before holds p =
+        g record {
+          fits = fits;
+          less = less;
+          tabled = are_tabled size first before x holds
+              (roomy_less size (sizes_of x) final (less_then _ _ _ (h fits).0.1 less) roomy);
+        } p
+
+    paired : (x : Emission) (m : Tried Emitted) → OnGood (Leaf (Moves size final) x) m → Right x m
+        → OnGood (Leaf MovesSound x) m
+    unfolding OnGood
+    paired x (Ok y) h g = ((h.0, sound_from x y h.0 g.0), h.1)
+    paired x (Err e) h g = tt
+
+    both_joined : (x : Emission) (y z : Emitted) → MovesSound x y → MovesSound y.state z
+        → MovesSound x (joined y z)
+    both_joined x y z h g = (
+      moves_join size final x y z h.0 g.0,
+      λ less fits first before holds p.
+          let middle : Less (sizes_of y.state) final =
+          less_then _ _ _ (g.0 (h.0 fits).0.0).0.1 less in
+          let moved : Moved size first before x y = (h.0 fits).1 middle first before holds in
+          let a : IsPrepared room y.state × AllSound y.steps =
+          h.1 middle fits first before holds p in
+          let b : IsPrepared room z.state × AllSound z.steps =
+          g.1 less (h.0 fits).0.0 first (before ++ targets_of y.steps) moved.holds a.0 in
+          (b.0, all_append IsSound y.steps z.steps a.1 b.1),
+    )
+
+    pub sound_leaves : Leaves functions room q Turns MovesSound
+    sound_leaves = record {
+      still = λ x s h. (
+        moves.still x s h.0,
+        λ less fits first before holds p. (prepared x (with_state s x) refl refl h p, tt),
+      );
+      joins = both_joined;
+      declared = λ spot direction n name dims x clear. (
+        moves.declared spot direction n name dims x clear,
+        λ less fits first before holds p. (
+          record { fine = p.fine; long = p.long; runs = p.runs; waiting = p.waiting },
+          tt,
+        ),
+      );
+      set = λ w written n accessors e x is none_there.
+          paired x _ (moves.set w written n accessors e x is none_there)
+          (set_leaf w written n accessors e x is none_there);
+      wired = λ w written m accessors a e x meant_e place_there.
+          paired x _ (moves.wired w written m accessors a e x meant_e place_there)
+          (wired_leaf w written m accessors a e x meant_e place_there);
+      created = λ w n accessors e x.
+          paired x _ (moves.created w n accessors e x) (created_leaf w n accessors e x);
+      equal = λ w a b x meant_a meant_b.
+          paired x _ (moves.equal w a b x meant_a meant_b) (equal_leaf w a b x meant_a meant_b);
+      assertion = λ w e x meant_e.
+          paired x _ (moves.assertion w e x meant_e) (assert_leaf w e x meant_e);
+      line = λ w arguments x meant_all.
+          paired x _ (moves.line w arguments x meant_all) (line_leaf w arguments x meant_all);
+      undecided = λ scope spot fault a x sounds is places le.
+          paired x _ (moves.undecided scope spot fault a x sounds is places le)
+          (undecided_leaf scope spot fault a x sounds is places le);
+    }

@@ -77,7 +77,6 @@ module _ (Before After : Homes → Expr Meant → Type 0) (Besides : Expr Meant 
     dims = numbers_more s.homes (list_of v.dimensions) h.dims
         (front (numbers_wanted (list_of v.dimensions)) (value_wanted v.value) l);
     fresh = h.fresh;
-    small = h.small;
     may = h.may;
     value = value_more _ v.meant v.value h.value
         (back (numbers_wanted (list_of v.dimensions)) (value_wanted v.value) l);

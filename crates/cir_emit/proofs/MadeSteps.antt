@@ -56,6 +56,9 @@ use Rattle.cir_meaning.specs.Scoped.{IsArgumentMeant}
 use Rattle.cir_meaning.specs.Run.{RunPart}
 use Rattle.cir_emit.specs.Sourced.{IsThere, HasAll, AreSourcesOf}
 use Rattle.cir_emit.proofs.Counts.{assigned_count, logged_count}
+use Rattle.cir_emit.proofs.ReadSteps.{AreReadAll, wiring_reads, comparison_reads, assertion_reads}
+use Rattle.cir_emit.proofs.ReadSteps.{line_reads, assigned_reads}
+use Rattle.cir_steps.proofs.ReadCells.{IsTabled}
 
 -- whatever its sources are, the step is lowered with them, and fits
 abbrev pub IsSound : Step → Type 0
@@ -65,15 +68,16 @@ IsSound step =
     × StepFits keys sources (length step.variables) (step_task step)
 
 pub lowered_step : (keys : List Made) (step : Step) (sources : Sources)
-    → AreSourcesOf keys step sources → count_of (lowered_ground keys step sources)
-    (scope_of sources).homes (step_task step) ≡ length step.targets
+    → AreSourcesOf keys step sources → AreReadAll step sources
+    → count_of (lowered_ground keys step sources) (scope_of sources).homes (step_task step)
+    ≡ length step.targets
     → IsLoweredStep keys step sources
-lowered_step keys step sources are count = record {
+lowered_step keys step sources are reads count = record {
   arrays = are.arrays;
   outside = are.components.outside;
   called = are.called;
   loaded = are.loaded;
-  reads = are.reads;
+  reads = reads;
   count = count;
 }
 
@@ -94,7 +98,7 @@ indices_meant scope (member name rest) h = indices_meant scope rest h
 module _ (k : Context) (keeps : CallKeeps k.call) (both : CallBoth k.call) (fine : FineContext k)
     (sized : SizedCall k.call) (w : Where) (x : Emission) (fine_state : Fine (known_in x))
     (runs : (j : ℕ) (p : Part) → slice_get (known_in x).frame.parts j ≡ Some p
-    → (r : RunPart) × (slice_get x.cells.parts j ≡ Some r)) (scope : Names)
+    → (r : RunPart) × (slice_get x.cells.parts j ≡ Some r)) (tabled : IsTabled x) (scope : Names)
     (few : (n : ℕ) → scope.seen n ≡ true
     → n < length (variable_sources (known_in x).frame.variables x.sources)) where
   abbrev f : State
@@ -154,56 +158,80 @@ module _ (k : Context) (keeps : CallKeeps k.call) (both : CallBoth k.call) (fine
       → AreCallsMeant scope e → IsSound (wiring k w written accessors e a x)
   wiring_sound written m accessors e a is meant_e keys sources are = (
     lowered_step keys (wiring k w written accessors e a x) sources are
+        (wiring_reads k keeps both fine sized w x fine_state runs tabled scope few keys sources
+        written m accessors e a is are (ready written m accessors e a is meant_e keys sources are))
         (wiring_count written m accessors e a is meant_e keys sources are),
     wiring_fits written m accessors e a is meant_e keys sources are,
   )
 
   -- a comparison
+  abbrev comparing : Expr Meant → Expr Meant → Step
+  comparing a b = step_of k w f (equal_cost k w a b f) (Comparing a b) [] None x
+
+  module _ (a b : Expr Meant) (meant_a : AreCallsMeant scope a) (meant_b : AreCallsMeant scope b)
+      (keys : List Made) (sources : Sources) (are : AreSourcesOf keys (comparing a b) sources) where
+    ready_a : IsReady (IsThere (comparing a b) sources.components) scope keys sources []
+        (scope_of sources).homes a
+    ready_a = (
+      record {
+        has = are.has.0;
+        loaded = all_front (IsLoaded sources) (expr_reads _ _ a) (expr_reads _ _ b) are.loaded;
+      },
+      meant_a,
+    )
+
+    ready_b : IsReady (IsThere (comparing a b) sources.components) scope keys sources []
+        (scope_of sources).homes b
+    ready_b = (
+      record {
+        has = are.has.1;
+        loaded = all_back (IsLoaded sources) (expr_reads _ _ a) (expr_reads _ _ b) are.loaded;
+      },
+      meant_b,
+    )
+
   pub comparison_sound : (a b : Expr Meant) (s : State) → equal k w a b f ≡ Ok s
-      → AreCallsMeant scope a → AreCallsMeant scope b
-      → IsSound (step_of k w f (equal_cost k w a b f) (Comparing a b) [] None x)
+      → AreCallsMeant scope a → AreCallsMeant scope b → IsSound (comparing a b)
   comparison_sound a b s is meant_a meant_b keys sources are = (
-    lowered_step keys (step_of k w f (equal_cost k w a b f) (Comparing a b) [] None x) sources are
-        refl,
+    lowered_step keys (comparing a b) sources are
+        (comparison_reads k keeps both fine sized w x fine_state runs tabled scope few keys sources
+        a b s is are (ready_a a b meant_a meant_b keys sources are)
+        (ready_b a b meant_a meant_b keys sources are)) refl,
     comparison_fits k keeps both fine sized w (equal_cost k w a b f) (Comparing a b) [] None x
-        fine_state runs keys sources are scope few a b s (
-          record {
-            has = are.has.0;
-            loaded = all_front (IsLoaded sources) (expr_reads _ _ a) (expr_reads _ _ b) are.loaded;
-          },
-          meant_a,
-        ) (
-          record {
-            has = are.has.1;
-            loaded = all_back (IsLoaded sources) (expr_reads _ _ a) (expr_reads _ _ b) are.loaded;
-          },
-          meant_b,
-        ) is,
+        fine_state runs keys sources are scope few a b s
+        (ready_a a b meant_a meant_b keys sources are)
+        (ready_b a b meant_a meant_b keys sources are) is,
   )
 
   -- an assertion
   abbrev asserting : Expr Meant → Step
   asserting e = step_of k w f (assert_cost k w e f) (Asserting e) [] None x
 
+  asserted_ready : (e : Expr Meant) (keys : List Made) (sources : Sources)
+      → AreSourcesOf keys (asserting e) sources → AreCallsMeant scope e
+      → IsReady (IsThere (asserting e) sources.components) scope keys sources []
+      (scope_of sources).homes e
+  asserted_ready e keys sources are meant_e =
+      let reads : Wanted → List Reading = λ v. expr_reads (ground_of keys sources [])
+      (scope_of sources).homes v.expr in
+      let all : List Wanted = record { want = Scalar; expr = e } ∷ [] in (
+        record {
+          has = are.has.0;
+          loaded = (all_flat (IsLoaded sources) reads all
+              (all_front (IsLoaded sources) (flat_map reads all) _ are.loaded)).0;
+        },
+        meant_e,
+      )
+
   pub assertion_sound : (e : Expr Meant) (y : Datum × State) → value_in k w false Scalar e f ≡ Ok y
       → AreCallsMeant scope e → IsSound (asserting e)
   assertion_sound e y is meant_e keys sources are = (
-    lowered_step keys (asserting e) sources are refl,
+    lowered_step keys (asserting e) sources are
+        (assertion_reads k keeps both fine sized w x fine_state runs tabled scope few keys sources
+        e y is are (asserted_ready e keys sources are meant_e)) refl,
     assertion_fits k keeps both fine sized w (assert_cost k w e f) (Asserting e) [] None x
-        fine_state runs keys sources are scope few w.spot e y (
-          record {
-            has = are.has.0;
-            loaded = (all_flat (IsLoaded sources)
-                (λ (v : Wanted). expr_reads (ground_of keys sources [])
-                (scope_of sources).homes v.expr)
-                (record { want = Scalar; expr = e } ∷ [])
-                (all_front (IsLoaded sources)
-                (flat_map (λ (v : Wanted). expr_reads (ground_of keys sources [])
-                (scope_of sources).homes v.expr)
-                (record { want = Scalar; expr = e } ∷ [])) _ are.loaded)).0;
-          },
-          meant_e,
-        ) is,
+        fine_state runs keys sources are scope few w.spot e y
+        (asserted_ready e keys sources are meant_e) is,
   )
 
   -- a log line
@@ -225,19 +253,30 @@ module _ (k : Context) (keeps : CallKeeps k.call) (both : CallBoth k.call) (fine
       step_of k w f (log_cost k w arguments f) (Logging arguments)
       (numbers_from x.next (logged_cells arguments)) (Some (log_parts x.next arguments)) x
 
+  logged_ready : (arguments : List (LogArgument Meant)) (keys : List Made) (sources : Sources)
+      → AreSourcesOf keys (logging arguments) sources
+      → AllByRecursion (IsArgumentMeant scope) arguments
+      → AllByRecursion (IsReady (IsThere (logging arguments) sources.components) scope keys sources
+      [] (scope_of sources).homes) (logged arguments)
+  logged_ready arguments keys sources are meant_all =
+      all_ready (IsThere (logging arguments) sources.components) keys sources (logged arguments)
+      are.has
+      (all_flat (IsLoaded sources)
+      (expr_reads (ground_of keys sources []) (scope_of sources).homes) (logged arguments)
+      are.loaded) (logged_meant scope arguments meant_all)
+
   pub line_sound : (arguments : List (LogArgument Meant)) (s : State)
       → log_values k w arguments f ≡ Ok s → AllByRecursion (IsArgumentMeant scope) arguments
       → IsSound (logging arguments)
   line_sound arguments s is meant_all keys sources are = (
-    lowered_step keys (logging arguments) sources are (logged_count x.next arguments),
+    lowered_step keys (logging arguments) sources are
+        (line_reads k keeps both fine sized w x fine_state runs tabled scope few keys sources
+        arguments s is are (logged_ready arguments keys sources are meant_all))
+        (logged_count x.next arguments),
     line_fits k keeps both fine sized w (log_cost k w arguments f) (Logging arguments)
         (numbers_from x.next (logged_cells arguments)) (Some (log_parts x.next arguments)) x
         fine_state runs keys sources are scope few arguments s
-        (all_ready (IsThere (logging arguments) sources.components) keys sources
-        (logged arguments) are.has
-        (all_flat (IsLoaded sources)
-        (expr_reads (ground_of keys sources []) (scope_of sources).homes) (logged arguments)
-        are.loaded) (logged_meant scope arguments meant_all)) is,
+        (logged_ready arguments keys sources are meant_all) is,
   )
 
   -- what an assignment writes
@@ -309,6 +348,24 @@ module _ (k : Context) (keeps : CallKeeps k.call) (both : CallBoth k.call) (fine
         (all_front (IsLoaded sources) (flat_map (λ (v : Wanted). reads_of v.expr) wanted_all) _
         are.loaded)
 
+    indices_ready : AllByRecursion (IsReady (IsThere (assigned written n accessors e a)
+        sources.components) scope keys sources [] its_homes) (indices_of accessors)
+    indices_ready =
+        all_ready (IsThere (assigned written n accessors e a) sources.components) keys sources
+        (indices_of accessors) are.has.0.1
+        (all_mapped (λ (v : Wanted). Loaded (reads_of v.expr))
+        (λ i. record { want = Scalar; expr = i }) (indices_of accessors) loaded.1)
+        (indices_meant scope accessors meant_set.1)
+
+    value_ready : IsReady (IsThere (assigned written n accessors e a) sources.components) scope keys
+        sources [] its_homes e
+    value_ready = (record { has = are.has.0.2; loaded = loaded.0 }, meant_set.2)
+
+    assigned_all : AreReadAll (assigned written n accessors e a) sources
+    assigned_all =
+        assigned_reads k keeps both fine sized w x fine_state runs tabled scope few keys sources
+        written n home.0 accessors e a home.1 none is are indices_ready value_ready
+
     assigned_fits : StepFits keys sources (length (variable_sources f.frame.variables x.sources))
         (step_task (assigned written n accessors e a))
     assigned_fits =
@@ -319,12 +376,7 @@ module _ (k : Context) (keeps : CallKeeps k.call) (both : CallBoth k.call) (fine
         home.0 accessors e _ a home.1
         (home_below (length (variable_sources f.frame.variables x.sources)) sources are.shapes n
         home.0 home.1) none
-        (all_ready (IsThere (assigned written n accessors e a) sources.components) keys sources
-        (indices_of accessors) are.has.0.1
-        (all_mapped (λ (v : Wanted). Loaded (reads_of v.expr))
-        (λ i. record { want = Scalar; expr = i }) (indices_of accessors) loaded.1)
-        (indices_meant scope accessors meant_set.1))
-        (record { has = are.has.0.2; loaded = loaded.0 }, meant_set.2)
+        indices_ready value_ready
         (written_fit its_homes n home.0 a home.1
         (home_small (length (variable_sources f.frame.variables x.sources)) sources are.shapes
         (Variable n) home.0 home.1) (ap (λ d. d.dims) same ∙ dims)
@@ -337,6 +389,7 @@ module _ (k : Context) (keeps : CallKeeps k.call) (both : CallBoth k.call) (fine
       → IsSound (assigned written n accessors e a)
   assigned_sound written n accessors e a is none meant_set keys sources are = (
     lowered_step keys (assigned written n accessors e a) sources are
+        (assigned_all written n accessors e a is none meant_set keys sources are)
         (assigned_count n x.next (new_places n a)),
     assigned_fits written n accessors e a is none meant_set keys sources are,
   )

@@ -1,10 +1,12 @@
 -- What a step tells of the dimensions of arrays of components: which indices are outside.
 use Rattle.std.proofs.Common.{◌≡◌, ℕ, ◌<◌, Bool, true, false, cond, List, [], ◌∷◌, length, map}
-use Rattle.std.proofs.Common.{Option, Some, None, Result, Err, refl, sym, ap, ap₂, ◌∙◌, arith}
+use Rattle.std.proofs.Common.{Option, Some, None, Result, Err, refl, sym, ap, ap₂, subst, ◌∙◌}
+use Rattle.std.proofs.Common.{arith}
 use Rattle.std.specs.Prelude.{◌&&◌, nat_lt, slice_get, slice_index, not}
 use Rattle.std.proofs.lemmas.Bool.{and_parts, ltb-true, ltb-false}
+use Rattle.cir_ast.specs.declared.program.Meant.TheVariants as meant
 use Rattle.cir_meaning.specs.Tried.{Where}
-use Rattle.cir_meaning.specs.Places.{is_inside, places_of}
+use Rattle.cir_meaning.specs.Places.{is_inside, places_of, all_known}
 use Rattle.cir_meaning.specs.Arrays.{Shaped}
 use Rattle.cir_meaning.specs.Costs.{Cost}
 use Rattle.cir_meaning.specs.Frame.{SignalEntry, Part, ComponentEntry, State, Context, entry_at}
@@ -15,7 +17,10 @@ use Rattle.cir_meaning.specs.Run.{Wires, RunPart, found_port, port_of, part_sign
 use Rattle.cir_meaning.specs.Run.{component_signal}
 use Rattle.cir_steps.specs.Step.{Work, LogPart}
 use Rattle.cir_steps.specs.Emission.{Emission, step_of}
+use Rattle.wit_lower.specs.Fits.{IsElement}
+use Rattle.wit_lower.specs.Homes.{Ground, Named}
 use Rattle.cir_emit.specs.Sourced.{AreSized}
+use Rattle.cir_emit.proofs.Reached.{known_again}
 
 -- dimensions are the same that have the same indices inside, where there are some
 abbrev SameInside : (a b : List ℕ) → Type 0
@@ -103,3 +108,13 @@ sized_agree k w cost work targets line x s components h n c e is =
         (entry_at c.parts (slice_index (places_of c.dims (map Some is)) 0))
         (sym (told true eb) ∙ h.outside n is [] ea))
     at true ea false eb = h.inside n is [] (told false eb) ∙ sym eb
+
+-- known indices of an element, one for each dimension where they are inside
+pub element_told : (g : Ground) (n : ℕ) (ks : List (Option ℕ)) (is : List ℕ) → ks ≡ map Some is
+    → (is_inside (g.components n) (map Some is) ≡ true → length is ≡ length (g.components n))
+    → IsElement g (Named (meant.Component n)) ks
+element_told g n ks is ks_are full known known_is inside =
+    let both : Some known ≡ Some is = sym known_is ∙ ap all_known ks_are ∙ known_again is in
+    let same_is : known ≡ is = cc in
+    subst (λ js. length js ≡ length (g.components n)) (sym same_is)
+    (full (subst (λ js. is_inside (g.components n) (map Some js) ≡ true) same_is inside))

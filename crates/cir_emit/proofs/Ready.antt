@@ -22,7 +22,6 @@ use Rattle.cir_meaning.specs.Unknown.{variable_of, assign_writes, first_writes, 
 use Rattle.cir_meaning.specs.Unknown.{writes, all_writes, vars_declare, first_declares}
 use Rattle.cir_meaning.specs.Unknown.{simple_declares, declares, all_declares, outer_assigned}
 use Rattle.cir_meaning.specs.Writing.{plain}
-use Rattle.cir_meaning.specs.Limits.{is_too_large}
 use Rattle.cir_meaning.specs.Texts.{list_of}
 use Rattle.cir_meaning.proofs.Rows.{all_append}
 use Rattle.cir_meaning.proofs.ScopeLaws.{IsSound, sound_first, sound_closed, sound, grows_variables}
@@ -313,14 +312,12 @@ module _ (There : Name → Type 0) (functions : ℕ) (g : Ground) (count : ℕ)
       → m ≡ meant.Variable scope.variables → scope.variables < count → Are (variable_of m)
       → Clear scope.variables c.homes
       → AllByRecursion (HasAll There g c.homes) (list_of v.dimensions)
-      → is_too_large (known_dims g v) ≡ false
       → ValueHas There g (declared_scope g c v m).homes m v.value
       → DeclaredReady Held g free c v m
-  declared_ready scope c v (meant.Variable n) em e less are clear dims small value =
+  declared_ready scope c v (meant.Variable n) em e less are clear dims value =
       let same : n ≡ scope.variables = variable_is n scope.variables e in record {
         dims = dims;
         fresh = clear n (are n (in_one n)) (omega (arith, same));
-        small = small;
         may = may n (omega (arith, same, less));
         value = subst (λ m. ValueReady Held g free (with_variable n (known_dims g v) c).homes m
             v.value) (sym em)
@@ -330,11 +327,11 @@ module _ (There : Name → Type 0) (functions : ℕ) (g : Ground) (count : ℕ)
     where
       variable_is : (a b : ℕ) → meant.Variable a ≡ meant.Variable b → a ≡ b
       variable_is a b e = cc
-  declared_ready scope c v meant.Other em e less are clear dims small value = tt
-  declared_ready scope c v (meant.Signal d n) em e less are clear dims small value = tt
-  declared_ready scope c v (meant.Component n) em e less are clear dims small value = tt
-  declared_ready scope c v (meant.Template n) em e less are clear dims small value = tt
-  declared_ready scope c v (meant.Function n) em e less are clear dims small value = tt
+  declared_ready scope c v meant.Other em e less are clear dims value = tt
+  declared_ready scope c v (meant.Signal d n) em e less are clear dims value = tt
+  declared_ready scope c v (meant.Component n) em e less are clear dims value = tt
+  declared_ready scope c v (meant.Template n) em e less are clear dims value = tt
+  declared_ready scope c v (meant.Function n) em e less are clear dims value = tt
 
   variables_ready : (vs : List (Declared Meant)) (scope : Names) (c : Scope)
       → AreVariablesScoped scope vs → (with_variables scope vs).variables ≤ count
@@ -344,7 +341,7 @@ module _ (There : Name → Type 0) (functions : ℕ) (g : Ground) (count : ℕ)
   variables_ready (v ∷ vs) scope c is le are clear has = (
     declared_ready scope c v v.meant refl is.0.0
         (omega (arith, le, (grows_variables (with_name scope) vs).variables))
-        (front (variable_of v.meant) (vars_declare vs) are) clear has.0.0 has.0.1 has.0.2,
+        (front (variable_of v.meant) (vars_declare vs) are) clear has.0.0 has.0.1,
     variables_ready vs (with_name scope) (variable_scope g c v) is.1 le
         (back (variable_of v.meant) (vars_declare vs) are) (clear_declared scope c v is.0 clear)
         has.1,

@@ -207,7 +207,6 @@ module _ (Ready : Homes → Expr Meant → Type 0) (ground : Ground) (free : ℕ
   pub record IsDeclaredReady (s : Scope) (v : Declared Meant) (n : ℕ) : Type 0 where
     pub dims : AllByRecursion (Ready s.homes) (list_of v.dimensions)
     pub fresh : find (Variable n) s.homes ≡ None
-    pub small : is_too_large (known_dims ground v) ≡ false
     pub may : free n
     pub value : ValueReady (with_variable n (known_dims ground v) s).homes v.meant v.value
 
@@ -269,7 +268,7 @@ module _ (k : Context) (keeps : CallKeeps k.call) (both : CallBoth k.call) (fine
     pub fine_state : Fine t
     pub within : Within t
 
-  like_at : (homes : Homes) (s t : State) → At homes s → Like s t → Fine t → At homes t
+  pub like_at : (homes : Homes) (s t : State) → At homes s → Like s t → Fine t → At homes t
   like_at homes s t a l i = record {
     stands = like_stands There w s t sources changed homes l a.stands;
     fine_state = i;

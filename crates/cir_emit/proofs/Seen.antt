@@ -33,6 +33,7 @@ use Rattle.cir_meaning.proofs.Scans.{like_valued, test_kept, plain_kept, value_k
 use Rattle.cir_meaning.proofs.Scans.{variables_kept, first_kept, scan_kept, scan_all_kept}
 use Rattle.cir_meaning.proofs.ScopeLaws.{IsSound, later_one, later_variables, later_first, later}
 use Rattle.cir_meaning.proofs.ScopeLaws.{later_all}
+use Rattle.cir_emit.proofs.SmallArrays.{IsOver, over_valued, over_declared, none_before}
 
 -- two evaluations, each of which has the other's value
 same_known : (m r : Tried (Datum × State)) → Twin (λ x y. y.0 ≡ x.0) m r
@@ -44,7 +45,7 @@ same_known (Err e) (Ok b) h g = absurd g
 same_known (Err e) (Err f) h g = refl
 
 -- with the variables of another state
-moved : (scope : Scope) (s t : State) → Rest s t
+pub moved : (scope : Scope) (s t : State) → Rest s t
     → varied scope s.frame.variables (uncounted t) ≡ uncounted s
 moved scope s t h =
     ap (λ (x : Signals). whole x t.frame.components t.frame.parts t.world) h.0 ∙
@@ -135,9 +136,12 @@ module _ (k : Context) (keeps : CallKeeps k.call) (w : Where) (functions : ℕ) 
   -- a part of a scan keeps what evaluation and declarations of greater numbers keep
   abbrev pub IsPart : (State → Tried State) → ℕ → Type 1
   IsPart scan_part least =
-      (Q : State → Type 0) → ((f s : State) → Like f s → Q f → Q s)
+      (Q : State → Type 0) → Valued k Q true
       → ((n : ℕ) (dims : List ℕ) (s : State) → least ≤ n → Q s → Q (scan_declared n dims s))
       → (s : State) → Q s → OnGood Q (scan_part s)
+
+  valued : (Q : State → Type 0) → ((f s : State) → Like f s → Q f → Q s) → Valued k Q true
+  valued Q like = like_valued k keeps Q like true
 
   abbrev Kept : ℕ → Datum → State → Type 0
   Kept n d u = variable_at u.frame n ≡ d
@@ -157,59 +161,69 @@ module _ (k : Context) (keeps : CallKeeps k.call) (w : Where) (functions : ℕ) 
       → (t t1 : State) → scan_part t ≡ Ok t1 → Stays t → Stays t1
   leaves scan_part least part t t1 ex h =
       good_is Stays (scan_part t) t1 ex
-      (part Stays stays_like (λ n dims u le g. stays_declared n dims u g) t h)
+      (part Stays (valued Stays stays_like) (λ n dims u le g. stays_declared n dims u g) t h)
 
-  pub before : (scan_part : State → Tried State) (least after : ℕ) → IsPart scan_part least
+  before : (scan_part : State → Tried State) (least after : ℕ) → IsPart scan_part least
       → (t t1 : State) → scan_part t ≡ Ok t1 → least ≤ after → Ends after t1 → Ends least t
   before scan_part least after part t t1 ex le h = (
     omega (arith, le, h.0),
     λ n less.
         sym (good_is (Kept n (variable_at t.frame n)) (scan_part t) t1 ex
-        (part (Kept n (variable_at t.frame n)) (kept_like n (variable_at t.frame n))
+        (part (Kept n (variable_at t.frame n))
+        (valued (Kept n (variable_at t.frame n)) (kept_like n (variable_at t.frame n)))
         (kept_declared least n (variable_at t.frame n) less) t refl)) ∙ h.1 n (omega arith),
   )
 
-  valued : (Q : State → Type 0) → ((f s : State) → Like f s → Q f → Q s) → Valued k Q true
-  valued Q like = like_valued k keeps Q like true
+  -- a scan that is accepted has counted no array that is too large
+  abbrev pub Closes : ℕ → State → Type 0
+  Closes least t = Ends least t × (t.frame.added.elements ≡ 0)
 
-  pub value_part : (least n : ℕ) (value : Option (Expr Meant))
-      → IsPart (scan_value k w (meant.Variable n) value) least
-  value_part least n value Q like declare u h =
-      value_kept k Q (valued Q like) (λ n. least ≤ n) declare w (meant.Variable n) value u h
+  pub closes_before : (scan_part : State → Tried State) (least after : ℕ) → IsPart scan_part least
+      → (t t1 : State) → scan_part t ≡ Ok t1 → least ≤ after → Closes after t1 → Closes least t
+  closes_before scan_part least after part t t1 ex le h = (
+    before scan_part least after part t t1 ex le h.0,
+    none_before scan_part
+        (part IsOver (over_valued k) (λ n dims u le g. over_declared n dims u g)) t t1 ex h.1,
+  )
+
+  pub value_part : (least n : ℕ) (given : Option (Expr Meant))
+      → IsPart (scan_value k w (meant.Variable n) given) least
+  value_part least n given Q value declare u h =
+      value_kept k Q value (λ n. least ≤ n) declare w (meant.Variable n) given u h
 
   pub variable_part : (scope : Scope) (v : Declared Meant) → IsVariableScoped scope v
       → IsPart (scan_variable k w v) scope.variables
-  variable_part scope v is Q like declare u h =
-      variable_kept k Q (valued Q like) (λ n. scope.variables ≤ n) declare w v
+  variable_part scope v is Q value declare u h =
+      variable_kept k Q value (λ n. scope.variables ≤ n) declare w v
       (later_one scope v.meant is.0) u h
 
   pub variables_part : (scope : Scope) (vs : List (Declared Meant)) → AreVariablesScoped scope vs
       → IsPart (each (scan_variable k w) vs) scope.variables
-  variables_part scope vs is Q like declare u h =
-      variables_kept k Q (valued Q like) (λ n. scope.variables ≤ n) declare w vs
+  variables_part scope vs is Q value declare u h =
+      variables_kept k Q value (λ n. scope.variables ≤ n) declare w vs
       (later_variables scope vs is) u h
 
   pub assign_part : (least : ℕ) (a : Assign Meant) → IsPart (scan_assign k w a) least
-  assign_part least a Q like declare u h =
-      plain_kept k Q (valued Q like) (λ n. least ≤ n) declare w (plain a) u h
+  assign_part least a Q value declare u h =
+      plain_kept k Q value (λ n. least ≤ n) declare w (plain a) u h
 
   pub test_part : (least : ℕ) (c : Expr Meant) → IsPart (scan_test k w c) least
-  test_part least c Q like declare u h =
-      test_kept k Q (valued Q like) (λ n. least ≤ n) declare w c u h
+  test_part least c Q value declare u h =
+      test_kept k Q value (λ n. least ≤ n) declare w c u h
 
   pub first_part : (scope : Scope) (f : First Meant) → IsFirstScoped scope f
       → IsPart (scan_first k w f) scope.variables
-  first_part scope f is Q like declare u h =
-      first_kept k Q (valued Q like) (λ n. scope.variables ≤ n) declare w f
+  first_part scope f is Q value declare u h =
+      first_kept k Q value (λ n. scope.variables ≤ n) declare w f
       (later_first scope f is) u h
 
   pub statement_part : (scope : Scope) (a : Statement Spot Meant) → IsScoped scope a
       → IsPart (scan k w a) scope.variables
-  statement_part scope a is Q like declare u h =
-      scan_kept k Q (valued Q like) (λ n. scope.variables ≤ n) declare w a (later scope a is) u h
+  statement_part scope a is Q value declare u h =
+      scan_kept k Q value (λ n. scope.variables ≤ n) declare w a (later scope a is) u h
 
   pub statements_part : (scope : Scope) (ss : Statements Spot Meant) → AreScoped scope ss
       → IsPart (scan_all k w ss) scope.variables
-  statements_part scope ss is Q like declare u h =
-      scan_all_kept k Q (valued Q like) (λ n. scope.variables ≤ n) declare w ss
+  statements_part scope ss is Q value declare u h =
+      scan_all_kept k Q value (λ n. scope.variables ≤ n) declare w ss
       (later_all scope ss is) u h

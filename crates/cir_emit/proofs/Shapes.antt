@@ -155,6 +155,7 @@ pub record Shapely (g : Ground) (homes : Homes) (env : Environment) (store : Sto
       → env.signal n ≡ Some w → w.dims ≡ h.dims
   pub port : (n : ℕ) (indices name : List ℕ) (h : Home) (w : Shaped (Option ℕ))
       → is_inside (g.components n) (map Some indices) ≡ true
+      → length indices ≡ length (g.components n)
       → find (Port n (offset (g.components n) indices) name) homes ≡ Some h
       → env.part n indices name ≡ Ok w → w.dims ≡ h.dims
   pub outside : (n : ℕ) (indices name : List ℕ)
@@ -251,7 +252,7 @@ module _ (g : Ground) (homes : Homes) (env : Environment) (store : Store)
       (agree_more known is (g.known e) (the_number r.first.0) a
       (λ n en. s.known e n u r.first en r.is))
       (length-append is _ ∙ omega (arith, len, length-append known (g.known e ∷ []))) fr r.rest
-  place_long (member name rest) (meant.Component n) known is u x a len (component, fr) ran =
+  place_long (member name rest) (meant.Component n) known is u x a len (full, fr) ran =
       inside (is_inside dims (map Some is)) refl
     where
       dims : List ℕ
@@ -260,27 +261,31 @@ module _ (g : Ground) (homes : Homes) (env : Environment) (store : Store)
       r : Both (env.part n is name) (λ d. place_in env store (RunFound d) [] rest u) x
       r = both (env.part n is name) (λ d. place_in env store (RunFound d) [] rest u) x ran
 
-      homed : (ns : List ℕ) → is ≡ ns → is_inside dims (map Some ns) ≡ true → (o : Option Home)
+      homed : (ns : List ℕ) → is ≡ ns → is_inside dims (map Some ns) ≡ true
+          → length ns ≡ length dims → (o : Option Home)
           → find (Port n (offset dims ns) name) homes ≡ o → PlaceFits g homes (Found o) [] rest
           → HasShape (place_shape g homes (Found o) [] rest) x.0
-      homed ns same there None eo fits = absurd (no_port rest [] fits)
-      homed ns same there (Some h) eo fits =
+      homed ns same there whole None eo fits = absurd (no_port rest [] fits)
+      homed ns same there whole (Some h) eo fits =
           found_shape rest h r.first [] [] u x
-          (s.port n ns name h r.first there eo (ap (λ js. env.part n js name) (sym same) ∙ r.is))
+          (s.port n ns name h r.first there whole eo
+          (ap (λ js. env.part n js name) (sym same) ∙ r.is))
           refl fits r.rest
 
       known_by : (o : Option (List ℕ)) → ((ns : List ℕ) → o ≡ Some ns → is ≡ ns)
           → is_inside dims (map Some is) ≡ true
+          → ((ns : List ℕ) → o ≡ Some ns → is_inside dims (map Some ns) ≡ true
+          → length ns ≡ length dims)
           → PlaceFits g homes (home_at homes n dims name o) [] rest
           → HasShape (place_shape g homes (home_at homes n dims name o) [] rest) x.0
-      known_by None same there fits = absurd (no_port rest [] fits)
-      known_by (Some ns) same there fits =
+      known_by None same there full fits = absurd (no_port rest [] fits)
+      known_by (Some ns) same there full fits =
           let in_ns : is_inside dims (map Some ns) ≡ true =
           ap (λ js. is_inside dims (map Some js)) (sym (same ns refl)) ∙ there in
           let o : Option Home = find (Port n (offset dims ns) name) homes in
           subst (λ b. HasShape (place_shape g homes (cond b (Found o) Lost) [] rest) x.0)
           (sym in_ns)
-          (homed ns (same ns refl) in_ns o refl
+          (homed ns (same ns refl) in_ns (full ns refl in_ns) o refl
           (subst (λ b. PlaceFits g homes (cond b (Found o) Lost) [] rest) in_ns fits))
 
       inside : (b : Bool) → is_inside dims (map Some is) ≡ b
@@ -289,7 +294,7 @@ module _ (g : Ground) (homes : Homes) (env : Environment) (store : Store)
           let never : ◌≡◌ {A = Result (Shaped (Option ℕ)) ℕ} (Err index_out) (Ok r.first) =
           sym (s.outside n is name e) ∙ r.is in cc
       inside true e =
-          known_by (all_known known) (λ ns en. agree_all known is ns a en) e fr
+          known_by (all_known known) (λ ns en. agree_all known is ns a en) e full fr
   place_long (member name rest) meant.Other known is u x a len (never, fr) ran = absurd never
   place_long (member name rest) (meant.Variable n) known is u x a len (never, fr) ran = absurd never
   place_long (member name rest) (meant.Signal w n) known is u x a len (never, fr) ran = absurd never

@@ -24,7 +24,7 @@ use Rattle.gold_field.specs.Operators.{unary_of as number_by}
 use Rattle.wit_lower.specs.Pieces.{decided}
 use Rattle.wit_lower.specs.Values.{shape_of, shapes_of}
 use Rattle.wit_lower.specs.Fits.{EndFits, UnlessSkipped, Sides, UnlessCalled, IsCalled, Fits}
-use Rattle.wit_lower.specs.Fits.{AllFit, PlaceFits}
+use Rattle.wit_lower.specs.Fits.{AllFit, PlaceFits, IsElement}
 use Rattle.wit_lower.proofs.Shows.{KnownAt}
 use Rattle.wit_lower.proofs.Exprs.{Agree, agree_more, agree_all}
 use Rattle.wit_lower.proofs.Operators.{right_of, Decides, decides}
@@ -46,6 +46,7 @@ pub record Alike (g : Ground) (homes : Homes) (Loaded : Reading → Type 0)
       → WirePair (λ k. Loaded (reading (Signal n) k)) h.dims (one.signal n) (two.signal n)
   pub port : (n : ℕ) (indices name : List ℕ) (h : Home)
       → is_inside (g.components n) (map Some indices) ≡ true
+      → length indices ≡ length (g.components n)
       → find (Port n (offset (g.components n) indices) name) homes ≡ Some h
       → PortPair (λ k. Loaded (reading (Port n (offset (g.components n) indices) name) k)) h.dims
       (one.part n indices name) (two.part n indices name)
@@ -203,7 +204,7 @@ module _ (g : Ground) (first : Homes) (Loaded : Reading → Type 0) (Whole : ℕ
 
   -- a signal of a component
   member_same : (rest : Accessors Meant) (n : ℕ) (name : List ℕ) (known : List (Option ℕ))
-      (is : List ℕ) (u : ℕ) → Agree known is
+      (is : List ℕ) (u : ℕ) → Agree known is → IsElement g (Named (meant.Component n)) known
       → PlaceFits g homes (home_at homes n (g.components n) name (all_known known)) [] rest
       → Covered
       (place_reads g first (Reached (port_at n (g.components n) name (all_known known))) []
@@ -215,7 +216,7 @@ module _ (g : Ground) (first : Homes) (Loaded : Reading → Type 0) (Whole : ℕ
       → place_in one store (RunFound p) [] rest u ≡ place_in two other (RunFound q) [] rest u)
       → next (one.part n is name) (λ d. place_in one store (RunFound d) [] rest u)
       ≡ next (two.part n is name) (λ d. place_in two other (RunFound d) [] rest u)
-  member_same rest n name known is u a fits covered go = by (is_inside dims (map Some is)) refl
+  member_same rest n name known is u a full fits covered go = by (is_inside dims (map Some is)) refl
     where
       dims : List ℕ
       dims = g.components n
@@ -229,16 +230,17 @@ module _ (g : Ground) (first : Homes) (Loaded : Reading → Type 0) (Whole : ℕ
       Goal : List ℕ → Type 0
       Goal js = next (one.part n js name) f ≡ next (two.part n js name) f'
 
-      homed : (ns : List ℕ) → is_inside dims (map Some ns) ≡ true → (o : Option Home)
-          → find (Port n (offset dims ns) name) homes ≡ o → PlaceFits g homes (Found o) [] rest
+      homed : (ns : List ℕ) → is_inside dims (map Some ns) ≡ true → length ns ≡ length dims
+          → (o : Option Home) → find (Port n (offset dims ns) name) homes ≡ o
+          → PlaceFits g homes (Found o) [] rest
           → Covered (place_reads g first (Reached (Some (Port n (offset dims ns) name))) [] rest)
           → Goal ns
-      homed ns inside None eo fits covered = absurd (no_port rest [] fits)
-      homed ns inside (Some h) eo fits covered =
+      homed ns inside full None eo fits covered = absurd (no_port rest [] fits)
+      homed ns inside full (Some h) eo fits covered =
           elim (outer (Port n (offset dims ns) name) h eo) [
             | inl w ↦ absurd w
             | inr eh ↦
-                let p = alike.port n ns name h inside eh in
+                let p = alike.port n ns name h inside full eh in
                 ap (λ r. next r f) p.is_one ∙
                 go h (Port n (offset dims ns) name) p.one p.two eh p.same fits covered ∙
                 sym (ap (λ r. next r f') p.is_two)
@@ -246,16 +248,18 @@ module _ (g : Ground) (first : Homes) (Loaded : Reading → Type 0) (Whole : ℕ
 
       known_by : (o : Option (List ℕ)) → ((ns : List ℕ) → o ≡ Some ns → is ≡ ns)
           → is_inside dims (map Some is) ≡ true
+          → ((ns : List ℕ) → o ≡ Some ns → is_inside dims (map Some ns) ≡ true
+          → length ns ≡ length dims)
           → PlaceFits g homes (home_at homes n dims name o) [] rest
           → Covered (place_reads g first (Reached (port_at n dims name o)) [] rest) → Goal is
-      known_by None same inside fits covered = absurd (no_port rest [] fits)
-      known_by (Some ns) same inside fits covered =
+      known_by None same inside full fits covered = absurd (no_port rest [] fits)
+      known_by (Some ns) same inside full fits covered =
           let e : is ≡ ns = same ns refl in
           let there : is_inside dims (map Some ns) ≡ true =
           ap (λ js. is_inside dims (map Some js)) (sym e) ∙ inside in
           let x : Name = Port n (offset dims ns) name in
           subst Goal (sym e)
-          (homed ns there (find x homes) refl
+          (homed ns there (full ns refl there) (find x homes) refl
           (subst (λ b. PlaceFits g homes (cond b (Found (find x homes)) Lost) [] rest) there fits)
           (subst (λ b. Covered (place_reads g first (Reached (cond b (Some x) None)) [] rest)) there
           covered))
@@ -265,7 +269,7 @@ module _ (g : Ground) (first : Homes) (Loaded : Reading → Type 0) (Whole : ℕ
           ap (λ r. next r f) (alike.outside n is name e) ∙
           sym (ap (λ r. next r f') (alike.other_outside n is name e))
       by true e =
-          known_by (all_known known) (λ ns en. agree_all known is ns a en) e fits covered
+          known_by (all_known known) (λ ns en. agree_all known is ns a en) e full fits covered
 
   mutual
     pub expr_same : (e : Expr Meant) (u : ℕ) → Fits g homes e → Covered (expr_reads g first e)
@@ -346,8 +350,8 @@ module _ (g : Ground) (first : Homes) (Loaded : Reading → Type 0) (Whole : ℕ
         (agree_more known is (g.known e) (the_number x.0) a
         (λ n en. known_at e n u x en ex)) fr
         (all_back Loaded (expr_reads g first e) _ covered))
-    place_same (member name rest) (meant.Component n) known is u a (component, fr) covered =
-        member_same rest n name known is u a fr covered
+    place_same (member name rest) (meant.Component n) known is u a (full, fr) covered =
+        member_same rest n name known is u a full fr covered
         (λ h x p q eh same fits c. found_same rest h x p q [] [] u eh same tt fits c)
     place_same (member name rest) meant.Other known is u a (never, fr) covered = absurd never
     place_same (member name rest) (meant.Variable n) known is u a (never, fr) covered = absurd never

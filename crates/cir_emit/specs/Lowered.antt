@@ -45,7 +45,7 @@ IsIn step components (Signal n) d =
     (s : Shaped (Option ℕ)) × (step.names.signal n ≡ Some s) × (d ≡ shaped_map cell_input s)
 IsIn step components (Port n j name) d =
     (indices : List ℕ) → is_inside (components n) (map Some indices) ≡ true
-    → offset (components n) indices ≡ j
+    → length indices ≡ length (components n) → offset (components n) indices ≡ j
     → (s : Shaped (Option ℕ)) × (step.names.part n indices name ≡ Ok s) ×
     (d ≡ shaped_map cell_input s)
 

@@ -1,5 +1,5 @@
 -- What shows that sources are those of a step: what is told of them where they are made.
-use Rattle.std.specs.Prelude.{◌≡◌, ℕ, ◌<◌, ◌==◌, true, false, List, [], ◌∷◌, ◌++◌, length, map}
+use Rattle.std.specs.Prelude.{◌≡◌, ◌⊎◌, ℕ, ◌<◌, ◌==◌, true, false, List, [], ◌∷◌, ◌++◌, length, map}
 use Rattle.std.specs.Prelude.{Option, Some, None, Ok, Err, ⊤}
 use Rattle.std.specs.List.{list_any, AllByRecursion}
 use Rattle.cir_ast.specs.declared.program.Meant.{Meant}
@@ -12,7 +12,6 @@ use Rattle.cir_ast.specs.Tree.{Simple, Vars, Assigned, Statement, Block, If, IfE
 use Rattle.cir_ast.specs.Tree.{Return, Assert, Log, Ended, Statements, empty, then_more}
 use Rattle.cir_meaning.specs.Arrays.{Shaped}
 use Rattle.cir_meaning.specs.Places.{is_inside}
-use Rattle.cir_meaning.specs.Limits.{is_too_large}
 use Rattle.cir_meaning.specs.Operators.{operator_of}
 use Rattle.cir_meaning.specs.Costs.{Made}
 use Rattle.cir_meaning.specs.RunValues.{Numbers, index_out}
@@ -24,13 +23,13 @@ use Rattle.wit_lower.specs.Homes.{Name, Variable, Signal, Port, Home, Homes, Sco
 use Rattle.wit_lower.specs.Homes.{Named, find, port_of, offset}
 use Rattle.wit_lower.specs.Pieces.{decided}
 use Rattle.wit_lower.specs.Fits.{HasKey, UnlessSkipped, Sides}
-use Rattle.wit_lower.specs.Sources.{Sources, scope_of, cells_read}
-use Rattle.wit_lower.specs.Statements.{known_dims, variable_scope, first_scope, scope_behind}
+use Rattle.wit_lower.specs.Sources.{Source, Sources, scope_of, input_of}
+use Rattle.wit_lower.specs.Statements.{variable_scope, first_scope, scope_behind}
 use Rattle.wit_lower.specs.Steps.{ShapesFit, SourcesFit}
 use Rattle.wit_lower.specs.Tasks.{Task, Gives, Equal, Logs, Executes}
 use Rattle.wit_lower.specs.Values.{shapes_of}
 use Rattle.cir_emit.specs.Lowered.{HasArray, AreLoaded, lowered_ground}
-use Rattle.cir_emit.specs.Reads.{task_reads}
+use Rattle.cir_emit.specs.Reads.{Reading, task_reads}
 use Rattle.cir_emit.specs.Tasks.{step_task}
 
 -- a name of which the step has an array
@@ -40,7 +39,7 @@ IsThere step components (Signal n) =
     (s : Shaped (Option ℕ)) × (step.names.signal n ≡ Some s)
 IsThere step components (Port n j name) =
     (indices : List ℕ) × (is_inside (components n) (map Some indices) ≡ true)
-    × (offset (components n) indices ≡ j)
+    × (length indices ≡ length (components n)) × (offset (components n) indices ≡ j)
     × (s : Shaped (Option ℕ)) × (step.names.part n indices name ≡ Ok s)
 
 -- such a name has a home
@@ -120,7 +119,6 @@ module _ (There : Name → Type 0) (g : Ground) where
   abbrev pub VariableHas : Scope → Declared Meant → Type 0
   VariableHas s v =
       AllByRecursion (HasAll There g s.homes) (list_of v.dimensions)
-      × (is_too_large (known_dims g v) ≡ false)
       × ValueHas (variable_scope g s v).homes v.meant v.value
 
   abbrev pub VariablesHave : Scope → List (Declared Meant) → Type 0
@@ -176,9 +174,17 @@ pub record AreSized (step : Step) (components : ℕ → List ℕ) : Type 0 where
   pub inside : (n : ℕ) (indices name : List ℕ) → step.names.part n indices name ≡ Err index_out
       → is_inside (components n) (map Some indices) ≡ false
 
+abbrev pub IsAmong : Reading → List Reading → Type 0
+IsAmong r [] = ⊥
+IsAmong r (q ∷ reads) = (q ≡ r) ⊎ IsAmong r reads
+
+-- a source of an element that may be read, and no later source of it has another input
+pub record StandsFor (list : List Source) (reads : List Reading) (x : Source) : Type 0 where
+  pub among : IsAmong (record { name = x.name; element = x.element }) reads
+  pub last : input_of x.name list x.element ≡ Some x.input
+
 -- What has a home is an array of the step, and what is named and is there has a home; so have calls
--- their keys. Each element that may be read has its source; cells are read that the step may read,
--- and no others.
+-- their keys. Each element that may be read has its source, and no other element has one.
 pub record AreSourcesOf (keys : List Made) (step : Step) (sources : Sources) : Type 0 where
   pub shapes : ShapesFit (length step.variables) sources.shapes
   pub list : SourcesFit (scope_of sources).homes sources.list
@@ -190,5 +196,6 @@ pub record AreSourcesOf (keys : List Made) (step : Step) (sources : Sources) : T
       (scope_of sources) (step_task step)
   pub loaded : AreLoaded sources
       (task_reads (lowered_ground keys step sources) (scope_of sources).homes (step_task step))
-  pub reads : (c : ℕ) → list_any (λ d. d == c) (cells_read sources.list) ≡ true
-      → list_any (λ d. d == c) step.reads ≡ true
+  pub few : AllByRecursion (StandsFor sources.list
+      (task_reads (lowered_ground keys step sources) (scope_of sources).homes (step_task step)))
+      sources.list

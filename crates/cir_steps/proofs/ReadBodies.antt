@@ -1,7 +1,7 @@
 -- In each body what a step reads is given, or is written by an earlier step.
-use Rattle.std.proofs.Common.{◌≡◌, ℕ, zero, suc, Bool, true, false, cond, List, []}
-use Rattle.std.proofs.Common.{◌∷◌, length, replicate, Option, Some, None, Ok, Err, refl, sym}
-use Rattle.std.proofs.Common.{ap, subst, ◌∙◌, arith, slice_get}
+use Rattle.std.proofs.Common.{◌≡◌, ℕ, zero, suc, Bool, true, false, cond, List, [], ◌∷◌, length}
+use Rattle.std.proofs.Common.{replicate, Option, Some, None, Ok, Err, refl, sym, ap, subst, ◌∙◌}
+use Rattle.std.proofs.Common.{arith, slice_get}
 use Rattle.std.specs.Prelude.{⊤, ◌||◌, nat_lt}
 use Rattle.std.proofs.lemmas.Bool.{ltb-true}
 use Rattle.cir_ast.specs.declared.operators.Direction.{Direction}
@@ -96,7 +96,7 @@ cast_of y = record {
 }
 
 module _ (size : ℕ) (final : Sizes) where
-  begun_holds : (t : Template) (ds : List Datum) (path : List ℕ) (world : World) (start : ℕ)
+  pub begun_holds : (t : Template) (ds : List Datum) (path : List ℕ) (world : World) (start : ℕ)
       → Holds size world.sizes [] (emit_begun t ds path world start)
   begun_holds t ds path world start = record {
     sourced = λ n i c e. cc;
@@ -182,8 +182,8 @@ module _ (p : Program) (resolved : IsResolved p) (places : ArePlacesMeant p) (si
   abbrev AnyCast : (start : ℕ) → World → Signals × World → Cast → Type 0
   AnyCast start world z o = ⊤
 
-  leaves_of : (variables : ℕ) (q : Emitting) → CallBoth q.context.call → CallKeeps q.context.call
-      → q.context.group_size ≡ size
+  pub leaves_of : (variables : ℕ) (q : Emitting) → CallBoth q.context.call
+      → CallKeeps q.context.call → q.context.group_size ≡ size
       → ((make : Maker) → q.context.make ≡ Some make → CastsWell size final make q.cast)
       → Leaves functions variables q Still (Moves size final)
   leaves_of variables q both calls sized well = record {
@@ -215,11 +215,25 @@ module _ (p : Program) (resolved : IsResolved p) (places : ArePlacesMeant p) (si
     condition = λ spot c s. condition_still s q.context calls spot c s (still_itself s);
   }
 
+  -- a body begins with its parameters
+  abbrev pub parameters_scope : Template → Scope
+  parameters_scope t = record {
+    functions = functions;
+    seen = λ n. nat_lt n (length t.parameters);
+    variables = length t.parameters;
+    signals = 0;
+  }
+
+  pub parameters_sound : (t : Template) → IsSound functions (parameters_scope t)
+  parameters_sound t =
+      record { count = refl; below = λ n e. ltb-true n (length t.parameters) e }
+
   -- a body whose components have steps as they should
   module _ (make : Option Maker) (group : Direction → List ℕ → Group) (cast : Caster)
       (fits : FitsAs AnyCast make cast)
       (well : (m : Maker) → make ≡ Some m → CastsWell size final m cast) where
-    template_well : (n : ℕ) (t : Template) → slice_get p.templates n ≡ Some t → (ds : List Datum)
+    -- the state of both is the same in the end
+    pub body_ends : (n : ℕ) (t : Template) → slice_get p.templates n ≡ Some t → (ds : List Datum)
         (path : List ℕ) (world : World) (start : ℕ) (z : Signals × World) (o : Cast)
         → next (exec_all (template_context p size (call_at p size most_open) make group t path
         world) t.body (template_state t ds path world)) (ended_flow (template_context p size
@@ -228,10 +242,14 @@ module _ (p : Program) (resolved : IsResolved p) (places : ArePlacesMeant p) (si
           context = template_context p size (call_at p size most_open) make group t path world;
           cast = cast;
         } t.body (emit_begun t ds path world start)) (emit_ended (template_context p size
-        (call_at p size most_open) make group t path world)) ≡ Ok o → Fits world.sizes
-        → (Fits z.1.sizes × Less world.sizes z.1.sizes)
-        × (Less z.1.sizes final → Covers size world z o)
-    template_well n t there ds path world start z o ex em fit =
+        (call_at p size most_open) make group t path world)) ≡ Ok o
+        → (y : Emitted) × (emit_all record {
+          context = template_context p size (call_at p size most_open) make group t path world;
+          cast = cast;
+        } t.body (emit_begun t ds path world start) ≡ Ok y)
+        × (ended (template_context p size (call_at p size most_open) make group t path world)
+        (known_in y.state) ≡ Ok z) × (cast_of y ≡ o)
+    body_ends n t there ds path world start z o ex em =
         let one : (flow : Flow) × (exec_all k t.body (template_state t ds path world) ≡ Ok flow)
         × (ended_flow k flow ≡ Ok z) =
         next_to (exec_all k t.body (template_state t ds path world)) (ended_flow k) z ex in
@@ -239,27 +257,19 @@ module _ (p : Program) (resolved : IsResolved p) (places : ArePlacesMeant p) (si
         next_to (emit_all q t.body begun) (emit_ended k) o em in
         let three : (u : Signals × World) × (ended k (known_in two.0.state) ≡ Ok u)
         × (cast_so two.0 u ≡ Ok o) =
-        next_to (ended k (known_in two.0.state)) (cast_so two.0) o two.2 in
-        let same : cast_of two.0 ≡ o = same_ok (cast_of two.0) o three.2 in
-        let moves : Gives functions variables q Still quiet (Moves size final) leaves [] begun
-        two.0 =
-        good_is (Gives functions variables q Still quiet (Moves size final) leaves [] begun)
-        (emit_all q t.body begun) two.0 two.1
-        (go_all functions variables q Still quiet (Moves size final) leaves t.body
-        (plain n t there).0 scope sounds
-        (all_get (IsTemplateScoped functions) p.templates n t resolved.templates there)
-        (omega arith)
-        (all_get (λ (t : Template). AllHavePlaces t.body) p.templates n t places there) [] begun
-        clear) in
-        subst (λ c. (Fits z.1.sizes × Less world.sizes z.1.sizes)
-        × (Less z.1.sizes final → Covers size world z c)) same
-        (ended_covers size final k t ds path world start two.0 z moves.0
-        (end_of two.0 one.0 one.2
-        (both_answer (FollowsFlow Any (anything size).keeps (Clear []) begun)
-        (exec_all k t.body (template_state t ds path world)) (emit_all q t.body begun) one.0 two.0
-        (all_follow q (calls_rise p size most_open) Any (anything size).keeps
-        (all_leaves size Any AnyCast (anything size) q refl (calls_rise p size most_open) fits)
-        t.body (plain n t there).0 [] begun clear) one.1 two.1)) fit)
+        next_to (ended k (known_in two.0.state)) (cast_so two.0) o two.2 in (
+          two.0,
+          two.1,
+          end_of two.0 one.0 one.2
+              (both_answer (FollowsFlow Any (anything size).keeps (Clear []) begun)
+              (exec_all k t.body (template_state t ds path world)) (emit_all q t.body begun) one.0
+              two.0
+              (all_follow q (calls_rise p size most_open) Any (anything size).keeps
+              (all_leaves size Any AnyCast (anything size) q refl (calls_rise p size most_open)
+              fits) t.body (plain n t there).0 [] begun
+              (blank_clear (all_declare t.body []) t.signals (plain n t there).1)) one.1 two.1),
+          same_ok (cast_of two.0) o three.2,
+        )
       where
         k : Context
         k = template_context p size (call_at p size most_open) make group t path world
@@ -273,29 +283,6 @@ module _ (p : Program) (resolved : IsResolved p) (places : ArePlacesMeant p) (si
         plain : AreTemplates p
         plain = templates p resolved
 
-        clear : Clear (all_declare t.body []) (known_in begun)
-        clear = blank_clear (all_declare t.body []) t.signals (plain n t there).1
-
-        scope : Scope
-        scope = record {
-          functions = functions;
-          seen = λ n. nat_lt n (length t.parameters);
-          variables = length t.parameters;
-          signals = 0;
-        }
-
-        sounds : IsSound functions scope
-        sounds = record { count = refl; below = λ n e. ltb-true n (length t.parameters) e }
-
-        variables : ℕ
-        variables = (behind_all scope t.body).variables
-
-        quiet : Quiet q Still
-        quiet = quiet_still q keeps
-
-        leaves : Leaves functions variables q Still (Moves size final)
-        leaves = leaves_of variables q twice keeps refl well
-
         cast_so : Emitted → Signals × World → Tried Cast
         cast_so y u = Ok (cast_of y)
 
@@ -304,6 +291,57 @@ module _ (p : Program) (resolved : IsResolved p) (places : ArePlacesMeant p) (si
             → ended k (known_in y.state) ≡ Ok z
         end_of y (Going s) e h = ap (ended k) h.0 ∙ e
         end_of y (Returned d v) e h = absurd h
+
+    template_well : (n : ℕ) (t : Template) → slice_get p.templates n ≡ Some t → (ds : List Datum)
+        (path : List ℕ) (world : World) (start : ℕ) (z : Signals × World) (o : Cast)
+        → next (exec_all (template_context p size (call_at p size most_open) make group t path
+        world) t.body (template_state t ds path world)) (ended_flow (template_context p size
+        (call_at p size most_open) make group t path world)) ≡ Ok z
+        → next (emit_all record {
+          context = template_context p size (call_at p size most_open) make group t path world;
+          cast = cast;
+        } t.body (emit_begun t ds path world start)) (emit_ended (template_context p size
+        (call_at p size most_open) make group t path world)) ≡ Ok o → Fits world.sizes
+        → (Fits z.1.sizes × Less world.sizes z.1.sizes)
+        × (Less z.1.sizes final → Covers size world z o)
+    template_well n t there ds path world start z o ex em fit =
+        let its : (y : Emitted) × (emit_all q t.body begun ≡ Ok y)
+        × (ended k (known_in y.state) ≡ Ok z) × (cast_of y ≡ o) =
+        body_ends n t there ds path world start z o ex em in
+        let moves : Gives functions variables q Still quiet (Moves size final) leaves [] begun
+        its.0 =
+        good_is (Gives functions variables q Still quiet (Moves size final) leaves [] begun)
+        (emit_all q t.body begun) its.0 its.1
+        (go_all functions variables q Still quiet (Moves size final) leaves t.body
+        (plain n t there).0 (parameters_scope t) (parameters_sound t)
+        (all_get (IsTemplateScoped functions) p.templates n t resolved.templates there)
+        (omega arith)
+        (all_get (λ (t : Template). AllHavePlaces t.body) p.templates n t places there) [] begun
+        (blank_clear (all_declare t.body []) t.signals (plain n t there).1)) in
+        subst (λ c. (Fits z.1.sizes × Less world.sizes z.1.sizes)
+        × (Less z.1.sizes final → Covers size world z c)) its.3
+        (ended_covers size final k t ds path world start its.0 z moves.0 its.2 fit)
+      where
+        k : Context
+        k = template_context p size (call_at p size most_open) make group t path world
+
+        q : Emitting
+        q = record { context = k; cast = cast }
+
+        begun : Emission
+        begun = emit_begun t ds path world start
+
+        plain : AreTemplates p
+        plain = templates p resolved
+
+        variables : ℕ
+        variables = (behind_all (parameters_scope t) t.body).variables
+
+        quiet : Quiet q Still
+        quiet = quiet_still q keeps
+
+        leaves : Leaves functions variables q Still (Moves size final)
+        leaves = leaves_of variables q twice keeps refl well
 
     pub body_well : CastsWell size final
         (exec_template p size (call_at p size most_open) make group)

@@ -283,6 +283,16 @@ written_there [] i b less h = absurd (omega arith)
 written_there (x ∷ bs) zero b less h = ap (λ y. Some y) h
 written_there (x ∷ bs) (suc i) b less h = written_there bs i b (omega arith) h
 
+-- the tables have the cells of own signals and of signals of components
+pub record IsTabled (x : Emission) : Type 0 where
+  pub own : (n : ℕ) (e : SignalEntry) (i c : ℕ) → entry_at (known_in x).frame.signals n ≡ Some e
+      → i < length e.written → x.cells.own n i ≡ Some c
+      → table_wire (tables_in x) (e.first + i) ≡ Some c
+  pub port : (j : ℕ) (p : Part) (r : RunPart) (n : ℕ) (e : SignalEntry) (i c : ℕ)
+      → slice_get (known_in x).frame.parts j ≡ Some p → slice_get x.cells.parts j ≡ Some r
+      → entry_at p.signals n ≡ Some e → i < length e.written → r.ports n i ≡ Some c
+      → table_wire (tables_in x) (e.first + i) ≡ Some c
+
 module _ (size : ℕ) (first : Sizes) (done : List ℕ) (x : Emission)
     (holds : Holds size first done x) (room : Roomy size (known_in x).world.sizes) where
   abbrev pub GivenIn : ℕ → Type 0
@@ -301,6 +311,34 @@ module _ (size : ℕ) (first : Sizes) (done : List ℕ) (x : Emission)
       let one : under size (known_in x).world.sizes m ≤ 1 =
       under_one size (known_in x).world.sizes m room in
       omega arith
+
+  port_tabled : (j : ℕ) (p : Part) (r : RunPart) (n : ℕ) (e : SignalEntry) (i c : ℕ)
+      → slice_get (known_in x).frame.parts j ≡ Some p → slice_get x.cells.parts j ≡ Some r
+      → entry_at p.signals n ≡ Some e → i < length e.written → r.ports n i ≡ Some c
+      → table_wire (tables_in x) (e.first + i) ≡ Some c
+  port_tabled j p r n e i c at_j run there inside is =
+      let most : cover_entries (e.first + i) (known_in x).frame.signals
+      + cover_tables (e.first + i) (port_tables (known_in x).frame.parts x.cells.parts) ≤ 1 =
+      few (e.first + i) in
+      let found : (1 ≤ cover_tables (e.first + i)
+      (port_tables (known_in x).frame.parts x.cells.parts))
+      × (table_wire (port_tables (known_in x).frame.parts x.cells.parts) (e.first + i) ≡ Some c) =
+      port_wire (known_in x).frame.parts x.cells.parts j p r n i c e at_j run there inside is
+      (omega arith) in
+      let some : 1 ≤ cover_tables (e.first + i)
+      (port_tables (known_in x).frame.parts x.cells.parts) = found.0 in
+      ap (λ o. or_else o (table_wire (port_tables (known_in x).frame.parts x.cells.parts)
+      (e.first + i)))
+      (wire_none (e.first + i) 0 (known_in x).frame.signals x.cells.own (omega arith)) ∙ found.1
+
+  pub are_tabled : IsTabled x
+  are_tabled = record {
+    own = λ n e i c there inside is.
+        own_wire (known_in x).frame.signals x.cells.own
+        (port_tables (known_in x).frame.parts x.cells.parts) n i c e there inside is
+        (few (e.first + i));
+    port = port_tabled;
+  }
 
   pub own_ready : (n : ℕ) (e : SignalEntry) → entry_at (known_in x).frame.signals n ≡ Some e
       → (i : ℕ) → i < elements e.dims → is_written e i ≡ true → Ready (e.first + i)

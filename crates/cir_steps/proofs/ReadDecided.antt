@@ -1,35 +1,31 @@
 -- What a condition that isn't known left is a step that reads what is there already.
-use Rattle.std.proofs.Common.{◌≡◌, ℕ, Bool, true, false, cond, List, [], ◌∷◌, ◌++◌}
-use Rattle.std.proofs.Common.{Option, Some, None, Ok, refl, sym, ap, slice_get}
+use Rattle.std.proofs.Common.{◌≡◌, ℕ, Bool, true, false, cond, List, [], ◌∷◌, ◌++◌, Option, None}
+use Rattle.std.proofs.Common.{Ok, refl, sym, ap, slice_get}
 use Rattle.std.specs.Prelude.{not, filter, unwrap_or}
 use Rattle.std.specs.List.{AllByRecursion}
 use Rattle.cir_ast.specs.declared.program.Spot.{Spot}
 use Rattle.cir_ast.specs.declared.program.Meant.{Meant}
 use Rattle.cir_ast.specs.Tree.{Expr, Statement}
 use Rattle.cir_meaning.specs.Scoped.{Scope, IsScoped}
-use Rattle.cir_meaning.specs.Tried.{Where, next}
+use Rattle.cir_meaning.specs.Tried.{Where}
 use Rattle.cir_meaning.specs.Places.{elements, numbers_from}
 use Rattle.cir_meaning.specs.Arrays.{Datum, is_known, item_at, single}
 use Rattle.cir_meaning.specs.Values.{Known}
-use Rattle.cir_meaning.specs.Frame.{World, State, Context, at, settle, uncounted, variable_at}
-use Rattle.cir_meaning.specs.Frame.{Sizes}
+use Rattle.cir_meaning.specs.Frame.{World, State, at, uncounted, variable_at, Sizes}
 use Rattle.cir_meaning.specs.Unknown.{Fault, outer_assigned}
 use Rattle.cir_meaning.specs.Scan.{scan, undecided, forget}
 use Rattle.cir_meaning.specs.Texts.{Wanted, wanted_in}
 use Rattle.cir_meaning.specs.Costs.{Cell as Read, Element, cost_of, unknown_at}
-use Rattle.cir_meaning.specs.Steps.{stepped, undecided_cost, undecided_cells, start_reads, is_outer}
-use Rattle.cir_meaning.proofs.UndecidedReal.{Scanned}
+use Rattle.cir_meaning.specs.Steps.{undecided_cost, start_reads, is_outer}
+use Rattle.cir_meaning.proofs.UndecidedReal.{Scanned, scanned}
 use Rattle.cir_meaning.proofs.Good.{good_ok, good_as, good_is}
 use Rattle.cir_meaning.proofs.Rows.{all_append, all_map, all_joined}
-use Rattle.cir_meaning.proofs.Likes.{CallKeeps, Like, like_itself}
+use Rattle.cir_meaning.proofs.Likes.{CallKeeps}
 use Rattle.cir_meaning.proofs.KnownCalls.{CallBoth}
 use Rattle.cir_meaning.proofs.Fading.{Rest, rest_like, scan_rest}
-use Rattle.cir_meaning.proofs.VariableRuns.{IsAdded, stepped_adds}
-use Rattle.cir_meaning.proofs.StepRuns.{settle_like, added_like}
 use Rattle.cir_meaning.proofs.ScanStarts.{rest_between}
 use Rattle.cir_meaning.proofs.UndecidedRuns.{forget_rest}
 use Rattle.cir_meaning.proofs.ScopeLaws.{IsSound}
-use Rattle.cir_meaning.proofs.ScanPoints.{next_to}
 use Rattle.cir_meaning.proofs.NumberPlaces.{Roomy}
 use Rattle.cir_steps.specs.Emission.{Emission, known_in}
 use Rattle.cir_steps.specs.Making.{Emitting, wanted_of, count_of, with_variables, make_decision}
@@ -42,33 +38,6 @@ use Rattle.cir_steps.proofs.ReadCells.{In, in_left, in_right, Ready}
 use Rattle.cir_steps.proofs.ReadSources.{in_from, variables_put}
 use Rattle.cir_steps.proofs.ReadScans.{statement_told}
 use Rattle.cir_steps.proofs.ReadLeaves.{Moves, Reads, one_moves, value_told, stays_clear, Good}
-
--- the state behind the scan, from which the next one differs in counts alone
-pub scanned : (k : Context) (spot : Spot) (fault : Option Fault) (a : Statement Spot Meant)
-    (f s : State) → undecided k spot fault a f ≡ Ok s → Scanned k (at k spot) a f s
-scanned k spot (Some x) a f s e = cc
-scanned k spot None a f s e =
-    let one : (s1 : State) × (scan k (at k spot) a (forget (outer_assigned a) f) ≡ Ok s1)
-    × (next (stepped k (at k spot) (undecided_cost k (at k spot) a f s1) (undecided_cells a f) s1)
-    (settle (at k spot)) ≡ Ok s) =
-    next_to (scan k (at k spot) a (forget (outer_assigned a) f)) (λ s1.
-    next (stepped k (at k spot) (undecided_cost k (at k spot) a f s1) (undecided_cells a f) s1)
-    (settle (at k spot))) s e in
-    let two : (s2 : State)
-    × (stepped k (at k spot) (undecided_cost k (at k spot) a f one.0) (undecided_cells a f) one.0
-    ≡ Ok s2) × (settle (at k spot) s2 ≡ Ok s) =
-    next_to (stepped k (at k spot) (undecided_cost k (at k spot) a f one.0) (undecided_cells a f)
-    one.0) (settle (at k spot)) s one.2 in record {
-      after = one.0;
-      scans = one.1;
-      like = good_is (λ t. Like one.0 t) (settle (at k spot) two.0) s two.2
-          (settle_like one.0 (at k spot) two.0
-          (added_like one.0 one.0 two.0 (like_itself one.0)
-          (good_is (IsAdded one.0) (stepped k (at k spot)
-          (undecided_cost k (at k spot) a f one.0) (undecided_cells a f) one.0) two.0 two.1
-          (stepped_adds k (at k spot) (undecided_cost k (at k spot) a f one.0)
-          (undecided_cells a f) one.0))));
-    }
 
 filtered : {A : Type 0} (P : A → Type 0) (test : A → Bool) (xs : List A) → AllByRecursion P xs
     → AllByRecursion P (filter test xs)

@@ -163,11 +163,30 @@ module _ (p : Program) (resolved : IsResolved p) (places : ArePlacesMeant p) whe
       same_ok (z.0, t.world) (signals, world) e in
       (ap (λ v. v.0) both, sym same ∙ ap (λ v. v.1.sizes) both)
 
-  main_covers : (m : Main) (t : Meant) (signals : Signals) (world : World) (o : Cast)
-      → exec_main p group_size m t ≡ Ok (signals, world) → emit_main p group_size m t ≡ Ok o
-      → Bounded world.sizes → Roomy group_size world.sizes
-      → Behind (Given signals o.own) [] o.steps
-  main_covers m (meant.Template t) signals world o ex em few room =
+  abbrev main_place : Main → Where
+  main_place m = at (main_context p group_size m) m.spot
+
+  -- main as it is executed, and as its steps are made
+  pub record MainBody (m : Main) (t : ℕ) (signals : Signals) (world : World) (o : Cast)
+      : Type 0 where
+    pub begun : List Datum × State
+    pub args : arguments_in (main_context p group_size m) (main_place m) m.arguments main_state
+        ≡ Ok begun
+    pub end : Signals × World
+    pub executes : exec_template p group_size (call_at p group_size most_open)
+        (make_at p group_size 255) (main_group m.public_names) (main_place m) t begun.0
+        (codes "main") begun.1.world ≡ Ok end
+    pub emits : emit_body p group_size (call_at p group_size most_open) (make_at p group_size 255)
+        (main_group m.public_names) (cast_at p group_size 255) (main_place m) t begun.0
+        (codes "main") begun.1.world 1 ≡ Ok o
+    pub fits : Fits begun.1.world.sizes
+    pub same : end.0 ≡ signals
+    pub less : Less end.1.sizes world.sizes
+
+  pub main_body : (m : Main) (t : ℕ) (signals : Signals) (world : World) (o : Cast)
+      → exec_main p group_size m (meant.Template t) ≡ Ok (signals, world)
+      → emit_main p group_size m (meant.Template t) ≡ Ok o → MainBody m t signals world o
+  main_body m t signals world o ex em =
       let one : (x : List Datum × State)
       × (arguments_in (main_context p group_size m) place m.arguments main_state ≡ Ok x)
       × (executed x ≡ Ok (signals, world)) =
@@ -203,21 +222,19 @@ module _ (p : Program) (resolved : IsResolved p) (places : ArePlacesMeant p) whe
       (good_is (λ (x : List Datum × State). Like main_state x.1)
       (arguments_in (main_context p group_size m) place m.arguments main_state) one.0 one.1
       (arguments_like (main_context p group_size m) (calls_keep p group_size most_open) main_state
-      place m.arguments main_state (like_itself main_state))).4 in
-      subst (λ xs. Behind (Given xs o.own) [] o.steps)
-      result.0
-      ((body_well p resolved places group_size world.sizes few room (make_at p group_size 255)
-      (main_group m.public_names) (cast_at p group_size 255)
-      (casts_fit group_size (λ x y. ⊤) (λ start world z o. ⊤) (anything group_size) p
-      (templates p resolved) 255)
-      (casts_well p resolved places group_size world.sizes few room 255) place t one.0.0
-      (codes "main") one.0.1.world 1 three.0 o three.1
-      (subst (λ (x : List Datum × State). emitted x ≡ Ok o) same two.2)
-      (subst Fits (sym begun) none)).1
-      (subst (λ z. Less z world.sizes) (sym result.1) (less_itself world.sizes))).body
+      place m.arguments main_state (like_itself main_state))).4 in record {
+        begun = one.0;
+        args = one.1;
+        end = three.0;
+        executes = three.1;
+        emits = subst (λ (x : List Datum × State). emitted x ≡ Ok o) same two.2;
+        fits = subst Fits (sym begun) none;
+        same = result.0;
+        less = subst (λ z. Less z world.sizes) (sym result.1) (less_itself world.sizes);
+      }
     where
       place : Where
-      place = at (main_context p group_size m) m.spot
+      place = main_place m
 
       last : Signals × World → State → Tried (Signals × World)
       last z s1 = Ok (z.0, s1.world)
@@ -242,23 +259,36 @@ module _ (p : Program) (resolved : IsResolved p) (places : ArePlacesMeant p) whe
       none PublicInputs = omega arith
       none PrivateInputs = omega arith
       none Others = omega arith
+
+  main_covers : (m : Main) (t : Meant) (signals : Signals) (world : World) (o : Cast)
+      → exec_main p group_size m t ≡ Ok (signals, world) → emit_main p group_size m t ≡ Ok o
+      → Bounded world.sizes → Roomy group_size world.sizes
+      → Behind (Given signals o.own) [] o.steps
+  main_covers m (meant.Template t) signals world o ex em few room =
+      let its : MainBody m t signals world o = main_body m t signals world o ex em in
+      subst (λ xs. Behind (Given xs o.own) [] o.steps) its.same
+      ((body_well p resolved places group_size world.sizes few room (make_at p group_size 255)
+      (main_group m.public_names) (cast_at p group_size 255)
+      (casts_fit group_size (λ x y. ⊤) (λ start world z o. ⊤) (anything group_size) p
+      (templates p resolved) 255)
+      (casts_well p resolved places group_size world.sizes few room 255) (main_place m) t
+      its.begun.0 (codes "main") its.begun.1.world 1 its.end o its.executes its.emits its.fits).1
+      its.less).body
   main_covers m meant.Other signals world o ex em few room = cc
   main_covers m (meant.Variable n) signals world o ex em few room = cc
   main_covers m (meant.Signal direction n) signals world o ex em few room = cc
   main_covers m (meant.Component n) signals world o ex em few room = cc
   main_covers m (meant.Function n) signals world o ex em few room = cc
 
-  main_behind : (m : Main) (signals : Signals) (world : World) (o : Cast)
+  -- no group has more signals than numbers
+  pub main_few : (m : Main) (signals : Signals) (world : World)
       → exec_main p group_size m m.meant ≡ Ok (signals, world)
-      → emit_main p group_size m m.meant ≡ Ok o
-      → AreBehind (start_cells m o.own signals) o.steps
+      → Bounded world.sizes × Roomy group_size world.sizes
   unfolding group_size
-  main_behind m signals world o ex em =
-      as_behind (start_cells m o.own signals) o.steps
-      (behind_weaker (Given signals o.own) (λ c. ⊥) [] (start_cells m o.own signals) o.steps given
-      (main_covers m m.meant signals world o ex em
-      (λ g. let all : size_in g world.sizes ≤ 1048575 = few g in omega arith)
-      (λ g. let all : size_in g world.sizes ≤ 1048575 = few g in omega arith)))
+  main_few m signals world ex = (
+    (λ g. let all : size_in g world.sizes ≤ 1048575 = few g in omega arith),
+    (λ g. let all : size_in g world.sizes ≤ 1048575 = few g in omega arith),
+  )
     where
       few : (g : Group) → size_in g world.sizes ≤ 1048575
       few g =
@@ -266,6 +296,17 @@ module _ (p : Program) (resolved : IsResolved p) (places : ArePlacesMeant p) whe
           (all_declared p group_size m m.meant signals world resolved.functions ex)
           (all_few p group_size m m.meant signals world ex) g
 
+  main_behind : (m : Main) (signals : Signals) (world : World) (o : Cast)
+      → exec_main p group_size m m.meant ≡ Ok (signals, world)
+      → emit_main p group_size m m.meant ≡ Ok o
+      → AreBehind (start_cells m o.own signals) o.steps
+  main_behind m signals world o ex em =
+      let few : Bounded world.sizes × Roomy group_size world.sizes =
+      main_few m signals world ex in
+      as_behind (start_cells m o.own signals) o.steps
+      (behind_weaker (Given signals o.own) (λ c. ⊥) [] (start_cells m o.own signals) o.steps given
+      (main_covers m m.meant signals world o ex em few.0 few.1))
+    where
       given : (c : ℕ) → Given signals o.own c ⊎ In c []
           → ⊥ ⊎ In c (start_cells m o.own signals)
       given c (inl g) = inr (starts_there m o.own signals c g)

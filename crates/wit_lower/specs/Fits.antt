@@ -1,7 +1,7 @@
 -- What has to fit in a statement so that it has code: names have homes, shapes fit, and calls have
 -- their keys.
-use Rattle.std.specs.Prelude.{◌≡◌, ℕ, zero, suc, ◌+◌, ◌≤◌, false, List, [], ◌∷◌, ◌++◌, length, drop}
-use Rattle.std.specs.Prelude.{◌<◌, All, Option, Some, None, slice_get}
+use Rattle.std.specs.Prelude.{◌≡◌, ℕ, zero, suc, ◌+◌, ◌≤◌, true, false, List, [], ◌∷◌, ◌++◌}
+use Rattle.std.specs.Prelude.{◌<◌, All, Option, Some, None, slice_get, length, drop, map}
 use Rattle.gold_field.specs.declared.gold.TheConstants.{P}
 use Rattle.cir_ast.specs.declared.program.Spot.{Spot}
 use Rattle.cir_ast.specs.declared.program.Meant.{Meant}
@@ -11,7 +11,7 @@ use Rattle.cir_ast.specs.Tree.{Binary, Choice, Exprs, none, more, Accessors, don
 use Rattle.cir_ast.specs.Tree.{Variable as Declared, Assign, Set, First, FirstVars, FirstAssign}
 use Rattle.cir_ast.specs.Tree.{Simple, Vars, Assigned, Statement, Block, If, IfElse, While, For}
 use Rattle.cir_ast.specs.Tree.{Return, Assert, Log, Ended, Statements, empty, then_more}
-use Rattle.cir_meaning.specs.Places.{elements}
+use Rattle.cir_meaning.specs.Places.{all_known, elements, is_inside}
 use Rattle.cir_meaning.specs.Limits.{is_too_large}
 use Rattle.cir_meaning.specs.RunValues.{Numbers}
 use Rattle.cir_meaning.specs.Costs.{Made}
@@ -62,9 +62,13 @@ EndFits homes (Named m) count = HasHome (home_of homes (Named m)) count
 EndFits homes (Found home) count = HasHome home count
 EndFits homes Lost count = Unit {0}
 
-abbrev pub IsComponent : Front → Type 0
-IsComponent (Named (meant.Component n)) = Unit {0}
-IsComponent _ = ⊥
+-- a component; known indices that stand inside its dimensions are one for each
+abbrev pub IsElement : Ground → Front → (indices : List (Option ℕ)) → Type 0
+IsElement g (Named (meant.Component n)) indices =
+    (known : List ℕ) → all_known indices ≡ Some known
+    → is_inside (g.components n) (map Some known) ≡ true
+    → length known ≡ length (g.components n)
+IsElement g _ indices = ⊥
 
 -- the elements of an array literal have one shape
 abbrev pub HaveShape : Ground → Homes → (dims : List ℕ) → Exprs Meant → Type 0
@@ -114,7 +118,7 @@ abbrev mutual
       Fits g homes e × (shape_of g homes e ≡ []) ×
       PlaceFits g homes front (indices ++ g.known e ∷ []) rest
   PlaceFits g homes front indices (member name rest) =
-      IsComponent front × PlaceFits g homes (port_of g homes front indices name) [] rest
+      IsElement g front indices × PlaceFits g homes (port_of g homes front indices name) [] rest
 
 -- statements; `free` are the variables that may be assigned, and `Ends` says whether `return`
 -- stands
