@@ -1,8 +1,7 @@
+pub mod Agreed
 pub mod Chained
 pub mod Ended
-pub mod Finding
-pub mod Left
-pub mod Places
+pub mod Numbered
 pub mod ReadParts
 pub mod Rows
 pub mod Trees

@@ -1,6 +1,3 @@
-pub mod Behind
+pub mod Asked
 pub mod Emitted
 pub mod Grounds
-pub mod Loads
-pub mod Shown
-pub mod Told

@@ -2,19 +2,18 @@
 ghost use Rattle.std.specs.Prelude.{◌≡◌, ◌++◌, OnOk};
 ghost use Rattle.cir_ast.specs.Tree.{bare_exprs};
 ghost use Rattle.wit_lower.specs.Values as V;
-ghost use Rattle.wit_emit.specs.Shown.{homes_of};
+ghost use Rattle.wit_sourced.specs.Shown.{homes_of};
 ghost use Rattle.wit_emit.specs.Grounds.{ground_of};
 
 use crate::ground::Ground;
-use crate::homes::Scope;
 use crate::keys::place_of;
-use crate::pieces::narrow;
 use crate::shapes::shapes_of;
 use cir_ast::program::{Expr, Meant};
 use cir_rules::Made;
 use items::Items;
 use std::alloc::AllocError;
 use wit_code::Op;
+use wit_sourced::{Scope, narrow};
 
 /// The call behind its arguments.
 pub fn emit_call(

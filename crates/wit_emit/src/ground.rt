@@ -4,17 +4,18 @@ ghost use Rattle.std.specs.Option.{option_copied};
 ghost use Rattle.cir_ast.specs.Tree.{bare};
 ghost use Rattle.cir_meaning.specs.Texts.{literal_number};
 ghost use Rattle.wit_lower.specs.Homes as L;
-ghost use Rattle.wit_emit.specs.Shown.{home_of, homes_of};
-ghost use Rattle.wit_emit.specs.Grounds.{called_of, front_of, ground_of};
+ghost use Rattle.wit_sourced.specs.Shown.{home_of, homes_of};
+ghost use Rattle.wit_emit.specs.Grounds.{front_of, ground_of};
+ghost use Rattle.wit_sourced.specs.Loaded.{called_of};
 
-use crate::elements::{is_inside, offset};
-use crate::homes::{Home, Scope, Sought};
 use cir_arrays::all_known;
 use cir_ast::program::{Expr, Meant};
-use cir_rules::Made;
+use cir_rules::CallTable;
 use gold_field::Gold;
-use items::Items;
 use std::alloc::{AllocError, Global};
+use wit_sourced::{
+    Called, ComponentShape, Home, Loaded, Scope, Sought, is_inside, number_of, offset,
+};
 
 /// A number as it is written.
 fn literal_number(e: &Expr) -> Option<u64>
@@ -27,33 +28,21 @@ fn literal_number(e: &Expr) -> Option<u64>
     }
 }
 
-/// The dimensions of an array of components.
-#[derive(Drop)]
-pub struct ComponentShape {
-    pub component: u32,
-    pub dims: Items<u64>,
-}
-
 /// How numbers of dimensions and of indices of components are known, and values of calls.
 #[derive(Clone, Copy)]
-pub enum Knowing {
+pub enum Knowing<'a> {
     /// As they are written; each call is made.
     Written,
-}
-
-/// The value of a call that isn't made.
-#[derive(Drop)]
-pub struct Called {
-    pub dims: Items<u64>,
-    pub items: Items<u64>,
+    /// As a step loads them.
+    Loaded(&'a Loaded<'a>),
 }
 
 #[derive(Drop)]
 pub struct Ground<'a> {
     pub alloc: Global,
     /// The procedures, by their function and the shapes of its arguments.
-    pub keys: &'a [Made],
-    pub knowing: Knowing,
+    pub keys: &'a CallTable,
+    pub knowing: Knowing<'a>,
     pub components: &'a [ComponentShape],
 }
 
@@ -68,21 +57,23 @@ pub enum Front<'a> {
 
 impl Ground<'_> {
     /// The number that an expression has whatever is read.
-    pub fn known(&self, e: &Expr) -> Option<u64>
-        ensures { result ≡ (ground_of self.now).known (bare e.now) }
+    pub fn known(&self, e: &Expr) -> Result<Option<u64>, AllocError>
+        ensures { IfOk result (λ n. n ≡ (ground_of self.now).known (bare e.now)) }
     {
         match self.knowing {
-            Knowing::Written => literal_number(e),
+            Knowing::Written => Ok(literal_number(e)),
+            Knowing::Loaded(loaded) => Ok(number_of(loaded.known(self.alloc, e)?)),
         }
     }
 
     /// The value that a call has already.
-    pub fn called(&self, _call: &Expr) -> Option<&Called>
+    pub fn called(&self, call: &Expr) -> Option<&Called>
         ensures { option_map called_of (option_copied result)
-            ≡ (ground_of self.now).called (bare _call.now) }
+            ≡ (ground_of self.now).called (bare call.now) }
     {
         match self.knowing {
             Knowing::Written => None,
+            Knowing::Loaded(loaded) => loaded.called(call),
         }
     }
 
@@ -133,15 +124,15 @@ impl Ground<'_> {
     }
 }
 
-impl Scope {
+impl<'s> Front<'s> {
     /// The home of a place without its indices.
-    pub fn home_of<'s>(&'s self, front: Front<'s>) -> Option<&'s Home>
+    pub fn home(self, scope: &'s Scope) -> Option<&'s Home>
         ensures { option_map home_of (option_copied result)
-            ≡ L.home_of (homes_of self.now.homes.items) (front_of front.entry) }
+            ≡ L.home_of (homes_of scope.now.homes.items) (front_of self.entry) }
     {
-        match front {
-            Front::Named(Meant::Variable(n)) => self.find(Sought::Variable(n)),
-            Front::Named(Meant::Signal(_, n)) => self.find(Sought::Signal(n)),
+        match self {
+            Front::Named(Meant::Variable(n)) => scope.find(Sought::Variable(n)),
+            Front::Named(Meant::Signal(_, n)) => scope.find(Sought::Signal(n)),
             Front::Named(_) | Front::Lost => None,
             Front::Found(home) => home,
         }

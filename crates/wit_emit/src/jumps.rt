@@ -2,10 +2,10 @@
 ghost use Rattle.std.specs.Prelude.{◌≡◌, ◌+◌, ◌<◌, [], ◌∷◌, ◌++◌, length, slice_set, IfOk, OnOk};
 ghost use Rattle.wit_code.specs.declared.code.Op.TheVariants as op;
 
-use crate::pieces::narrow;
 use items::Items;
 use std::alloc::AllocError;
 use wit_code::Op;
+use wit_sourced::narrow;
 
 /// The place so far behind another one, as a jump names it.
 pub fn narrow_place(place: usize, count: u64) -> Result<u32, AllocError>

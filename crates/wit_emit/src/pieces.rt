@@ -1,5 +1,5 @@
 //! Pieces of code.
-ghost use Rattle.std.specs.Prelude.{◌≡◌, ◌+◌, ◌%◌, ◌==◌, ◌++◌, [], ◌∷◌, if◌then◌else◌, IfOk, OnOk};
+ghost use Rattle.std.specs.Prelude.{◌≡◌, ◌+◌, ◌%◌, ◌==◌, ◌++◌, [], ◌∷◌, if◌then◌else◌, OnOk};
 ghost use Rattle.gold_field.specs.declared.gold.TheConstants.{P};
 ghost use Rattle.cir_meaning.specs.Places.{elements};
 ghost use Rattle.wit_lower.specs.Pieces as L;
@@ -10,26 +10,7 @@ use gold_field::{Gold, Op1, Op2};
 use items::Items;
 use std::alloc::AllocError;
 use wit_code::Op;
-
-/// A number that has to fit in an instruction; there is no memory for more slots than that.
-pub fn narrow(n: u64) -> Result<u32, AllocError>
-    ensures { IfOk result (λ s. s ≡ n) }
-{
-    match u32::try_from(n) {
-        Ok(s) => Ok(s),
-        Err(_) => Err(AllocError),
-    }
-}
-
-/// The slot behind so many others.
-pub fn behind(slot: u32, count: u64) -> Result<u32, AllocError>
-    ensures { IfOk result (λ s. s ≡ slot + count) }
-{
-    match u64::from(slot).checked_add(count) {
-        Some(n) => narrow(n),
-        None => Err(AllocError),
-    }
-}
+use wit_sourced::{behind, narrow};
 
 /// 1 in the place of every number but 0.
 pub fn truth(code: &mut Items<Op>, s: u32) -> Result<(), AllocError>

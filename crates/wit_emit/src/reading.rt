@@ -2,14 +2,14 @@
 ghost use Rattle.std.specs.Prelude.{◌≡◌, ◌++◌, drop, option_map, OnOk};
 ghost use Rattle.std.specs.Option.{option_copied};
 ghost use Rattle.wit_lower.specs.Pieces as L;
-ghost use Rattle.wit_emit.specs.Shown.{home_of};
+ghost use Rattle.wit_sourced.specs.Shown.{home_of};
 
-use crate::homes::Home;
 use crate::pieces::{loads, moves, offset, stores};
 use cir_arrays::made_elements;
 use items::Items;
 use std::alloc::AllocError;
 use wit_code::Op;
+use wit_sourced::Home;
 
 /// The dimensions behind so many indices.
 pub fn left(dims: &[u64], count: usize) -> &[u64]

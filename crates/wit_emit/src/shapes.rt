@@ -4,15 +4,16 @@ ghost use Rattle.std.specs.Option.{option_copied};
 ghost use Rattle.cir_ast.specs.Tree.{Array, bare, bare_exprs, as_accessors};
 ghost use Rattle.wit_lower.specs.Homes as L;
 ghost use Rattle.wit_lower.specs.Values as V;
-ghost use Rattle.wit_emit.specs.Shown.{home_of, homes_of};
-ghost use Rattle.wit_emit.specs.Grounds.{called_of, ground_of};
+ghost use Rattle.wit_sourced.specs.Shown.{home_of, homes_of};
+ghost use Rattle.wit_emit.specs.Grounds.{ground_of};
+ghost use Rattle.wit_sourced.specs.Loaded.{called_of};
 
-use crate::ground::{Called, Front, Ground};
-use crate::homes::{Home, Scope};
+use crate::ground::{Front, Ground};
 use crate::reading::left;
 use cir_arrays::made_elements;
 use cir_ast::program::{Accessor, Expr, Meant};
 use std::alloc::{AllocError, Global};
+use wit_sourced::{Called, Home, Scope};
 
 /// The dimensions of an expression; a call that is made gives a number.
 #[cycle(shaping)]
@@ -87,14 +88,17 @@ fn place_shape(
     let mut indices = Vec::new(ground.alloc);
     for accessor in accessors {
         match accessor {
-            Accessor::Index(e) => indices.push(ground.known(e))?,
+            Accessor::Index(e) => {
+                let index = ground.known(e)?;
+                indices.push(index)?;
+            }
             Accessor::Member(name) => {
                 front = ground.port_of(scope, front, indices.as_slice(), name.as_slice())?;
                 indices = Vec::new(ground.alloc);
             }
         }
     }
-    part_shape(ground.alloc, scope.home_of(front), indices.len())
+    part_shape(ground.alloc, front.home(scope), indices.len())
 }
 
 fn part_shape(alloc: Global, home: Option<&Home>, count: usize) -> Result<Vec<u64>, AllocError>

@@ -4,35 +4,24 @@ ghost use Rattle.cir_ast.specs.Tree.{bare, bare_exprs, as_accessors};
 ghost use Rattle.wit_lower.specs.Homes as L;
 ghost use Rattle.wit_lower.specs.Pieces as P;
 ghost use Rattle.wit_lower.specs.Values as V;
-ghost use Rattle.cir_meaning.specs.Operators.{unary_of};
 ghost use Rattle.cir_evaluate.specs.Parts.{operator_by};
 ghost use Rattle.wit_emit.specs.Emitted as E;
-ghost use Rattle.wit_emit.specs.Shown.{homes_of};
+ghost use Rattle.wit_sourced.specs.Shown.{homes_of};
 ghost use Rattle.wit_emit.specs.Grounds.{ground_of};
 
 use crate::calls::emit_call;
 use crate::ground::{Front, Ground};
-use crate::homes::Scope;
 use crate::jumps::{begin_jump, begin_other, end_jump, end_jump_zero};
-use crate::pieces::{behind, bounds, constants, truth};
+use crate::pieces::{bounds, constants, truth};
 use crate::reading::read;
 use crate::shapes::size_of;
-use cir_ast::program::{Accessor, Expr, Meant, Unary};
+use cir_ast::program::{Accessor, Expr, Meant};
 use cir_evaluate::{Operator, operator_of};
-use gold_field::{Gold, Op1};
+use gold_field::Gold;
 use items::Items;
 use std::alloc::AllocError;
 use wit_code::Op;
-
-fn op_of(op: Unary) -> Op1
-    ensures { result ≡ unary_of op }
-{
-    match op {
-        Unary::Negate => Op1::Neg,
-        Unary::Not => Op1::Not,
-        Unary::Complement => Op1::Compl,
-    }
-}
+use wit_sourced::{Scope, behind, op_of};
 
 /// What a known left operand decides.
 fn decided(op: Operator, left: Option<u64>) -> Option<Gold>
@@ -89,20 +78,14 @@ pub fn emit(
         Expr::Binary(op, a, b) => {
             emit(ground, scope, code, top, a)?;
             let op = operator_of(*op);
-            emit_right(
-                ground,
-                scope,
-                code,
-                top,
-                decided(op, ground.known(a)),
-                op,
-                b,
-            )?;
+            let left = ground.known(a)?;
+            emit_right(ground, scope, code, top, decided(op, left), op, b)?;
             Ok(())
         }
         Expr::Choice(c, a, b) => {
             emit(ground, scope, code, top, c)?;
-            match ground.known(c) {
+            let condition = ground.known(c)?;
+            match condition {
                 Some(0) => emit(ground, scope, code, top, b),
                 Some(_) => emit(ground, scope, code, top, a),
                 None => {
@@ -210,10 +193,12 @@ pub fn emit_place(
     let mut front = Front::Named(meant);
     let mut indices = Vec::new(ground.alloc);
     for accessor in accessors {
+        let next = behind(top, indices.len() as u64)?;
         match accessor {
             Accessor::Index(e) => {
-                emit(ground, scope, code, behind(top, indices.len() as u64)?, e)?;
-                indices.push(ground.known(e))?;
+                emit(ground, scope, code, next, e)?;
+                let index = ground.known(e)?;
+                indices.push(index)?;
             }
             Accessor::Member(name) => {
                 bounds(code, top, ground.component_dims(front), indices.len())?;
@@ -222,6 +207,6 @@ pub fn emit_place(
             }
         }
     }
-    read(code, scope.home_of(front), top, indices.len())?;
+    read(code, front.home(scope), top, indices.len())?;
     Ok(())
 }

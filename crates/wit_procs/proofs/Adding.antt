@@ -1,6 +1,6 @@
 -- Procedures that are added one by one.
 use Rattle.std.proofs.Common.{◌≡◌, ◌∙◌, ℕ, zero, suc, ◌+◌, ◌<◌, ◌≤◌, List, [], ◌∷◌, ◌++◌, length}
-use Rattle.std.proofs.Common.{Some, refl, ap, sym, subst, arith, inl, inr, length-append}
+use Rattle.std.proofs.Common.{Some, get_or, refl, ap, sym, subst, arith, inl, inr, length-append}
 use Rattle.std.specs.Prelude.{slice_get}
 use Rattle.std.proofs.lemmas.Bool.{cases_lt}
 use Rattle.std.proofs.lemmas.Option.{slice_get_within}
@@ -24,6 +24,12 @@ none_added p keys before = record {
   old = λ n code h. h;
   made = λ n key le lt there. absurd (omega (arith, le, lt));
 }
+
+pub read_at : {A : Type 0} (xs : List A) (k : ℕ) (x : A) → k < length xs → x ≡ get_or xs k x
+    → slice_get xs k ≡ Some x
+read_at [] k x less h = absurd (omega (arith, less))
+read_at (y ∷ ys) zero x less h = ap Some (sym h)
+read_at (y ∷ ys) (suc k) x less h = read_at ys k x (omega (arith, less)) h
 
 behind_get : {A : Type 0} (xs : List A) (x : A) (n : ℕ) → n ≡ length xs
     → slice_get (xs ++ x ∷ []) n ≡ Some x

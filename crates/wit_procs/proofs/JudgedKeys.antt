@@ -18,7 +18,8 @@ use Rattle.cir_meaning.specs.Texts.{list_of, all_wanted, all_variables, all_retu
 use Rattle.cir_meaning.specs.Texts.{literal_number}
 use Rattle.wit_lower.proofs.Depth.{body_is}
 use Rattle.wit_procs.specs.Rules.{KeepsRules}
-use Rattle.wit_procs.proofs.KeyLists.{all_new, same_is, same_itself}
+use Rattle.cir_rules.proofs.Placing.{same_is, same_itself}
+use Rattle.wit_procs.proofs.KeyLists.{all_new}
 
 -- ---- what is told of all that is reached is told of the first
 front_false : {A : Type 0} (test : A → Bool) (xs ys : List A) → list_any test (xs ++ ys) ≡ false

@@ -4,46 +4,19 @@ use Rattle.std.proofs.Common.{◌∷◌, ◌++◌, length, refl, ap, ap₂, sym,
 use Rattle.std.proofs.Common.{inl, inr, length-append}
 use Rattle.std.specs.Prelude.{◌==◌, ◌||◌, if◌then◌else◌, Some, slice_get}
 use Rattle.std.specs.List.{list_any, AllByRecursion}
-use Rattle.std.specs.Cmp.Lexicographic.{bytes_decides}
-use Rattle.std.proofs.lemmas.Bool.{cases_lt, and_parts, and_from, or_left, or_right, eqb-true}
-use Rattle.std.proofs.lemmas.Bool.{eq-eqb}
-use Rattle.cir_meaning.specs.Arrays.{same_dims}
+use Rattle.std.proofs.lemmas.Bool.{cases_lt, or_left, or_right}
+use Rattle.std.proofs.lemmas.Option.{slice_get_within}
 use Rattle.cir_meaning.specs.Costs.{Made}
 use Rattle.cir_ast.specs.Program.{Program}
-use Rattle.cir_meaning.specs.Functions.{same_shapes, same_made, shaped_calls}
+use Rattle.cir_meaning.specs.Functions.{same_made, shaped_calls}
 use Rattle.cir_meaning.specs.Reached.{new_ones}
+use Rattle.cir_rules.proofs.Placing.{same_is, same_itself}
 use Rattle.cir_rules.proofs.Reaching.{moved}
 use Rattle.cir_rules.specs.Queue.{with_new, calls_of, visited}
 use Rattle.wit_lower.specs.Fits.{HasKey}
 use Rattle.wit_lower.specs.Values.{number_of}
 use Rattle.wit_procs.proofs.Given.{same_given}
 use Rattle.wit_procs.specs.Table.{Grows, HaveKeys}
-
--- ---- keys that are the same
-same_shapes_are : (a b : List (List ℕ)) → same_shapes a b ≡ true → a ≡ b
-same_shapes_are [] [] h = refl
-same_shapes_are [] (e ∷ es) h = cc
-same_shapes_are (d ∷ ds) [] h = cc
-same_shapes_are (d ∷ ds) (e ∷ es) h =
-    let parts = and_parts (same_dims d e) (same_shapes ds es) h in
-    ap₂ (λ x xs. x ∷ xs) ((bytes_decides d e).0 parts.0) (same_shapes_are ds es parts.1)
-
-same_shapes_itself : (a : List (List ℕ)) → same_shapes a a ≡ true
-same_shapes_itself [] = refl
-same_shapes_itself (d ∷ ds) =
-    and_from (same_dims d d) (same_shapes ds ds) ((bytes_decides d d).1 refl)
-    (same_shapes_itself ds)
-
-pub same_is : (a b : Made) → same_made a b ≡ true → a ≡ b
-same_is a b h =
-    let parts = and_parts (a.function == b.function) (same_shapes a.shapes b.shapes) h in
-    ap₂ (λ f s. record { function = f; shapes = s }) (eqb-true a.function b.function parts.0)
-    (same_shapes_are a.shapes b.shapes parts.1)
-
-pub same_itself : (a : Made) → same_made a a ≡ true
-same_itself a =
-    and_from (a.function == a.function) (same_shapes a.shapes a.shapes)
-    (eq-eqb a.function a.function refl) (same_shapes_itself a.shapes)
 
 -- ---- lists
 pub front_get : {A : Type 0} (xs ys : List A) (n : ℕ) → n < length xs
@@ -200,6 +173,27 @@ added_place keys all key place is le grows =
     let all_is : number_of all key ≡ number_of ((keys ++ key ∷ []) ++ grows.later) key =
     ap (λ ks. number_of ks key) grows.is in
     omega (arith, is, le, most, here, same, all_is)
+
+pub number_within : (keys : List Made) (key : Made) → number_of keys key ≤ length keys
+number_within [] key = omega arith
+number_within (k ∷ ks) key = at (number_within ks key) (same_made k key)
+  where
+    at : number_of ks key ≤ length ks → (b : Bool)
+        → (if b then 0 else suc (number_of ks key)) ≤ suc (length ks)
+    at earlier true = omega arith
+    at earlier false = omega (arith, earlier)
+
+-- a key that isn't there is one more
+pub one_new : (keys : List Made) (key : Made) → number_of keys key ≡ length keys
+    → with_new same_made keys (key ∷ []) ≡ keys ++ key ∷ []
+one_new keys key end =
+    ap (λ b. keys ++ (if b then [] else key ∷ [])) (none (list_any (same_made key) keys) refl)
+  where
+    none : (b : Bool) → list_any (same_made key) keys ≡ b → list_any (same_made key) keys ≡ false
+    none false e = e
+    none true e =
+        let has : HasKey keys key = has_key keys key e in
+        absurd (omega (arith, end, slice_get_within keys (number_of keys key) has.found has.there))
 
 pub added_key : (keys all : List Made) (key : Made) → Grows (keys ++ key ∷ []) all
     → HasKey all key

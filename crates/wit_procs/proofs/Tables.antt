@@ -2,7 +2,7 @@
 use Rattle.std.proofs.Common.{◌≡◌, ◌∙◌, ℕ, zero, suc, ◌+◌, ◌-◌, ◌≤◌, List, [], ◌∷◌, ◌++◌, map}
 use Rattle.std.proofs.Common.{length, drop, refl, ap, sym, subst, arith, inl, inr, Some, append-nil}
 use Rattle.std.proofs.Common.{append_assoc}
-use Rattle.std.specs.Prelude.{slice_get, unwrap_or}
+use Rattle.std.specs.Prelude.{slice_get, unwrap_or, Result, Ok, Err, IfErr, IsErrAnd}
 use Rattle.std.specs.List.{AllByRecursion}
 use Rattle.std.proofs.lemmas.Bool.{cases_lt}
 use Rattle.wit_code.specs.declared.code.Proc.{Proc}
@@ -114,6 +114,17 @@ dropped_get of (x ∷ xs) (suc from) i =
     let same : suc (from + i) ≡ suc from + i = omega arith in
     dropped_get of xs from i ∙ ap (slice_get (map of (x ∷ xs))) same
 
+pub err_is : {A E : Type 0} (r : Result A E) (e : E) (P : E → Type 0) → IsErrAnd r (λ x. x ≡ e)
+    → P e → IfErr r P
+err_is (Ok a) e P is h = absurd is
+err_is (Err x) e P is h = rw is h
+
+pub mapped_drop : {A B : Type 0} (f : A → B) (n : ℕ) (xs : List A)
+    → map f (drop n xs) ≡ drop n (map f xs)
+mapped_drop f zero xs = refl
+mapped_drop f (suc n) [] = refl
+mapped_drop f (suc n) (x ∷ xs) = mapped_drop f n xs
+
 pub made_from : {A : Type 0} (of : A → Made) (p : Program) (xs : List A) (from : ℕ)
     → MayBeMadeAll p (map of (drop from xs)) → (n : ℕ) (key : Made) → from ≤ n
     → slice_get (map of xs) n ≡ Some key → MayBeMade p key
@@ -122,16 +133,16 @@ made_from of p xs from may n key le there =
     may (n - from) key
     (dropped_get of xs from (n - from) ∙ ap (slice_get (map of xs)) same ∙ there)
 
--- a table with one more key, and with all that it calls
-pub table_added : (p : Program) (keys all : List Made) (key : Made) (procs after : List Proc)
+-- a table with more keys, and with all that these call
+pub table_filled : (p : Program) (keys more all : List Made) (procs after : List Proc)
     (from : ℕ) → AreRunnable p → length procs ≡ length keys → IsTable p keys procs
-    → Grows (keys ++ key ∷ []) all → from ≡ length keys → AreClosed p from all
+    → Grows (keys ++ more) all → from ≡ length keys → AreClosed p from all
     → ((n : ℕ) (k : Made) → from ≤ n → slice_get all n ≡ Some k → MayBeMade p k)
     → AreAdded p all procs after → IsTable p all after
-table_added p keys all key procs after from runs count table grows begins closed may added =
-    let later : List Made = key ∷ grows.later in
+table_filled p keys more all procs after from runs count table grows begins closed may added =
+    let later : List Made = more ++ grows.later in
     let is : all ≡ keys ++ later =
-    grows.is ∙ append_assoc keys (key ∷ []) grows.later in
+    grows.is ∙ append_assoc keys more grows.later in
     subst (λ ks. IsTable p ks after) (sym is)
     (table_grown p keys later procs after runs count table
     (subst (AreClosed p (length keys)) is (subst (λ n. AreClosed p n all) begins closed))
@@ -139,11 +150,9 @@ table_added p keys all key procs after from runs count table grows begins closed
     (ap (λ ks. slice_get ks n) is ∙ there))
     (subst (λ ks. AreAdded p ks procs after) is added))
 
-map_behind : {A B : Type 0} (of : A → B) (xs : List A) (x : A)
-    → map of (xs ++ x ∷ []) ≡ map of xs ++ of x ∷ []
-map_behind of [] x = refl
-map_behind of (y ∷ ys) x = ap (λ rest. of y ∷ rest) (map_behind of ys x)
-
-pub map_one : {A B : Type 0} (of : A → B) (xs ys : List A) (x : A) → ys ≡ xs ++ x ∷ []
-    → map of ys ≡ map of xs ++ of x ∷ []
-map_one of xs ys x e = ap (map of) e ∙ map_behind of xs x
+-- the table of no keys
+pub no_table : (p : Program) (procs : List Proc) → procs ≡ [] → IsTable p [] procs
+no_table p procs none = record {
+  count = omega (arith, ap length none);
+  each = λ n key there. cc;
+}

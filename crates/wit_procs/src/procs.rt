@@ -1,24 +1,27 @@
 //! The procedures of functions that are called when a program runs.
-ghost use Rattle.std.specs.Prelude.{◌≡◌, ◌≤◌, [], ◌∷◌, ◌++◌, map, length, IfOk, OnOk, IfErr};
+ghost use Rattle.std.specs.Prelude.{◌≡◌, ◌≤◌, [], ◌∷◌, ◌++◌, map, drop, length, IfOk, OnOk};
+ghost use Rattle.std.specs.Prelude.{IfErr};
 ghost use Rattle.cir_ast.specs.Program.{bare_program};
 ghost use Rattle.cir_rules.specs.Shown.{made_of};
 ghost use Rattle.wit_lower.specs.Fits.{HasKey};
 ghost use Rattle.wit_lower.specs.Procedures as L;
+ghost use Rattle.wit_lower.specs.Procedures.{IsTable};
 ghost use Rattle.wit_lower.specs.Values.{number_of};
-ghost use Rattle.wit_procs.specs.Promised.{Refuses, IsWhole, keys_in};
+ghost use Rattle.wit_procs.specs.Promised.{CanFill, Refuses, IsWhole, keys_in};
 ghost use Rattle.cir_scope.specs.Runnable.{AreRunnable};
-ghost use Rattle.wit_emit.specs.Shown.{scope_of};
+ghost use Rattle.wit_sourced.specs.Shown.{scope_of};
 ghost use Rattle.wit_procs.specs.Table.{Grows, IsMade, AreAdded};
 
 use crate::keeping::may_be_made;
 use crate::keys::add_reached;
 use cir_ast::program::Program;
 use cir_ast::{Form, Kind};
-use cir_rules::{Made, Verdict, judge};
+use cir_rules::{CallTable, Made, Verdict, judge};
 use items::Items;
 use std::alloc::{AllocError, AllocFailed, Global};
 use wit_code::{Op, Proc};
-use wit_emit::{Ground, Knowing, Scope, place_of};
+use wit_emit::{Ground, Knowing, place_of};
+use wit_sourced::Scope;
 use wit_statements::{emit_block, most_named, params_of};
 
 /// Why a function that is called when a program runs has no code.
@@ -60,7 +63,7 @@ impl<T: Drop> From<AllocFailed<T>> for LowerFault {
 pub struct Procs<'p> {
     pub alloc: Global,
     pub program: &'p Program,
-    pub keys: Vec<Made>,
+    pub keys: CallTable,
     pub procs: Vec<Proc>,
 }
 
@@ -93,11 +96,11 @@ fn arguments(alloc: Global, shapes: &[Vec<u64>]) -> Result<Scope, AllocError>
 fn body(
     alloc: Global,
     program: &Program,
-    keys: &[Made],
+    keys: &CallTable,
     key: &Made,
 ) -> Result<Items<Op>, AllocError>
     ensures { IfOk result (λ code. code ≡ L.function_code (bare_program program.now)
-        (map made_of keys.now) (made_of key.now)) }
+        (map made_of keys.now.calls.items) (made_of key.now)) }
 {
     let ground = Ground {
         alloc,
@@ -119,15 +122,15 @@ fn body(
 fn procedure(
     alloc: Global,
     program: &Program,
-    keys: &[Made],
+    keys: &CallTable,
     key: &Made,
 ) -> Result<Proc, AllocError>
-    ensures { IfOk result (IsMade (bare_program program.now) (map made_of keys.now)
-        (made_of key.now)) }
+    ensures { IfOk result (IsMade (bare_program program.now)
+        (map made_of keys.now.calls.items) (made_of key.now)) }
 {
     let body = body(alloc, program, keys, key)?;
     let params = params_of(key)?;
-    let slots = params.max(most_named(keys, body.as_slice())?);
+    let slots = params.max(most_named(keys.calls.as_slice(), body.as_slice())?);
     Ok(Proc {
         params,
         slots,
@@ -139,16 +142,16 @@ fn procedure(
 fn add_procedures(
     alloc: Global,
     program: &Program,
-    keys: &[Made],
+    keys: &CallTable,
     procs: &mut Vec<Proc>,
 ) -> Result<(), AllocError>
-    requires { length procs.old.items ≤ length keys.now }
-    ensures { OnOk result (AreAdded (bare_program program.now) (map made_of keys.now)
+    requires { length procs.old.items ≤ length keys.now.calls.items }
+    ensures { OnOk result (AreAdded (bare_program program.now) (map made_of keys.now.calls.items)
         procs.old.items procs.new.items) }
 {
     let from = procs.len();
-    for at in from..keys.len() {
-        let code = procedure(alloc, program, keys, &keys[at])?;
+    for at in from..keys.calls.len() {
+        let code = procedure(alloc, program, keys, &keys.calls[at])?;
         procs.push(code)?;
     }
     Ok(())
@@ -181,7 +184,7 @@ impl<'p> Procs<'p> {
         Procs {
             alloc,
             program,
-            keys: Vec::new(alloc),
+            keys: CallTable::new(alloc),
             procs: Vec::new(alloc),
         }
     }
@@ -208,17 +211,41 @@ impl<'p> Procs<'p> {
             (made_of record { function = function; shapes = shapes } ∷ [])) }
     {
         let key = Made { function, shapes };
-        let place = place_of(self.keys.as_slice(), &key);
-        if place >= self.keys.len() {
+        let place = place_of(&self.keys, &key);
+        if place >= self.keys.calls.len() {
             self.add(key)?;
         }
         Ok(number(place)?)
+    }
+
+    /// The procedures of these keys and of all that they reach, which is added behind them. There
+    /// is none, as if there were no memory, where a function that is called with an array of more
+    /// than 300 dimensions breaks a rule.
+    pub fn of(alloc: Global, program: &'p Program, keys: CallTable) -> Result<Procs<'p>, LowerFault>
+        ensures whole { AreRunnable (bare_program program.now) → IfOk result (λ t. IsWhole t) }
+        ensures table { AreRunnable (bare_program program.now) → IfOk result (λ t.
+            IsTable (bare_program program.now) (keys_in t) t.procs.items) }
+        ensures grows { IfOk result (λ t. Grows (map made_of keys.calls.items) (keys_in t)) }
+        ensures program { IfOk result (λ t. t.program.now ≡ program.now) }
+        ensures refused { IfErr result (Refuses (bare_program program.now)
+            (map made_of keys.calls.items)) }
+    {
+        let none = Vec::new(alloc);
+        let mut table = Procs {
+            alloc,
+            program,
+            keys,
+            procs: none,
+        };
+        table.fill()?;
+        Ok(table)
     }
 
     /// Adds a key that isn't there, with all that it calls.
     fn add(&mut self, key: Made) -> Result<(), LowerFault>
         requires whole { IsWhole self.old }
         requires runnable { AreRunnable (bare_program self.old.program.now) }
+        requires new { number_of (keys_in self.old) (made_of key) ≡ length (keys_in self.old) }
         ensures whole { OnOk result (IsWhole self.new) }
         ensures grows { OnOk result (Grows (keys_in self.old ++ made_of key ∷ [])
             (keys_in self.new)) }
@@ -226,19 +253,27 @@ impl<'p> Procs<'p> {
         ensures refused { IfErr result (Refuses (bare_program self.old.program.now)
             (made_of key ∷ [])) }
     {
-        let from = self.keys.len();
-        self.keys.push(key)?;
-        test(self.alloc, self.program, &self.keys[from..])?;
+        self.keys.add(self.alloc, key)?;
+        self.fill()?;
+        Ok(())
+    }
+
+    /// Procedures of the keys that have none yet, with all that these reach.
+    fn fill(&mut self) -> Result<(), LowerFault>
+        requires { length self.old.procs.items ≤ length self.old.keys.calls.items }
+        ensures whole { OnOk result (CanFill self.old → IsWhole self.new) }
+        ensures grows { OnOk result (Grows (keys_in self.old) (keys_in self.new)) }
+        ensures program { OnOk result (self.new.program ≡ self.old.program) }
+        ensures refused { IfErr result (Refuses (bare_program self.old.program.now)
+            (drop (length self.old.procs.items) (keys_in self.old))) }
+    {
+        let from = self.procs.len();
+        test(self.alloc, self.program, &self.keys.calls[from..])?;
         add_reached(self.alloc, self.program, &mut self.keys, from)?;
-        if !may_be_made(self.alloc, self.program, &self.keys[from..])? {
+        if !may_be_made(self.alloc, self.program, &self.keys.calls[from..])? {
             return Err(LowerFault::OutOfMemory);
         }
-        add_procedures(
-            self.alloc,
-            self.program,
-            self.keys.as_slice(),
-            &mut self.procs,
-        )?;
+        add_procedures(self.alloc, self.program, &self.keys, &mut self.procs)?;
         Ok(())
     }
 

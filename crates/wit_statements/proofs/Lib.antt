@@ -1,1 +1,4 @@
+pub mod Agreed
+pub mod AskedTrees
 pub mod Made
+mod Turns

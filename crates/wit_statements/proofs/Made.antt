@@ -11,8 +11,8 @@ use Rattle.wit_lower.specs.Homes as L
 use Rattle.wit_lower.specs.Pieces.{Code}
 use Rattle.wit_lower.specs.Values as V
 use Rattle.wit_lower.specs.Statements as S
-use Rattle.wit_emit.specs.declared.homes.Scope.{Scope}
-use Rattle.wit_emit.specs.Behind.{IsBehind}
+use Rattle.wit_sourced.specs.declared.homes.Scope.{Scope}
+use Rattle.wit_sourced.specs.Behind.{IsBehind}
 use Rattle.wit_statements.specs.Parts.{declared_as, write_behind}
 use Rattle.wit_emit.proofs.Chained.{then_made}
 

@@ -8,7 +8,7 @@ ghost use Rattle.wit_lower.specs.Values as V;
 ghost use Rattle.wit_lower.specs.Statements as S;
 ghost use Rattle.wit_code.specs.declared.code.Op.TheVariants as op;
 ghost use Rattle.wit_statements.specs.Parts as E;
-ghost use Rattle.wit_emit.specs.Shown.{homes_of, scope_of};
+ghost use Rattle.wit_sourced.specs.Shown.{homes_of, scope_of};
 ghost use Rattle.wit_emit.specs.Grounds.{ground_of};
 
 use cir_ast::program::{Accessor, Assign, Compound, Expr, Place};
@@ -17,7 +17,8 @@ use gold_field::{Gold, Op2};
 use items::Items;
 use std::alloc::AllocError;
 use wit_code::Op;
-use wit_emit::{Front, Ground, Scope, behind, emit, emit_place, emit_right, size_of, write};
+use wit_emit::{Front, Ground, emit, emit_place, emit_right, size_of, write};
+use wit_sourced::{Scope, behind};
 
 fn compound_of(op: Compound) -> Op2
     ensures { O.operator_of (O.compound_of op) ≡ O.Strict result }
@@ -119,7 +120,7 @@ fn emit_write(
     let accessors = place.accessors.as_slice();
     let top = behind(scope.top, size)?;
     emit_indices(ground, scope, code, top, accessors)?;
-    let home = scope.home_of(Front::Named(place.meant));
+    let home = Front::Named(place.meant).home(scope);
     write(code, home, top, indices_count(accessors), scope.top, size)?;
     Ok(())
 }

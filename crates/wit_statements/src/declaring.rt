@@ -3,9 +3,9 @@ ghost use Rattle.std.specs.Prelude.{◌≡◌, ◌++◌, map, length, unwrap_or,
 ghost use Rattle.cir_ast.specs.Tree.{bare_exprs, bare_value, bare_variable};
 ghost use Rattle.cir_meaning.specs.Texts.{list_of};
 ghost use Rattle.wit_lower.specs.Statements as S;
-ghost use Rattle.wit_emit.specs.Behind.{IsBehind};
+ghost use Rattle.wit_sourced.specs.Behind.{IsBehind};
 ghost use Rattle.wit_statements.specs.Parts as E;
-ghost use Rattle.wit_emit.specs.Shown.{scope_of};
+ghost use Rattle.wit_sourced.specs.Shown.{scope_of};
 ghost use Rattle.wit_emit.specs.Grounds.{ground_of};
 
 use cir_arrays::made_elements;
@@ -13,7 +13,8 @@ use cir_ast::program::{DeclaredVariable, Expr, Meant};
 use items::Items;
 use std::alloc::AllocError;
 use wit_code::Op;
-use wit_emit::{Front, Ground, Scope, behind, emit, size_of, write, zeros};
+use wit_emit::{Front, Ground, emit, size_of, write, zeros};
+use wit_sourced::{Scope, behind};
 
 /// Dimensions are evaluated, although their numbers are known.
 fn emit_dims(
@@ -38,13 +39,14 @@ fn known_dims(ground: &Ground, es: &[Expr]) -> Result<Items<u64>, AllocError>
 {
     let mut dims = Vec::new(ground.alloc);
     for e in es {
-        dims.push(ground.known(e).unwrap_or(0))?;
+        let number = ground.known(e)?;
+        dims.push(number.unwrap_or(0))?;
     }
     Ok(Items::of(dims))
 }
 
 /// A name that is a variable gets its home.
-#[tactic(auto, using(wit_emit::proofs::Left::behind_same))]
+#[tactic(auto, using(wit_sourced::proofs::Left::behind_same))]
 fn declare_as(scope: &mut Scope, meant: Meant, dims: Items<u64>) -> Result<(), AllocError>
     ensures { OnOk result (IsBehind scope.old scope.new
         (E.declared_as meant dims (scope_of scope.old))) }
@@ -78,7 +80,7 @@ fn emit_value(
     };
     emit(ground, scope, code, scope.top, e)?;
     let size = size_of(ground, scope, e)?;
-    let home = scope.home_of(Front::Named(meant));
+    let home = Front::Named(meant).home(scope);
     write(code, home, behind(scope.top, size)?, 0, scope.top, size)?;
     Ok(())
 }

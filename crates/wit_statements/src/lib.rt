@@ -1,6 +1,7 @@
 //! Makes the code of a run-time statement, and of what a step writes.
 #![tactic(auto)]
 
+mod asked;
 mod assigning;
 mod declaring;
 mod slots;
@@ -8,6 +9,7 @@ mod statements;
 mod steps;
 mod tasks;
 
+pub use asked::{are_listed, asked_calls, changed_by};
 pub use slots::{most_named, params_of};
 pub use statements::emit_block;
 pub use steps::emit_step;

@@ -8,7 +8,7 @@ use cir_arrays::made_elements;
 use cir_rules::Made;
 use std::alloc::AllocError;
 use wit_code::Op;
-use wit_emit::behind;
+use wit_sourced::behind;
 
 /// How many slots the arguments of a procedure take.
 pub fn params_of(key: &Made) -> Result<u32, AllocError>

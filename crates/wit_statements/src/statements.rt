@@ -5,9 +5,9 @@ ghost use Rattle.cir_ast.specs.Tree.{as_statements, bare, bare_assign, bare_bloc
 ghost use Rattle.cir_ast.specs.Tree.{bare_simple, bare_statement};
 ghost use Rattle.wit_lower.specs.Pieces as P;
 ghost use Rattle.wit_lower.specs.Statements as S;
-ghost use Rattle.wit_emit.specs.Behind.{IsBehind, IsLeft};
+ghost use Rattle.wit_sourced.specs.Behind.{IsBehind, IsLeft};
 ghost use Rattle.wit_statements.specs.Parts as E;
-ghost use Rattle.wit_emit.specs.Shown.{scope_of};
+ghost use Rattle.wit_sourced.specs.Shown.{scope_of};
 ghost use Rattle.wit_emit.specs.Grounds.{ground_of};
 
 use crate::assigning::emit_assign;
@@ -17,8 +17,9 @@ use items::Items;
 use std::alloc::AllocError;
 use wit_code::Op;
 use wit_emit::{
-    Ground, Scope, begin_jump, begin_other, begin_turns, emit, end_jump, end_jump_zero, end_turns,
+    Ground, begin_jump, begin_other, begin_turns, emit, end_jump, end_jump_zero, end_turns,
 };
+use wit_sourced::Scope;
 
 /// What the head of a `for` begins with.
 fn emit_first(
@@ -45,7 +46,7 @@ fn emit_first(
 }
 
 /// A simple statement; in what is lowered it declares variables or assigns.
-#[tactic(auto, using(wit_emit::proofs::Left::behind_same))]
+#[tactic(auto, using(wit_sourced::proofs::Left::behind_same))]
 fn emit_simple(
     ground: &Ground,
     scope: &mut Scope,
@@ -161,7 +162,7 @@ pub fn emit_inner(
 
 /// The turns of a loop, each with the step that a `for` has.
 #[cycle(statements)]
-fn emit_turns(
+pub fn emit_turns(
     ground: &Ground,
     scope: &mut Scope,
     code: &mut Items<Op>,

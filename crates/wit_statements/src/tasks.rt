@@ -3,16 +3,17 @@ ghost use Rattle.std.specs.Prelude.{◌≡◌, ◌++◌, map, length, OnOk};
 ghost use Rattle.cir_ast.specs.Tree.{bare_argument};
 ghost use Rattle.wit_lower.specs.Tasks as T;
 ghost use Rattle.wit_statements.specs.Asked.{element_of, task_of};
-ghost use Rattle.wit_emit.specs.Shown.{homes_of, scope_of};
+ghost use Rattle.wit_sourced.specs.Shown.{homes_of, scope_of};
 ghost use Rattle.wit_emit.specs.Grounds.{ground_of};
 
 use crate::assigning::emit_assign;
-use crate::statements::emit_inner;
-use cir_ast::program::{Assign, Expr, LogArgument, Spot, Statement};
+use crate::statements::{emit_inner, emit_turns};
+use cir_ast::program::{Assign, Expr, LogArgument, Spot, Statement, Step};
 use items::Items;
 use std::alloc::AllocError;
 use wit_code::Op;
-use wit_emit::{Ground, Scope, Sought, behind, emit, size_of};
+use wit_emit::{Ground, emit, size_of};
+use wit_sourced::{Scope, Sought, behind};
 
 /// An element of a variable.
 #[derive(Clone, Copy)]
@@ -33,6 +34,8 @@ pub enum Task<'a> {
     Asserts(Spot, &'a Expr),
     Assigns(Spot, &'a Assign, &'a [Element]),
     Executes(&'a Statement, &'a [Element]),
+    /// The loop that is left of a `for` behind its first statement.
+    Repeats(Spot, &'a Expr, &'a Step, &'a Statement, &'a [Element]),
 }
 
 /// Numbers in a row are written.
@@ -121,6 +124,11 @@ pub fn emit_task(
         }
         Task::Executes(a, targets) => {
             emit_inner(ground, scope, code, a)?;
+            emit_targets(scope, code, targets)?;
+            Ok(())
+        }
+        Task::Repeats(_, condition, step, body, targets) => {
+            emit_turns(ground, scope, code, body, condition, Some(&step.assign))?;
             emit_targets(scope, code, targets)?;
             Ok(())
         }

@@ -1,7 +1,7 @@
 use Rattle.std.proofs.Common.{◌∙◌, ◌++◌, ◌-◌, drop, ap, append_assoc}
 use Rattle.wit_lower.specs.Homes.{slots_of}
 use Rattle.wit_lower.specs.Pieces as L
-use Rattle.wit_emit.specs.Shown.{home_of}
+use Rattle.wit_sourced.specs.Shown.{home_of}
 use Rattle.wit_emit.proofs.ReadParts.{read_behind}
 use Rattle.wit_emit.proofs.reading.read.Goals as goal
 

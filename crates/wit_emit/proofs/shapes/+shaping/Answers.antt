@@ -1,4 +1,4 @@
-use Rattle.wit_emit.specs.Shown.{homes_of}
+use Rattle.wit_sourced.specs.Shown.{homes_of}
 use Rattle.wit_emit.specs.Grounds.{ground_of}
 use Rattle.wit_emit.proofs.Trees.{shape_array, shape_place}
 use Rattle.wit_emit.proofs.shapes.+shaping.Goals as goal

@@ -2,7 +2,7 @@ use Rattle.std.proofs.Common.{◌≡◌, [], drop}
 use Rattle.cir_ast.specs.Tree.{as_accessors}
 use Rattle.wit_lower.specs.Homes as L
 use Rattle.wit_lower.specs.Values as V
-use Rattle.wit_emit.specs.Shown.{homes_of}
+use Rattle.wit_sourced.specs.Shown.{homes_of}
 use Rattle.wit_emit.specs.Grounds.{front_of, ground_of}
 use Rattle.wit_emit.proofs.shapes.place_shape.Given as goal
 

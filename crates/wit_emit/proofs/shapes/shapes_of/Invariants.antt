@@ -2,7 +2,7 @@ use Rattle.std.proofs.Common.{◌≡◌, ◌++◌, drop}
 use Rattle.std.specs.Prelude.{map}
 use Rattle.cir_ast.specs.Tree.{bare_exprs}
 use Rattle.wit_lower.specs.Values as V
-use Rattle.wit_emit.specs.Shown.{homes_of}
+use Rattle.wit_sourced.specs.Shown.{homes_of}
 use Rattle.wit_emit.specs.Grounds.{ground_of}
 use Rattle.wit_emit.proofs.shapes.shapes_of.Given as goal
 

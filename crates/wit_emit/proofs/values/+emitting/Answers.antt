@@ -13,8 +13,9 @@ use Rattle.wit_lower.specs.Homes as L
 use Rattle.wit_lower.specs.Pieces as P
 use Rattle.wit_lower.specs.Values as V
 use Rattle.wit_emit.specs.Emitted as E
-use Rattle.wit_emit.specs.Shown.{homes_of}
-use Rattle.wit_emit.specs.Grounds.{called_of, front_of, ground_of}
+use Rattle.wit_sourced.specs.Shown.{homes_of}
+use Rattle.wit_emit.specs.Grounds.{front_of, ground_of}
+use Rattle.wit_sourced.specs.Loaded.{called_of}
 use Rattle.wit_emit.proofs.Chained.{chained, then_made, then_ended}
 use Rattle.wit_emit.proofs.Ended.{either_ended, jump_within, other_within, unless_ended}
 use Rattle.wit_emit.proofs.Trees.{arm, choice_made, code_array, code_binary, code_call, code_place}
@@ -72,7 +73,7 @@ emit-returns-in_ok-emit_right-in-Binary t c =
     (rw c.deref-in-Binary.ensures at c.in_ok-emit-in-Binary.ensures)
     (rw (
       c.decided.ensures,
-      c.known.ensures,
+      c.in_ok-left-in-Binary.ensures,
       c.operator_of-op.ensures,
       c.deref-in-Binary-2.ensures,
       c.deref-in-Binary-3.ensures,
@@ -114,7 +115,7 @@ emit-returns-in_ok-end_jump-in-None t c =
     let begun = c.in_ok-other-in-None.ensures in
     let between = c.in_ok-last-in-None.ensures in
     let unknown : None ≡ g.known test =
-    sym c.in-None.is ∙ (rw c.deref-in-Choice-2.ensures at c.known-in-Choice.ensures) in
+    sym c.in-None.is ∙ (rw c.deref-in-Choice-2.ensures at c.in_ok-condition-in-Choice.ensures) in
     rw c.in-Choice.is (choice_made g homes top old c.emit-in-Choice.new.code c.end_jump.new.code
     test a b None unknown (rw c.deref-in-Choice.ensures at c.in_ok-emit-in-Choice.ensures)
     (c.in_ok-end_jump-in-None.ensures
@@ -134,9 +135,10 @@ emit-returns-in-Some-eq0 t c =
     let test = bare c.in-Choice.c.value in
     let a = bare c.in-Choice.a.value in
     let b = bare c.in-Choice.b.value in
+    let zero : c.in-Some-eq0.field-0 ≡ 0 = rw c.in-Some-eq0.is at c.in-Some-eq0.field-0-test in
     let number : Some 0 ≡ g.known test =
-    sym (c.in-Some-eq0.is ∙ ap (λ (n : ℕ). Some n) c.in-Some-eq0.field-0-test)
-    ∙ (rw c.deref-in-Choice-2.ensures at c.known-in-Choice.ensures) in
+    sym (c.in-Some-eq0.is ∙ ap (λ (n : ℕ). Some n) zero)
+    ∙ (rw c.deref-in-Choice-2.ensures at c.in_ok-condition-in-Choice.ensures) in
     rw c.in-Choice.is (on_ok_weaker c.emit-in-Some-eq0.result (λ made.
     choice_made g homes top old c.emit-in-Choice.new.code c.emit-in-Some-eq0.new.code test a b
     (Some 0) number (rw c.deref-in-Choice.ensures at c.in_ok-emit-in-Choice.ensures)
@@ -153,13 +155,14 @@ emit-returns-in-Some t c =
     let a = bare c.in-Choice.a.value in
     let b = bare c.in-Choice.b.value in
     let n = c.in-Some.field-0 in
+    let other : n ≡ 0 → ⊥ = rw c.in-Some.is at (c.in-Some.field-0-test.1) in
     let number : Some n ≡ g.known test =
-    sym c.in-Some.is ∙ (rw c.deref-in-Choice-2.ensures at c.known-in-Choice.ensures) in
+    sym c.in-Some.is ∙ (rw c.deref-in-Choice-2.ensures at c.in_ok-condition-in-Choice.ensures) in
     rw c.in-Choice.is (on_ok_weaker c.emit-in-Some.result (λ made.
     choice_made g homes top old one c.emit-in-Some.new.code test a b (Some n) number
     (rw c.deref-in-Choice.ensures at c.in_ok-emit-in-Choice.ensures)
     ((rw c.deref-in-Some.ensures at made) ∙ ap (λ (k : P.Code). one ++ k)
-    (sym (first_side n c.in-Some.field-0-test.1 top (length one)
+    (sym (first_side n other top (length one)
     (λ q. V.expr_code g homes top q a) (λ q. V.expr_code g homes top q b)))))
     c.emit-in-Some.ensures)
 
@@ -234,17 +237,17 @@ emit_place-loop-accessor-preserved t c =
     let as_is = λ (x : Accessor Meant). loop.code ++ V.place_code g homes top (length loop.code)
     front indices (as_accessors (x ∷ drop (loop.accessor-index + 1) list)) in
     elim c.match-accessor.branch [
-      | goal.emit_place-in-Index+in_ok-behind-in-Index+in_ok-emit-in-Index+in_ok-push-in-Index w ↦
+      | goal.emit_place-in-Index+in_ok-emit-in-Index+in_ok-index-in-Index+in_ok-push-in-Index w ↦
           let e = bare w.in-Index.e in
-          let at : w.in_ok-behind-in-Index.field-0 ≡ top + length indices =
-          w.in_ok-behind-in-Index.ensures
-          ∙ ap (λ (n : ℕ). top + n) (w.len.ensures ∙ loop.indices.ok.0) in
+          let at : c.in_ok-next.next ≡ top + length indices =
+          c.in_ok-next.ensures
+          ∙ ap (λ (n : ℕ). top + n) (c.len.ensures ∙ loop.indices.ok.0) in
           rw (
             w.code-is,
             w.front-is,
             w.indices-is,
             w.in_ok-push-in-Index.ensures.items,
-            w.known.ensures,
+            w.in_ok-index-in-Index.ensures,
           ) (ap (λ (k : P.Code). k ++ V.place_code g homes top (length k) front
           (indices ++ g.known e ∷ []) rest) (w.in_ok-emit-in-Index.ensures
           ∙ ap (λ (n : ℕ). loop.code ++ V.expr_code g homes n (length loop.code) e) at)
@@ -277,7 +280,7 @@ emit_place-returns t c =
     let loop = c.loop-accessor in
     let front = front_of loop.front in
     let list = c.args.accessors.now in
-    (rw c.home_of.ensures at c.in_ok-read.ensures)
+    (rw c.home.ensures at c.in_ok-read.ensures)
     ∙ ap (λ (n : ℕ). loop.code ++ P.read_code (L.home_of homes front) c.args.top n)
     (c.len-2.ensures ∙ loop.indices.ok.0)
     ∙ sym (at_drop_all (λ l. loop.code ++ V.place_code g homes c.args.top (length loop.code) front

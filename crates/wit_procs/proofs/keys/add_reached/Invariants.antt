@@ -7,8 +7,8 @@ use Rattle.wit_procs.proofs.keys.add_reached.Given as goal
 
 abbrev pub invariant-visits : goal.invariant-visits
 invariant-visits l =
-    Visited (bare_program l.program) l.from l.at (map made_of l.initial.keys.items)
-    (map made_of l.keys.items)
+    Visited (bare_program l.program) l.from l.at (map made_of l.initial.keys.calls.items)
+    (map made_of l.keys.calls.items)
 
 abbrev pub decreases-visits : goal.decreases-visits
 decreases-visits l = 2 ^ 64 - l.at

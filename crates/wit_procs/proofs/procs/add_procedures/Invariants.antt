@@ -6,4 +6,5 @@ use Rattle.wit_procs.proofs.procs.add_procedures.Given as goal
 
 abbrev pub invariant-loop-at : goal.invariant-loop-at
 invariant-loop-at l =
-    AddedTo (bare_program l.program) (map made_of l.keys) l.initial.procs.items l.procs.items l.at
+    AddedTo (bare_program l.program) (map made_of l.keys.calls.items) l.initial.procs.items
+    l.procs.items l.at

@@ -1,6 +1,6 @@
 use Rattle.std.proofs.Common.{◌≡◌, drop, map}
 use Rattle.wit_lower.specs.Procedures as L
-use Rattle.wit_emit.specs.Shown.{scope_of}
+use Rattle.wit_sourced.specs.Shown.{scope_of}
 use Rattle.wit_procs.proofs.procs.arguments.Given as goal
 
 abbrev pub invariant-loop-at : goal.invariant-loop-at

@@ -9,7 +9,7 @@ use Rattle.wit_lower.specs.Pieces as P
 use Rattle.wit_lower.specs.Values as V
 use Rattle.wit_emit.specs.Emitted.{right_code}
 use Rattle.wit_statements.specs.Parts as E
-use Rattle.wit_emit.specs.Shown.{scope_of}
+use Rattle.wit_sourced.specs.Shown.{scope_of}
 use Rattle.wit_emit.specs.Grounds.{ground_of}
 use Rattle.wit_emit.proofs.Chained.{then_made}
 use Rattle.wit_statements.proofs.Made.{changed_made}

@@ -1,7 +1,7 @@
 use Rattle.std.proofs.Common.{◌≡◌, ◌++◌, drop, length}
 use Rattle.cir_ast.specs.Tree.{as_accessors}
 use Rattle.wit_lower.specs.Values as V
-use Rattle.wit_emit.specs.Shown.{homes_of}
+use Rattle.wit_sourced.specs.Shown.{homes_of}
 use Rattle.wit_emit.specs.Grounds.{ground_of}
 use Rattle.wit_statements.proofs.assigning.emit_indices.Given as goal
 

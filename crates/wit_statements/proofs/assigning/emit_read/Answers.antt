@@ -3,7 +3,7 @@ use Rattle.cir_ast.specs.declared.program.Meant.{Meant}
 use Rattle.cir_ast.specs.Tree.{Accessors}
 use Rattle.wit_lower.specs.Homes as L
 use Rattle.wit_lower.specs.Values as V
-use Rattle.wit_emit.specs.Shown.{homes_of}
+use Rattle.wit_sourced.specs.Shown.{homes_of}
 use Rattle.wit_emit.specs.Grounds.{ground_of}
 use Rattle.wit_emit.proofs.Trees.{place_is}
 use Rattle.wit_statements.proofs.assigning.emit_read.Goals as goal

@@ -5,7 +5,7 @@ use Rattle.cir_meaning.specs.Reached.{indices_count}
 use Rattle.wit_lower.specs.Homes as L
 use Rattle.wit_lower.specs.Pieces as P
 use Rattle.wit_lower.specs.Values as V
-use Rattle.wit_emit.specs.Shown.{homes_of}
+use Rattle.wit_sourced.specs.Shown.{homes_of}
 use Rattle.wit_emit.specs.Grounds.{ground_of}
 use Rattle.wit_emit.proofs.Chained.{then_ended}
 use Rattle.wit_emit.proofs.Trees.{place_is}
@@ -27,7 +27,7 @@ returns c =
     (P.write_code home (top + size) (indices_count (place_accessors p)) top size)
     ((rw c.in_ok-top.ensures at c.in_ok-emit_indices.ensures)
     ∙ ap (λ (a : Accessors Meant). old ++ V.indices_code g homes (top + size) (length old) a) is)
-    ((rw (c.home_of-home.ensures, c.in_ok-top.ensures, c.indices_count.ensures)
+    ((rw (c.home-home.ensures, c.in_ok-top.ensures, c.indices_count.ensures)
     at c.in_ok-write.ensures)
     ∙ ap (λ (a : Accessors Meant). c.emit_indices.new.code
     ++ P.write_code home (top + size) (indices_count a) top size) is)

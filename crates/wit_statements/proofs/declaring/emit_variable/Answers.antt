@@ -3,9 +3,9 @@ use Rattle.cir_ast.specs.Tree.{bare_exprs, bare_value, bare_variable}
 use Rattle.wit_lower.specs.Homes as L
 use Rattle.wit_lower.specs.Pieces as P
 use Rattle.wit_lower.specs.Statements as S
-use Rattle.wit_emit.specs.Behind.{IsBehind}
+use Rattle.wit_sourced.specs.Behind.{IsBehind}
 use Rattle.wit_statements.specs.Parts.{declared_as}
-use Rattle.wit_emit.specs.Shown.{scope_of}
+use Rattle.wit_sourced.specs.Shown.{scope_of}
 use Rattle.wit_emit.specs.Grounds.{ground_of}
 use Rattle.wit_emit.proofs.Chained.{then_ended, then_made}
 use Rattle.wit_statements.proofs.Made.{declared_is}

@@ -6,10 +6,10 @@ use Rattle.cir_arrays.proofs.Lists.{at_read}
 use Rattle.wit_lower.specs.Homes as L
 use Rattle.wit_lower.specs.Pieces as P
 use Rattle.wit_lower.specs.Statements as S
-use Rattle.wit_emit.specs.Shown.{scope_of}
+use Rattle.wit_sourced.specs.Shown.{scope_of}
 use Rattle.wit_emit.specs.Grounds.{ground_of}
 use Rattle.wit_emit.proofs.Chained.{chained}
-use Rattle.wit_emit.proofs.Left.{begins_then}
+use Rattle.wit_sourced.proofs.Left.{begins_then}
 use Rattle.wit_statements.proofs.declaring.emit_variables.Goals as goal
 
 pub loop-v-preserved : goal.loop-v-preserved

@@ -2,7 +2,7 @@ use Rattle.std.proofs.Common.{◌≡◌, ◌++◌, drop, length, take}
 use Rattle.std.specs.Prelude.{map}
 use Rattle.cir_ast.specs.Tree.{bare_variable}
 use Rattle.wit_lower.specs.Statements as S
-use Rattle.wit_emit.specs.Shown.{scope_of}
+use Rattle.wit_sourced.specs.Shown.{scope_of}
 use Rattle.wit_emit.specs.Grounds.{ground_of}
 use Rattle.wit_statements.proofs.declaring.emit_variables.Given as goal
 

@@ -14,13 +14,13 @@ use Rattle.wit_lower.specs.Pieces as P
 use Rattle.wit_lower.specs.Statements as S
 use Rattle.wit_lower.specs.Values as V
 use Rattle.wit_statements.specs.Parts as E
-use Rattle.wit_emit.specs.Shown.{scope_of}
+use Rattle.wit_sourced.specs.Shown.{scope_of}
 use Rattle.wit_emit.specs.Grounds.{ground_of}
 use Rattle.wit_emit.proofs.Chained.{chained, then_made, then_ended}
 use Rattle.wit_emit.proofs.Ended.{either_ended, jump_within, other_within, turns_ended}
 use Rattle.wit_emit.proofs.Ended.{turns_within, unless_ended}
-use Rattle.wit_emit.proofs.Left.{begins_then, behind_left, behind_same, dropped, left_then}
-use Rattle.wit_emit.proofs.Left.{shows_left}
+use Rattle.wit_sourced.proofs.Left.{begins_then, behind_left, behind_same, dropped, left_then}
+use Rattle.wit_sourced.proofs.Left.{shows_left}
 use Rattle.wit_statements.proofs.Made.{form_behind, form_made}
 use Rattle.wit_statements.proofs.statements.+statements.Goals as goal
 

@@ -1,4 +1,4 @@
-use Rattle.wit_emit.proofs.Left.{behind_same}
+use Rattle.wit_sourced.proofs.Left.{behind_same}
 use Rattle.wit_statements.proofs.statements.emit_first.Goals as goal
 
 pub returns-in_ok-emit_variables-in-Vars-clause-code :

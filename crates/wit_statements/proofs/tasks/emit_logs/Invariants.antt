@@ -2,7 +2,7 @@ use Rattle.std.proofs.Common.{◌≡◌, ◌++◌, drop, length}
 use Rattle.std.specs.Prelude.{map}
 use Rattle.cir_ast.specs.Tree.{bare_argument}
 use Rattle.wit_lower.specs.Tasks as T
-use Rattle.wit_emit.specs.Shown.{scope_of}
+use Rattle.wit_sourced.specs.Shown.{scope_of}
 use Rattle.wit_emit.specs.Grounds.{ground_of}
 use Rattle.wit_statements.proofs.tasks.emit_logs.Given as goal
 

@@ -1,13 +1,16 @@
-use Rattle.std.proofs.Common.{◌∙◌, ◌+◌, [], ◌∷◌, ◌++◌, length, map, ap, sym, append-nil}
+use Rattle.std.proofs.Common.{◌∙◌, ℕ, ◌+◌, [], ◌∷◌, ◌++◌, length, map, ap, sym, append-nil}
 use Rattle.wit_code.specs.declared.code.Op.TheVariants as op
 use Rattle.cir_ast.specs.Tree.{bare, bare_assign, bare_statement}
+use Rattle.cir_meaning.specs.Statement.{loop_of}
+use Rattle.wit_lower.specs.Pieces.{Code, turns}
 use Rattle.wit_lower.specs.Statements as S
 use Rattle.wit_lower.specs.Tasks as T
 use Rattle.wit_lower.specs.Values as V
 use Rattle.wit_statements.specs.Asked.{element_of}
-use Rattle.wit_emit.specs.Shown.{homes_of, scope_of}
+use Rattle.wit_sourced.specs.Shown.{homes_of, scope_of}
 use Rattle.wit_emit.specs.Grounds.{ground_of}
 use Rattle.wit_emit.proofs.Chained.{then_ended, then_made}
+use Rattle.wit_statements.proofs.Turns.{block_turns}
 use Rattle.wit_statements.proofs.tasks.emit_task.Goals as goal
 
 pub returns-in_ok-writes-in-Gives : goal.returns-in_ok-writes-in-Gives
@@ -75,3 +78,25 @@ returns-in_ok-emit_targets-in-Executes c =
     (c.in_ok-emit_targets-in-Executes.ensures
     ∙ ap (λ hs. one ++ T.targets_code (homes_of hs) targets)
     c.in_ok-emit_inner-in-Executes.ensures.scope.homes))
+
+pub returns-in_ok-emit_targets-in-Repeats : goal.returns-in_ok-emit_targets-in-Repeats
+returns-in_ok-emit_targets-in-Repeats c =
+    let g = ground_of c.args.ground.now in
+    let s = scope_of c.args.scope.now in
+    let old = c.args.code.now in
+    let one = c.emit_turns.new.code in
+    let step = c.in-Repeats.step.now in
+    let test = bare c.in-Repeats.condition.now in
+    let body = bare_statement c.in-Repeats.body.now in
+    let a = bare_assign step.assign in
+    let targets = map element_of c.in-Repeats.targets.now in
+    rw c.in-Repeats.is (then_ended old one c.emit_targets-in-Repeats.new.code
+    (S.statement_code g s (length old)
+    (loop_of c.in-Repeats.field-0 test body step.spot a))
+    (T.targets_code s.homes targets)
+    (c.in_ok-emit_turns-in-Repeats.ensures.code
+    ∙ ap (λ (f : ℕ → Code). old ++ turns s.top (length old) f (λ q. S.test_code g s q test))
+    (block_turns g s c.in-Repeats.field-0 step.spot body a))
+    (c.in_ok-emit_targets-in-Repeats.ensures
+    ∙ ap (λ hs. one ++ T.targets_code (homes_of hs) targets)
+    c.in_ok-emit_turns-in-Repeats.ensures.scope.homes))

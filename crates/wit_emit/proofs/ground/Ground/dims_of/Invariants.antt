@@ -1,5 +1,5 @@
 use Rattle.std.proofs.Common.{◌≡◌, drop}
-use Rattle.wit_emit.specs.Grounds.{components_in}
+use Rattle.wit_sourced.specs.Loaded.{components_in}
 use Rattle.wit_emit.proofs.ground.Ground.dims_of.Given as goal
 
 abbrev pub invariant-loop-shape : goal.invariant-loop-shape

@@ -1,4 +1,0 @@
-use Rattle.wit_emit.proofs.homes.Scope.declare.Goals as goal
-
-pub returns : goal.returns
-returns c = c.in_ok-place.ensures

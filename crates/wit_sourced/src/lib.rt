@@ -1,0 +1,21 @@
+//! What a run-time statement reads: homes of names in a frame, sources of elements and the code
+//! that loads them, and the numbers that are known whatever is read.
+#![tactic(auto)]
+
+mod elements;
+mod homes;
+mod known;
+mod loaded;
+mod reads;
+mod same;
+mod slots;
+mod sources;
+
+pub use elements::{is_inside, offset};
+pub use homes::{Home, Name, Placed, Scope, Sought};
+pub use known::{is_listed, number_of, op_of};
+pub use loaded::{CallValue, Called, ComponentShape, Loaded};
+pub use reads::Reads;
+pub use same::is_same;
+pub use slots::{behind, narrow};
+pub use sources::{Input, Shape, Source, Sources, emit_sources};

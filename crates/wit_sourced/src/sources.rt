@@ -1,0 +1,111 @@
+//! What a step reads, and the code that loads it.
+ghost use Rattle.std.specs.Prelude.{◌≡◌, [], ◌∷◌, ◌++◌, map, IfOk, OnOk};
+ghost use Rattle.wit_lower.specs.Homes as L;
+ghost use Rattle.wit_lower.specs.Sources as R;
+ghost use Rattle.wit_sourced.specs.Loads.{input_of, shape_of, source_of};
+ghost use Rattle.wit_sourced.specs.Shown.{homes_of, name_of, scope_of};
+
+use crate::homes::{Name, Scope};
+use crate::reads::Reads;
+use crate::slots::behind;
+use gold_field::Gold;
+use items::Items;
+use std::alloc::{AllocError, Global};
+use wit_code::Op;
+
+/// The dimensions of what a step names.
+#[derive(Drop)]
+pub struct Shape {
+    pub name: Name,
+    pub dims: Items<u64>,
+}
+
+/// Where an element's number comes from.
+#[derive(Clone, Copy)]
+pub enum Input {
+    Constant(Gold),
+    Cell(u32),
+}
+
+#[derive(Drop)]
+pub struct Source {
+    pub name: Name,
+    pub element: u64,
+    pub input: Input,
+}
+
+/// Shapes of what a step names, and a source for each element that it may read.
+#[derive(Drop)]
+pub struct Sources {
+    pub shapes: Items<Shape>,
+    pub list: Items<Source>,
+}
+
+impl Scope {
+    /// The homes stand in a row, in the order of the shapes.
+    pub fn of(alloc: Global, shapes: &[Shape]) -> Result<Scope, AllocError>
+        ensures { IfOk result (λ s. scope_of s ≡ R.homes_from (map shape_of shapes.now)
+            record { homes = []; top = 0 }) }
+    {
+        let mut scope = Scope {
+            homes: Vec::new(alloc),
+            top: 0,
+        };
+        for shape in shapes {
+            let name = shape.name.copied(alloc)?;
+            scope.place(name, Items::from_slice(alloc, shape.dims.as_slice())?)?;
+        }
+        Ok(scope)
+    }
+}
+
+/// A source is loaded into a slot.
+fn emit_load(code: &mut Items<Op>, reads: &Reads, input: Input, slot: u32) -> Result<(), AllocError>
+    ensures { OnOk result (code.new
+        ≡ code.old ++ R.load_code reads.now.cells (input_of input) slot ∷ []) }
+{
+    match input {
+        Input::Constant(n) => {
+            code.push(Op::Const(slot, n))?;
+            Ok(())
+        }
+        Input::Cell(cell) => {
+            code.push(Op::Read(slot, reads.place(cell)?))?;
+            Ok(())
+        }
+    }
+}
+
+fn emit_source(
+    code: &mut Items<Op>,
+    scope: &Scope,
+    reads: &Reads,
+    source: &Source,
+) -> Result<(), AllocError>
+    ensures { OnOk result (code.new ≡ code.old ++ R.source_code reads.now.cells
+        (L.find (name_of source.now.name) (homes_of scope.now.homes.items))
+        (source_of source.now)) }
+{
+    let Some(home) = scope.find(source.name.sought()) else {
+        return Ok(());
+    };
+    let slot = behind(home.base, source.element)?;
+    emit_load(code, reads, source.input, slot)?;
+    Ok(())
+}
+
+/// Each source is loaded into the slot of its element.
+pub fn emit_sources(
+    code: &mut Items<Op>,
+    scope: &Scope,
+    reads: &Reads,
+    list: &[Source],
+) -> Result<(), AllocError>
+    ensures { OnOk result (code.new ≡ code.old ++ R.sources_code reads.now.cells
+        (homes_of scope.now.homes.items) (map source_of list.now)) }
+{
+    for source in list {
+        emit_source(code, scope, reads, source)?;
+    }
+    Ok(())
+}
