@@ -1,0 +1,10 @@
+pub mod Added
+pub mod Alike
+pub mod AlikeTasks
+pub mod Element
+pub mod Ended
+pub mod Reading
+pub mod Runs
+pub mod Statements
+pub mod Trees
+pub mod Written
