@@ -64,8 +64,8 @@ use Rattle.cir_steps.proofs.Emptied.{IsEmptied, FlowEmptied, body_empties}
 use Rattle.cir_steps.proofs.CallsRise.{calls_rise}
 use Rattle.cir_steps.proofs.Moving.{Moves}
 use Rattle.cir_steps.proofs.Following.{Keeps, FollowsFlow}
-use Rattle.cir_steps.proofs.Walk.{IsFresh, one_step, Leaves, ClearFrom, ClearIn, Clear, StaysClear}
-use Rattle.cir_steps.proofs.Walk.{still_clear, all_follow}
+use Rattle.cir_steps.proofs.Walk.{IsFresh, IsHere, one_step, Leaves, ClearFrom, ClearIn, Clear}
+use Rattle.cir_steps.proofs.Walk.{StaysClear, still_clear, all_follow}
 
 pub blank_at : (count m : ℕ) → entry_at {A = SignalEntry} (replicate count None) m ≡ None
 blank_at zero m = refl
@@ -290,17 +290,32 @@ pub record Bodies (size : ℕ) (R : Emission → Emitted → Type 0) (G : Giving
         next = y.state.next;
       }
 
-module _ (size : ℕ) (R : Emission → Emitted → Type 0) (G : Giving) (b : Bodies size R G) where
-  module _ (q : Emitting) (calls : Calls q.context.call)
-      (fits : Fits G q.context.make q.cast) (w : Where) where
+-- what must be known of a relation to hold where a body touches signals and components
+pub record Touching (q : Emitting) (R : Emission → Emitted → Type 0) (G : Giving) : Type 0 where
+  pub still : (x : Emission) (s : State) → Moves (known_in x) s
+      → R x record { state = with_state s x; steps = [] }
+  pub wiring : (w : Where) → IsHere q.context w → (written : Assign Meant) (m : Meant)
+      (accessors : Accessors Meant) (a : Arrow) (e : Expr Meant) (x : Emission)
+      (b : SignalAssignment) (s : State) (y : Emitted)
+      → signal_assignment q.context w m accessors e (known_in x) ≡ Ok b
+      → set_signal q.context w written m accessors a e (known_in x) ≡ Ok s
+      → make_wiring q w written accessors e b s b.target.reach.places x ≡ Ok y → R x y
+  pub creating : (w : Where) (c : Creation) (place : ℕ) (a : Signals × World) (o : Cast)
+      (x : Emission) → Moves (known_in x) c.state → G x.next c.state.world a o
+      → R x (cast_made q w c place a o x)
+
+module _ (R : Emission → Emitted → Type 0) (G : Giving) (q : Emitting)
+    (calls : Calls q.context.call) (fits : Fits G q.context.make q.cast)
+    (touches : Touching q R G) where
+  module _ (w : Where) where
     abbrev Leaf : Emission → State → Emitted → Type 0
     Leaf x s y = (known_in y.state ≡ s) × R x y × StaysClear (known_in x) s
 
-    wired_leaf : (written : Assign Meant) (m : Meant) (accessors : Accessors Meant) (a : Arrow)
-        (e : Expr Meant) (x : Emission)
+    wired_leaf : (here : IsHere q.context w) (written : Assign Meant) (m : Meant)
+        (accessors : Accessors Meant) (a : Arrow) (e : Expr Meant) (x : Emission)
         → Twin (Leaf x) (set_signal q.context w written m accessors a e (known_in x))
         (emit_set_signal q w written m accessors a e x)
-    wired_leaf written m accessors a e x =
+    wired_leaf here written m accessors a e x =
         twice (Leaf x) (signal_assignment q.context w m accessors e (known_in x)) _ _ (λ c is.
         alone (StaysClear (known_in x)) (Leaf x) _ _ (next_of c is
         (set_signal_written StaysClear stays_clear q.context w calls.keeps written m accessors a e
@@ -339,14 +354,14 @@ module _ (size : ℕ) (R : Emission → Emitted → Type 0) (G : Giving) (b : Bo
         at c s is made clear [] same =
             twin_is (Leaf x) s _ (
               refl,
-              b.wiring q calls w written m accessors a e x c s _ is made
+              touches.wiring w here written m accessors a e x c s _ is made
                   (ap (λ ps. make_wiring q w written accessors e c s ps x) same),
               clear,
             )
         at c s is made clear (place ∷ places) same =
             twin_is (Leaf x) s _ (
               refl,
-              b.wiring q calls w written m accessors a e x c s _ is made
+              touches.wiring w here written m accessors a e x c s _ is made
                   (ap (λ ps. make_wiring q w written accessors e c s ps x) same),
               clear,
             )
@@ -375,7 +390,7 @@ module _ (size : ℕ) (R : Emission → Emitted → Type 0) (G : Giving) (b : Bo
     each_leaf c x h sized [] =
         twin_is (Leaf x) c.state _ (
           refl,
-          b.keeps.still x c.state h,
+          touches.still x c.state h,
           (λ ns p. still_clear ns (known_in x) c.state h.0 p),
         )
     each_leaf c x h sized (place ∷ places) =
@@ -394,7 +409,7 @@ module _ (size : ℕ) (R : Emission → Emitted → Type 0) (G : Giving) (b : Bo
         (fits make there w c.template c.arguments (path_of q.context c.entry c.indices)
         c.state.world x.next sized) (λ a o am oc g. (
           refl,
-          b.creating q w c place a o x h g,
+          touches.creating w c place a o x h g,
           (λ ns p. still_clear ns (known_in x) c.state h.0 p),
         )))))
 
@@ -415,30 +430,56 @@ module _ (size : ℕ) (R : Emission → Emitted → Type 0) (G : Giving) (b : Bo
             refl h in each_leaf c x its.0 its.1 c.places
         at (Err f) h = twin_bad (Leaf x) _ _
 
-  pub leaves : (q : Emitting) → q.context.group_size ≡ size → Calls q.context.call
-      → Fits G q.context.make q.cast → Leaves q R
-  leaves q sized calls fits = record {
-    fresh = b.fresh;
-    declared = b.declared q.context sized;
-    wired = wired_leaf q calls fits;
-    created = created_leaf q calls fits;
+  -- the other statements make steps alone
+  pub touching_leaves : ((x y : Emission) (step : Step) → IsFresh x y step
+      → IsHere q.context step.place → R x (one_step step y))
+      → ((spot : Spot) (direction : Direction) (n : ℕ) (name dims : List ℕ) (x : Emission)
+      → ClearFrom n (known_in x).frame.signals → R x record {
+        state = with_signal n (made_elements dims)
+            (with_state (declare_signal q.context spot direction n name dims (known_in x)) x);
+        steps = [];
+      }) → Leaves q R
+  touching_leaves fresh declared = record {
+    fresh = fresh;
+    declared = declared;
+    wired = wired_leaf;
+    created = created_leaf;
   }
 
-  ended_fits : (k : Context) (t : Template) (ds : List Datum) (path : List ℕ) (world : World)
-      (start : ℕ) (m : Tried Flow) (r : Tried Emitted)
+module _ (R : Emission → Emitted → Type 0) (keeps : Keeps R) (G : Giving) (k : Context)
+    (t : Template) (ds : List Datum) (path : List ℕ) (world : World) (start : ℕ)
+    (ends : (y : Emitted) (z : Signals × World) → R (emit_begun t ds path world start) y
+    → AllByRecursion IsSized ds → IsEmptied (known_in y.state)
+    → ended k (known_in y.state) ≡ Ok z → G start world z record {
+      own = y.state.cells.own;
+      inside = port_tables (known_in y.state).frame.parts y.state.cells.parts;
+      steps = y.steps;
+      next = y.state.next;
+    }) where
+  pub ended_fits : (m : Tried Flow) (r : Tried Emitted)
       → AllByRecursion IsSized ds → OnGood FlowEmptied m
-      → Twin (FollowsFlow R b.keeps (Clear []) (emit_begun t ds path world start)) m r
+      → Twin (FollowsFlow R keeps (Clear []) (emit_begun t ds path world start)) m r
       → Twin (G start world) (next m (ended_flow k)) (next r (emit_ended k))
   unfolding Twin OnGood
-  ended_fits k t ds path world start (Ok (Going s)) (Ok y) sized empty h =
+  ended_fits (Ok (Going s)) (Ok y) sized empty h =
       subst (λ f. Twin (G start world) (ended k f) (emit_ended k y)) h.0
       (alone (λ z. ⊤) (G start world) (ended k (known_in y.state)) _ (good_any _)
-      (λ z is u. twin_is (G start world) z _ (b.ends k t ds path world start y z h.1
+      (λ z is u. twin_is (G start world) z _ (ends y z h.1
       sized (subst IsEmptied (sym h.0) empty) is)))
-  ended_fits k t ds path world start (Ok (Returned d v)) (Ok y) sized empty h = absurd h
-  ended_fits k t ds path world start (Ok (Going s)) (Err e) sized empty h = absurd h
-  ended_fits k t ds path world start (Ok (Returned d v)) (Err e) sized empty h = absurd h
-  ended_fits k t ds path world start (Err e) r sized empty h = tt
+  ended_fits (Ok (Returned d v)) (Ok y) sized empty h = absurd h
+  ended_fits (Ok (Going s)) (Err e) sized empty h = absurd h
+  ended_fits (Ok (Returned d v)) (Err e) sized empty h = absurd h
+  ended_fits (Err e) r sized empty h = tt
+
+module _ (size : ℕ) (R : Emission → Emitted → Type 0) (G : Giving) (b : Bodies size R G) where
+  pub leaves : (q : Emitting) → q.context.group_size ≡ size → Calls q.context.call
+      → Fits G q.context.make q.cast → Leaves q R
+  leaves q sized calls fits =
+      touching_leaves R G q calls fits record {
+        still = b.keeps.still;
+        wiring = λ w here. b.wiring q calls w;
+        creating = b.creating q;
+      } (λ x y step f here. b.fresh x y step f) (b.declared q.context sized)
 
   module _ (p : Program) (plain : AreTemplates p) where
     pub body_fits : (call : Caller) (make : Option Maker) (group : Direction → List ℕ → Group)
@@ -461,7 +502,8 @@ module _ (size : ℕ) (R : Emission → Emitted → Type 0) (G : Giving) (b : Bo
         at None e = twin_bad (G start world) _ _
         at (Some t) e =
             let q : Emitting = record { context = k_of t; cast = cast } in
-            ended_fits (k_of t) t ds path world start
+            ended_fits R b.keeps G (k_of t) t ds path world start
+            (b.ends (k_of t) t ds path world start)
             (exec_all (k_of t) t.body (template_state t ds path world))
             (emit_all q t.body (emit_begun t ds path world start)) sized
             (body_empties (k_of t) t.body (template_state t ds path world) refl)

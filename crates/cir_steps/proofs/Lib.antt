@@ -81,3 +81,4 @@ pub mod ReadCreated
 pub mod ReadBodies
 pub mod ReadLaw
 pub mod CheckedPlaces
+pub mod InstanceLaw

@@ -100,16 +100,16 @@ module _ (q : Emitting) (calls : Calls q.context.call) (g : Group) (chosen : Lis
 
   in_order : Leaves q R
   in_order = record {
-    fresh = λ x y step f.
+    fresh = λ x y step f here.
         still_turns q.context g chosen its others (known_in x) (known_in y) f.still;
     declared = λ spot d n name dims x clear.
         declared_turns q.context g chosen its others spot d n name dims (known_in x) clear;
-    wired = λ w written m accessors arrow e x.
+    wired = λ w here written m accessors arrow e x.
         with_goes x (set_signal q.context w written m accessors arrow e (known_in x))
         (emit_set_signal q w written m accessors arrow e x)
         (set_signal_written Goes (written_turns q.context g chosen its others) q.context w
         calls.keeps written m accessors arrow e (known_in x))
-        (any_leaves.wired w written m accessors arrow e x);
+        (any_leaves.wired w here written m accessors arrow e x);
     created = λ w n accessors e x.
         with_goes x (next (creation q.context w n accessors e (known_in x))
         (create q.context w)) (emit_create q w n accessors e x)

@@ -209,7 +209,7 @@ module _ (p : Program) (resolved : IsResolved p) (places : ArePlacesMeant p) (si
     counted = λ spot s. counted_still s (place_at q.context spot) s (still_itself s);
     dims = λ w es s. dims_still s q.context calls w false es s (still_itself s);
     variable = λ n dims f s h. h;
-    component = λ n name dims s. (refl, refl, refl);
+    component = λ n name dims s. (refl, refl, refl, refl);
     components = λ w c s. component_still s q.context calls w c s (still_itself s);
     dropped = λ w e s. dropped_still s q.context calls w e s (still_itself s);
     condition = λ spot c s. condition_still s q.context calls spot c s (still_itself s);

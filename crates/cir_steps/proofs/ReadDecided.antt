@@ -74,7 +74,12 @@ module _ (size : ℕ) (final : Sizes) (room : Roomy size final) (q : Emitting)
         (scan_rest f q.context keeps place a (forget (outer_assigned a) f) begun_rest))
 
     rests : Still f s
-    rests = (after_rest.0, after_rest.2, ap (λ (v : World). v.sizes) after_rest.3)
+    rests = (
+      after_rest.0,
+      after_rest.2,
+      ap (λ (v : World). v.sizes) after_rest.3,
+      ap (λ (v : World). v.instances) after_rest.3,
+    )
 
     abbrev Tells : Expr Meant → Type 0
     Tells e =

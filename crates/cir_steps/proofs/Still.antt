@@ -1,4 +1,5 @@
--- What the compile meaning does without touching signals, their sizes and components.
+-- What the compile meaning does without touching signals, their sizes, components
+-- and instances.
 use Rattle.std.proofs.Common.{◌≡◌, ℕ, Bool, true, false, cond, List, [], ◌∷◌, Option, Some, None}
 use Rattle.std.proofs.Common.{Ok, Err, refl, ap, ◌∙◌}
 use Rattle.cir_ast.specs.declared.program.Spot.{Spot}
@@ -42,13 +43,18 @@ use Rattle.cir_meaning.proofs.VariableRuns.{assignment_like}
 abbrev pub Still : State → State → Type 0
 Still f s =
     (s.frame.signals ≡ f.frame.signals) × (s.frame.parts ≡ f.frame.parts)
-    × (s.world.sizes ≡ f.world.sizes)
+    × (s.world.sizes ≡ f.world.sizes) × (s.world.instances ≡ f.world.instances)
 
 pub still_itself : (s : State) → Still s s
-still_itself s = (refl, refl, refl)
+still_itself s = (refl, refl, refl, refl)
 
 pub still_like : (f s t : State) → Still f s → Like s t → Still f t
-still_like f s t h l = (l.1 ∙ h.0, l.3 ∙ h.1, ap (λ (v : World). v.sizes) l.4 ∙ h.2)
+still_like f s t h l = (
+  l.1 ∙ h.0,
+  l.3 ∙ h.1,
+  ap (λ (v : World). v.sizes) l.4 ∙ h.2,
+  ap (λ (v : World). v.instances) l.4 ∙ h.3,
+)
 
 module _ (f : State) where
   pub settle_still : (w : Where) (s : State) → Still f s → OnGood (Still f) (settle w s)

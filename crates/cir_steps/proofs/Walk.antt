@@ -20,8 +20,8 @@ use Rattle.cir_meaning.specs.Tried.{Where, Tried, next}
 use Rattle.cir_meaning.specs.Places.{numbers_from}
 use Rattle.cir_meaning.specs.Arrays.{Datum, Scalar, the_item}
 use Rattle.cir_meaning.specs.Values.{Value, Known, Linear, Quadratic, Opaque}
-use Rattle.cir_meaning.specs.Frame.{SignalEntry, Signals as Entries, State, at, put_at, entry_at}
-use Rattle.cir_meaning.specs.Frame.{counted}
+use Rattle.cir_meaning.specs.Frame.{Context, SignalEntry, Signals as Entries, State, at, put_at}
+use Rattle.cir_meaning.specs.Frame.{entry_at, counted}
 use Rattle.cir_meaning.specs.Evaluate.{value_in, dims_in}
 use Rattle.cir_meaning.specs.Anonymous.{Lifted, lift_simple}
 use Rattle.cir_meaning.specs.Writing.{plain, variable_assignment, is_unknown}
@@ -110,17 +110,22 @@ put_clear n (m ∷ ms) a xs h p =
       put_clear n ms a xs h.1 p.2,
     )
 
+-- a place in the instance whose body is executed
+abbrev pub IsHere : Context → Where → Type 0
+IsHere k w = (w.instance ≡ k.instance) × (w.path ≡ k.path)
+
 -- what must be known of the statements that touch signals and components
 pub record Leaves (q : Emitting) (R : Emission → Emitted → Type 0) : Type 0 where
-  pub fresh : (x y : Emission) (step : Step) → IsFresh x y step → R x (one_step step y)
+  pub fresh : (x y : Emission) (step : Step) → IsFresh x y step → IsHere q.context step.place
+      → R x (one_step step y)
   pub declared : (spot : Spot) (direction : Direction) (n : ℕ) (name dims : List ℕ)
       (x : Emission) → ClearFrom n (known_in x).frame.signals → R x record {
         state = with_signal n (made_elements dims)
             (with_state (declare_signal q.context spot direction n name dims (known_in x)) x);
         steps = [];
       }
-  pub wired : (w : Where) (written : Assign Meant) (m : Meant) (accessors : Accessors Meant)
-      (arrow : Arrow) (e : Expr Meant) (x : Emission)
+  pub wired : (w : Where) → IsHere q.context w → (written : Assign Meant) (m : Meant)
+      (accessors : Accessors Meant) (arrow : Arrow) (e : Expr Meant) (x : Emission)
       → Twin (λ s y. (known_in y.state ≡ s) × R x y × StaysClear (known_in x) s)
       (simple.set_signal q.context w written m accessors arrow e (known_in x))
       (emit_set_signal q w written m accessors arrow e x)
@@ -198,13 +203,14 @@ module _ (q : Emitting) (calls : Calls q.context.call) (R : Emission → Emitted
         known_follows R keeps (Clear ns) x (counted (at q.context spot)) (λ s h. kept x s p h.0)
         (counted_moves (known_in x) (at q.context spot))
 
-    wired_follows : (w : Where) (written : Assign Meant) (m : Meant) (accessors : Accessors Meant)
-        (arrow : Arrow) (e : Expr Meant) (x : Emission) → Clear ns (known_in x)
+    wired_follows : (w : Where) → IsHere q.context w → (written : Assign Meant) (m : Meant)
+        (accessors : Accessors Meant) (arrow : Arrow) (e : Expr Meant) (x : Emission)
+        → Clear ns (known_in x)
         → Twin (After x) (simple.set_signal q.context w written m accessors arrow e (known_in x))
         (emit_set_signal q w written m accessors arrow e x)
-    wired_follows w written m accessors arrow e x p =
+    wired_follows w here written m accessors arrow e x p =
         twin_weaker (λ s y. (known_in y.state ≡ s) × R x y × StaysClear (known_in x) s) (After x)
-        _ _ (λ s y h. (h.0, h.1, h.2 ns p)) (leaves.wired w written m accessors arrow e x)
+        _ _ (λ s y h. (h.0, h.1, h.2 ns p)) (leaves.wired w here written m accessors arrow e x)
 
     created_follows : (w : Where) (n : ℕ) (accessors : Accessors Meant) (e : Expr Meant)
         (x : Emission) → Clear ns (known_in x)
@@ -214,11 +220,11 @@ module _ (q : Emitting) (calls : Calls q.context.call) (R : Emission → Emitted
         twin_weaker (λ s y. (known_in y.state ≡ s) × R x y × StaysClear (known_in x) s) (After x)
         _ _ (λ s y h. (h.0, h.1, h.2 ns p)) (leaves.created w n accessors e x)
 
-    variable_follows : (w : Where) (written : Assign Meant) (n : ℕ) (accessors : Accessors Meant)
-        (e : Expr Meant) (x : Emission) → Clear ns (known_in x)
+    variable_follows : (w : Where) → IsHere q.context w → (written : Assign Meant) (n : ℕ)
+        (accessors : Accessors Meant) (e : Expr Meant) (x : Emission) → Clear ns (known_in x)
         → Twin (After x) (simple.set_variable q.context w written n accessors e (known_in x))
         (emit_set_variable q w written n accessors e x)
-    variable_follows w written n accessors e x p =
+    variable_follows w here written n accessors e x p =
         follows_twice R keeps (Clear ns) x
         (variable_assignment q.context w n accessors e (known_in x)) _ _
         (λ a is. follows_made R keeps (Clear ns) (Written (known_in x) q.context calls n a
@@ -238,47 +244,48 @@ module _ (q : Emitting) (calls : Calls q.context.call) (R : Emission → Emitted
             own = refl;
             parts = refl;
             bodies = refl;
-          },
+          } here,
           kept x s p h.0.0,
         ))
         (refl, keeps.still x s h.0, kept x s p h.0.0)))
 
-    set_follows : (w : Where) (written : Assign Meant) (m : Meant) (accessors : Accessors Meant)
-        (e : Expr Meant) (x : Emission) → Clear ns (known_in x)
+    set_follows : (w : Where) → IsHere q.context w → (written : Assign Meant) (m : Meant)
+        (accessors : Accessors Meant) (e : Expr Meant) (x : Emission) → Clear ns (known_in x)
         → Twin (After x) (simple.set q.context w written m accessors e (known_in x))
         (emit_set_place q w written m accessors e x)
-    set_follows w written (meant.Variable n) accessors e x p =
-        variable_follows w written n accessors e x p
-    set_follows w written (meant.Component n) accessors e x p =
+    set_follows w here written (meant.Variable n) accessors e x p =
+        variable_follows w here written n accessors e x p
+    set_follows w here written (meant.Component n) accessors e x p =
         created_follows w n accessors e x p
-    set_follows w written meant.Other accessors e x p = twin_bad (After x) _ _
-    set_follows w written (meant.Signal direction n) accessors e x p = twin_bad (After x) _ _
-    set_follows w written (meant.Template n) accessors e x p = twin_bad (After x) _ _
-    set_follows w written (meant.Function n) accessors e x p = twin_bad (After x) _ _
+    set_follows w here written meant.Other accessors e x p = twin_bad (After x) _ _
+    set_follows w here written (meant.Signal direction n) accessors e x p = twin_bad (After x) _ _
+    set_follows w here written (meant.Template n) accessors e x p = twin_bad (After x) _ _
+    set_follows w here written (meant.Function n) accessors e x p = twin_bad (After x) _ _
 
-    assigned_follows : (w : Where) (written a : Assign Meant) (x : Emission)
-        → Clear ns (known_in x)
+    assigned_follows : (w : Where) → IsHere q.context w → (written a : Assign Meant)
+        (x : Emission) → Clear ns (known_in x)
         → Twin (After x) (simple.assigned q.context w written a (known_in x))
         (emit_assigned q w written a x)
-    assigned_follows w written (Set name m accessors e) x p =
-        set_follows w written m accessors e x p
-    assigned_follows w written (Left name m accessors arrow e) x p =
-        wired_follows w written m accessors arrow e x p
-    assigned_follows w written (Compound name m accessors op e) x p = twin_bad (After x) _ _
-    assigned_follows w written (Increment name m accessors) x p = twin_bad (After x) _ _
-    assigned_follows w written (Decrement name m accessors) x p = twin_bad (After x) _ _
+    assigned_follows w here written (Set name m accessors e) x p =
+        set_follows w here written m accessors e x p
+    assigned_follows w here written (Left name m accessors arrow e) x p =
+        wired_follows w here written m accessors arrow e x p
+    assigned_follows w here written (Compound name m accessors op e) x p = twin_bad (After x) _ _
+    assigned_follows w here written (Increment name m accessors) x p = twin_bad (After x) _ _
+    assigned_follows w here written (Decrement name m accessors) x p = twin_bad (After x) _ _
 
-    initial_follows : (w : Where) (m : Meant) (value : Option (Expr Meant)) (x : Emission)
-        → Clear ns (known_in x)
+    initial_follows : (w : Where) → IsHere q.context w → (m : Meant)
+        (value : Option (Expr Meant)) (x : Emission) → Clear ns (known_in x)
         → Twin (After x) (simple.initial q.context w m value (known_in x))
         (emit_initial q w m value x)
-    initial_follows w m None x p = quiet_follows R keeps (Clear ns) x p
-    initial_follows w m (Some e) x p = set_follows w (Set [] m done e) m done e x p
+    initial_follows w here m None x p = quiet_follows R keeps (Clear ns) x p
+    initial_follows w here m (Some e) x p = set_follows w here (Set [] m done e) m done e x p
 
-    declared_follows : (w : Where) (v : Variable Meant) (x : Emission) → Clear ns (known_in x)
+    declared_follows : (w : Where) → IsHere q.context w → (v : Variable Meant) (x : Emission)
+        → Clear ns (known_in x)
         → Twin (After x) (simple.variable_declaration q.context w v (known_in x))
         (emit_variable q w v x)
-    declared_follows w v x p =
+    declared_follows w here v x p =
         number_follows R keeps (Clear ns) x w v.meant _ _ (λ n.
         valued_twin R keeps After after_joins x
         (dims_in q.context w false v.dimensions (known_in x))
@@ -288,16 +295,16 @@ module _ (q : Emitting) (calls : Calls q.context.call) (R : Emission → Emitted
         (dims_in q.context w false v.dimensions (known_in x))
         (dims_moves (known_in x) q.context calls w v.dimensions)
         (λ a h. (h.0, declared_grows (known_in x) 0 0 n a.0 a.1 h.1)))
-        (λ a h. initial_follows w v.meant v.value (with_state (declare_variable n a.0 a.1) x)
+        (λ a h. initial_follows w here v.meant v.value (with_state (declare_variable n a.0 a.1) x)
         (kept x (declare_variable n a.0 a.1) p h.0)))
 
-    initial_signal_follows : (w : Where) (m : Meant) (value : SignalValue Meant) (x : Emission)
-        → Clear ns (known_in x)
+    initial_signal_follows : (w : Where) → IsHere q.context w → (m : Meant)
+        (value : SignalValue Meant) (x : Emission) → Clear ns (known_in x)
         → Twin (After x) (simple.initial_signal q.context w m value (known_in x))
         (emit_initial_signal q w m value x)
-    initial_signal_follows w m Nothing x p = quiet_follows R keeps (Clear ns) x p
-    initial_signal_follows w m (Given arrow e) x p =
-        wired_follows w (Left [] m done arrow e) m done arrow e x p
+    initial_signal_follows w here m Nothing x p = quiet_follows R keeps (Clear ns) x p
+    initial_signal_follows w here m (Given arrow e) x p =
+        wired_follows w here (Left [] m done arrow e) m done arrow e x p
 
     numbered_signal : (spot : Spot) (direction : Direction) (d : Signal Meant) (n : ℕ)
         (x : Emission) → Clear (n ∷ ns) (known_in x)
@@ -318,7 +325,7 @@ module _ (q : Emitting) (calls : Calls q.context.call) (R : Emission → Emitted
         (made_elements a.0)
         (with_state (declare_signal q.context spot direction n d.name a.0 a.1) x))
         _ _ (leaves.declared spot direction n d.name a.0 (with_state a.1 x) free.0)
-        (initial_signal_follows (at q.context spot) d.meant d.value (with_signal n
+        (initial_signal_follows (at q.context spot) (refl, refl) d.meant d.value (with_signal n
         (made_elements a.0)
         (with_state (declare_signal q.context spot direction n d.name a.0 a.1) x))
         (put_clear n ns _ a.1.frame.signals free.1 free.2)))
@@ -350,38 +357,39 @@ module _ (q : Emitting) (calls : Calls q.context.call) (R : Emission → Emitted
         known_follows R keeps (Clear ns) x (simple.dropped q.context w e) (λ s h. kept x s p h.0)
         (dropped_moves (known_in x) q.context calls w e)
 
-    slot_follows : (w : Where) (arrow : Arrow) (t : Slot Meant) (e : Expr Meant) (x : Emission)
-        → Clear ns (known_in x)
+    slot_follows : (w : Where) → IsHere q.context w → (arrow : Arrow) (t : Slot Meant)
+        (e : Expr Meant) (x : Emission) → Clear ns (known_in x)
         → Twin (After x) (simple.slot q.context w arrow t e (known_in x))
         (emit_slot q w arrow t e x)
-    slot_follows w arrow (SlotPlace name m accessors) e x p =
-        wired_follows w (Left name m accessors arrow e) m accessors arrow e x p
-    slot_follows w arrow SlotDiscard e x p = dropped_follows w e x p
+    slot_follows w here arrow (SlotPlace name m accessors) e x p =
+        wired_follows w here (Left name m accessors arrow e) m accessors arrow e x p
+    slot_follows w here arrow SlotDiscard e x p = dropped_follows w e x p
 
-    slots_follow : (w : Where) (arrow : Arrow) (ts : List (Slot Meant)) (es : List (Expr Meant))
-        (x : Emission) → Clear ns (known_in x)
+    slots_follow : (w : Where) → IsHere q.context w → (arrow : Arrow) (ts : List (Slot Meant))
+        (es : List (Expr Meant)) (x : Emission) → Clear ns (known_in x)
         → Twin (After x) (simple.slots q.context w arrow ts es (known_in x))
         (emit_slots q w arrow ts es x)
-    slots_follow w arrow [] es x p = quiet_follows R keeps (Clear ns) x p
-    slots_follow w arrow (t ∷ ts) [] x p = quiet_follows R keeps (Clear ns) x p
-    slots_follow w arrow (t ∷ ts) (e ∷ es) x p =
+    slots_follow w here arrow [] es x p = quiet_follows R keeps (Clear ns) x p
+    slots_follow w here arrow (t ∷ ts) [] x p = quiet_follows R keeps (Clear ns) x p
+    slots_follow w here arrow (t ∷ ts) (e ∷ es) x p =
         twin_then R keeps After after_joins (Clear ns) x
         (simple.slot q.context w arrow t e (known_in x)) (emit_slot q w arrow t e x) _ _
-        (slot_follows w arrow t e x p) (λ y i. slots_follow w arrow ts es y i)
+        (slot_follows w here arrow t e x p) (λ y i. slots_follow w here arrow ts es y i)
 
-    tuple_follows : (w : Where) (arrow : Arrow) (t : Target Meant) (es : List (Expr Meant))
-        (x : Emission) → Clear ns (known_in x)
+    tuple_follows : (w : Where) → IsHere q.context w → (arrow : Arrow) (t : Target Meant)
+        (es : List (Expr Meant)) (x : Emission) → Clear ns (known_in x)
         → Twin (After x) (simple.tuple q.context w arrow t es (known_in x))
         (emit_tuple q w arrow t es x)
-    tuple_follows w arrow Discard es x p =
+    tuple_follows w here arrow Discard es x p =
         each_follows R keeps (Clear ns) (simple.dropped q.context w)
         (λ e. emit_known (simple.dropped q.context w e)) es x p (dropped_follows w)
-    tuple_follows w arrow (Slots ts) es x p = slots_follow w arrow ts es x p
+    tuple_follows w here arrow (Slots ts) es x p = slots_follow w here arrow ts es x p
 
     -- a step that writes nothing
-    silent : (x : Emission) (s : State) (step : Step) → step.targets ≡ [] → step.line ≡ None
+    silent : (x : Emission) (s : State) (step : Step) → IsHere q.context step.place
+        → step.targets ≡ [] → step.line ≡ None
         → Steps 0 (known_in x) s → R x (one_step step (with_state s x))
-    silent x s step none unsaid h = leaves.fresh x (with_state s x) step record {
+    silent x s step here none unsaid h = leaves.fresh x (with_state s x) step record {
       count = 0;
       targets = none;
       line = subst (LineOf step.targets) (sym unsaid) tt;
@@ -391,16 +399,17 @@ module _ (q : Emitting) (calls : Calls q.context.call) (R : Emission → Emitted
       own = refl;
       parts = refl;
       bodies = refl;
-    }
+    } here
 
-    equal_follows : (w : Where) (a b : Expr Meant) (x : Emission) → Clear ns (known_in x)
+    equal_follows : (w : Where) → IsHere q.context w → (a b : Expr Meant) (x : Emission)
+        → Clear ns (known_in x)
         → Twin (After x) (simple.equal q.context w a b (known_in x)) (emit_equal q w a b x)
-    equal_follows w a b x p =
+    equal_follows w here a b x p =
         follows_made R keeps (Clear ns) (Steps 0 (known_in x)) x
         (simple.equal q.context w a b (known_in x)) _
         (equal_steps (known_in x) q.context calls w a b)
         (λ s made h. follows_ok R keeps (Clear ns) x s _
-        (refl, silent x s _ refl refl h, kept x s p h.0))
+        (refl, silent x s _ here refl refl h, kept x s p h.0))
 
   signals_follow : (spot : Spot) (direction : Direction) (ds : List (Signal Meant)) (ns : List ℕ)
       (x : Emission) → Clear (told_all ds ns) (known_in x)
@@ -419,7 +428,8 @@ module _ (q : Emitting) (calls : Calls q.context.call) (R : Emission → Emitted
       → Twin (After ns x) (simple.execute q.context spot a (known_in x)) (emit_execute q spot a x)
   execute_follows spot (Vars vs) ns x p =
       each_follows R keeps (Clear ns) (simple.variable_declaration q.context (at q.context spot))
-      (emit_variable q (at q.context spot)) vs x p (declared_follows ns (at q.context spot))
+      (emit_variable q (at q.context spot)) vs x p
+      (declared_follows ns (at q.context spot) (refl, refl))
   execute_follows spot (Signals direction ds) ns x p = signals_follow spot direction ds ns x p
   execute_follows spot (Declared cs) ns x p =
       each_follows R keeps (Clear ns) (simple.component_declaration q.context (at q.context spot))
@@ -437,10 +447,11 @@ module _ (q : Emitting) (calls : Calls q.context.call) (R : Emission → Emitted
       (created_follows ns (at q.context spot) n done e
       (with_state (declare_component n name [] (known_in x)) x) p))
   execute_follows spot (Assigned a) ns x p =
-      assigned_follows ns (at q.context spot) a (plain a) x p
-  execute_follows spot (Constrain a b) ns x p = equal_follows ns (at q.context spot) a b x p
+      assigned_follows ns (at q.context spot) (refl, refl) a (plain a) x p
+  execute_follows spot (Constrain a b) ns x p =
+      equal_follows ns (at q.context spot) (refl, refl) a b x p
   execute_follows spot (TargetLeft target arrow source) ns x p =
-      tuple_follows ns (at q.context spot) arrow target (simple.values_of source) x p
+      tuple_follows ns (at q.context spot) (refl, refl) arrow target (simple.values_of source) x p
   execute_follows spot (Right e arrow name m accessors) ns x p = twin_bad (After ns x) _ _
   execute_follows spot (TargetRight source arrow target) ns x p = twin_bad (After ns x) _ _
   execute_follows spot (Alone parallel name m arguments inputs) ns x p = twin_bad (After ns x) _ _
@@ -514,7 +525,7 @@ module _ (q : Emitting) (calls : Calls q.context.call) (R : Emission → Emitted
             own = refl;
             parts = refl;
             bodies = refl;
-          },
+          } (refl, refl),
           kept ns x s p h.0,
         )))
 
@@ -576,11 +587,11 @@ module _ (q : Emitting) (calls : Calls q.context.call) (R : Emission → Emitted
         (statement.turns n q.context spot c body unknown) (emit_turns n q spot c made other)
         (h z j) (turns_follow n spot c body unknown made other h g))) g spot c x p
 
-    assert_value_follows : (w : Where) (e : Expr Meant) (v : Value) (s : State) (x : Emission)
-        → Clear ns (known_in x) → Moves (known_in x) s
+    assert_value_follows : (w : Where) → IsHere q.context w → (e : Expr Meant) (v : Value)
+        (s : State) (x : Emission) → Clear ns (known_in x) → Moves (known_in x) s
         → Twin (After ns x) (assert_value q.context w e (known_in x) v s)
         (emit_assert_value q w e v s x)
-    assert_value_follows w e v s x p h =
+    assert_value_follows w here e v s x p h =
         follows_made R keeps (Clear ns)
         (λ t. Still (known_in x) t × Asserted (known_in x) 0 0 q.context calls v t) x
         (assert_value q.context w e (known_in x) v s) _
@@ -590,8 +601,11 @@ module _ (q : Emitting) (calls : Calls q.context.call) (R : Emission → Emitted
         stepped : (s1 : State) → Still (known_in x) s1 → Grows (0 + 0) (0 + 1) (known_in x) s1
             → Twin (After ns x) (Ok s1) (make_assertion q.context w e s1 x)
         stepped s1 i g =
-            follows_ok R keeps (Clear ns) x s1 _
-            (refl, silent ns x s1 _ refl refl (steps_of 0 (known_in x) s1 i g), kept ns x s1 p i)
+            follows_ok R keeps (Clear ns) x s1 _ (
+              refl,
+              silent ns x s1 _ here refl refl (steps_of 0 (known_in x) s1 i g),
+              kept ns x s1 p i,
+            )
 
         at : (s1 : State) → Still (known_in x) s1 → (v : Value)
             → Asserted (known_in x) 0 0 q.context calls v s1
@@ -627,7 +641,7 @@ module _ (q : Emitting) (calls : Calls q.context.call) (R : Emission → Emitted
             twin_then R keeps AfterFlow flows_join (Clear ns) x
             (assert_value q.context at_spot e (known_in x) (the_item a.0) a.1)
             (emit_assert_value q at_spot e (the_item a.0) a.1 x) _ (emit_counted q spot)
-            (assert_value_follows at_spot e (the_item a.0) a.1 x p h)
+            (assert_value_follows at_spot (refl, refl) e (the_item a.0) a.1 x p h)
             (λ y i. twin_goes R keeps (Clear ns) y _ _ (counted_follows ns spot y i))
         at (Err f) h = twin_bad (AfterFlow x) _ _
 
@@ -654,7 +668,7 @@ module _ (q : Emitting) (calls : Calls q.context.call) (R : Emission → Emitted
             own = refl;
             parts = refl;
             bodies = refl;
-          },
+          } (refl, refl),
           kept ns x s p h.0,
         )))
         (λ y i. twin_goes R keeps (Clear ns) y _ _ (counted_follows ns spot y i))

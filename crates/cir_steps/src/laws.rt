@@ -66,6 +66,14 @@ pub fn lines_have_numbers_of_their_steps()
         AreLinesOf b.steps }
 {}
 
+/// Each step of a circuit stands in an instance of the program that compiles: the path of the
+/// instance of its number is the path of its place.
+pub fn steps_stand_in_instances()
+    ensures { (p : Program) (c : Compiled) (b : Circuit) (i : ℕ) (step : Step) → IsResolved p
+        → compiled p ≡ Ok c → circuit_of p ≡ Ok b → slice_get b.steps i ≡ Some step
+        → slice_get c.instances step.place.instance ≡ Some step.place.path }
+{}
+
 /// The steps that are made of a component's body do what the body does when it runs, with as many
 /// units for each statement, from cells that have the numbers of its inputs. Where the body ends,
 /// the steps end with its numbers in the cells of its signals, and of those of the components in
