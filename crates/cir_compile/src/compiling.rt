@@ -1,10 +1,14 @@
-ghost use Rattle.std.specs.Prelude.{◌≡◌, ◌+◌, ◌≤◌, All, IfOk, length, map};
+ghost use Rattle.std.specs.Prelude.{◌≡◌, ◌+◌, ◌≤◌, ◌↔◌, All, IfOk, Ok, length, map};
 ghost use Rattle.std.specs.Option.{option_copied};
 ghost use Rattle.out_io.specs.Faults.{Rose};
+ghost use Rattle.gold_field.specs.Form.{Holds};
 ghost use Rattle.iden_files.specs.File.{InLimits};
 ghost use Rattle.out_io.specs.Calls.{OnlyReads};
 ghost use Rattle.cir_ast.specs.Program.{bare_main, bare_program};
 ghost use Rattle.cir_checks.specs.Checked.{IsChecked};
+ghost use Rattle.cir_lc.specs.Number.{Assignment};
+ghost use Rattle.cir_inst.specs.Compiled.{Instantiates, IsWithinLimits};
+ghost use Rattle.cir_meaning.specs.Compile.{Satisfies};
 ghost use Rattle.cir_meaning.specs.SignalFree.{AreFunctionsFree};
 ghost use Rattle.cir_simplify.specs.Answer.{Simplifies};
 ghost use Rattle.cir_simplify.specs.Index.{IsGood};
@@ -43,19 +47,37 @@ pub fn compile<S: Store>(
         (S.never_fails store.old) (S.never_fails store.new) }
 {
     let program = load(alloc, store, name, library)?;
-    let file = written(alloc, program, level)?;
+    let file = written(alloc, &program, level)?;
     Ok(file)
 }
 
 /// The file of the constraints of a program.
-fn written(alloc: Global, program: Program, level: Level) -> Result<R1cs, CompileFault>
-    requires checked { IsChecked (bare_program program) }
-    requires free { AreFunctionsFree (bare_program program) }
-    ensures writes { Writes (bare_program program) level result }
+fn written(alloc: Global, program: &Program, level: Level) -> Result<R1cs, CompileFault>
+    requires checked { IsChecked (bare_program program.now) }
+    requires free { AreFunctionsFree (bare_program program.now) }
+    ensures writes { Writes (bare_program program.now) level result }
     ensures limits { IfOk result InLimits }
 {
-    let circuit = instantiate(alloc, &program)?;
-    let simple = match simple_of(alloc, &circuit, level) {
+    let circuit = instantiate(alloc, program)?;
+    file_from(alloc, program, &circuit, level)
+}
+
+/// The file of the constraints of a program's circuit, simplified at the level. Too many terms in
+/// simplification are refused at the statement of the main component.
+pub fn file_from(
+    alloc: Global,
+    program: &Program,
+    circuit: &Circuit,
+    level: Level,
+) -> Result<R1cs, CompileFault>
+    requires meaning { Instantiates (bare_program program.now) (Ok circuit.now) }
+    requires satisfied { (s : Assignment)
+        → Satisfies (bare_program program.now) s ↔ All (Holds s.at) circuit.now.constraints }
+    requires fits { IsWithinLimits circuit.now }
+    ensures writes { Writes (bare_program program.now) level result }
+    ensures limits { IfOk result InLimits }
+{
+    let simple = match simple_of(alloc, circuit, level) {
         Ok(simple) => simple,
         Err(SimpFault::Terms { count }) => {
             let kind = Kind::Limit {
@@ -68,7 +90,7 @@ fn written(alloc: Global, program: Program, level: Level) -> Result<R1cs, Compil
         }
         Err(SimpFault::OutOfMemory) => return Err(CompileFault::OutOfMemory),
     };
-    let file = file_of(alloc, &circuit, simple)?;
+    let file = file_of(alloc, circuit, simple)?;
     Ok(file)
 }
 

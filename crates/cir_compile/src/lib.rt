@@ -7,5 +7,5 @@ mod file;
 pub mod laws;
 
 pub use cir_simplify::Level;
-pub use compiling::compile;
+pub use compiling::{compile, file_from};
 pub use fault::CompileFault;

@@ -218,7 +218,7 @@ module _ (functions room : ℕ) (final : Sizes) (q : Emitting) (keeps : CallKeep
         (λ h. dims_kept k Fit false
         (λ w want e s h. (keeping room k keeps fine).value w false want e s h) w es s h);
     variable = λ n dims f s h. (h.0, λ g. (keeping room k keeps fine).variable n dims s (h.1 g));
-    component = λ n name dims s. ((refl, refl, refl), λ h. h);
+    component = λ n name dims s. ((refl, refl, refl, refl), λ h. h);
     components = λ w c s. turns s (λ t. t) _ (component_still s k keeps w c s (still_itself s))
         (component_keeps k (keeping room k keeps fine) w c s);
     dropped = λ w e s. turns s (λ t. t) _ (dropped_still s k keeps w e s (still_itself s))

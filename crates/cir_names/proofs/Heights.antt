@@ -1,6 +1,6 @@
 -- Names that get their meanings leave a tree xs high xs it is.
-use Rattle.std.proofs.Common.{◌≡◌, ◌∙◌, ℕ, ◌+◌, max, List, [], ◌∷◌, map, Option, Some, None, Ok}
-use Rattle.std.proofs.Common.{Err, refl, ap}
+use Rattle.std.proofs.Common.{◌≡◌, ℕ, ◌+◌, max, List, [], ◌∷◌, map, Option, Some, None, Ok}
+use Rattle.std.proofs.Common.{Err, refl}
 use Rattle.cir_ast.specs.declared.operators.Direction.{Direction}
 use Rattle.cir_ast.specs.declared.program.Meant.{Meant}
 use Rattle.cir_ast.specs.declared.program.Meant.TheVariants as meant
@@ -22,7 +22,7 @@ use Rattle.cir_ast.specs.Height.{signal_value_height, signal_height}
 use Rattle.cir_ast.specs.Height.{component_height, assign_height, first_height, argument_height}
 use Rattle.cir_ast.specs.Height.{slot_height, target_height, source_height, simple_height}
 use Rattle.cir_ast.specs.Height.{statement_height, statements_height}
-use Rattle.cir_resolve.specs.Steps.{Step, behind, made, in_turn}
+use Rattle.cir_resolve.specs.Steps.{behind, made, in_turn}
 use Rattle.cir_resolve.specs.Scope.{State, entered, Naming, closed, within, declared}
 use Rattle.cir_resolve.specs.Naming.{named_expr, named_exprs, named_accessors, named_inputs}
 use Rattle.cir_resolve.specs.Naming.{named_each, named_value, named_signal_value, named_variable}

@@ -1,15 +1,15 @@
 -- No definition of a loaded program is higher than a tree may be.
-use Rattle.std.proofs.Common.{◌≡◌, ◌∙◌, ℕ, ◌+◌, ◌≤◌, max, Bool, true, false, cond, List, [], ◌∷◌}
-use Rattle.std.proofs.Common.{◌++◌, Result, Ok, Err, refl, ap, sym, subst, arith}
-use Rattle.std.specs.Prelude.{map, if◌then◌else◌}
-use Rattle.std.specs.List.{AllByRecursion, flat_map}
+use Rattle.std.proofs.Common.{◌≡◌, ◌∙◌, ℕ, ◌+◌, ◌≤◌, max, Bool, true, false, List, [], ◌∷◌}
+use Rattle.std.proofs.Common.{◌++◌, Result, Ok, Err, ap, sym, subst, arith}
+use Rattle.std.specs.Prelude.{if◌then◌else◌}
+use Rattle.std.specs.List.{AllByRecursion}
 use Rattle.cir_ast.specs.declared.program.Meant.{Meant}
 use Rattle.cir_ast.specs.declared.program.Spot.{Spot}
 use Rattle.cir_ast.specs.Tree as tree
 use Rattle.cir_ast.specs.Tree.{Item, File, Statements}
 use Rattle.cir_ast.specs.Plain.{plain_exprs, plain_statements, plain_item, plain_file}
 use Rattle.cir_ast.specs.Height.{exprs_height, statements_height, block_height, item_height}
-use Rattle.cir_ast.specs.Height.{highest, height}
+use Rattle.cir_ast.specs.Height.{height}
 use Rattle.cir_ast.specs.Program.{Template, Function, Main}
 use Rattle.cir_resolve.specs.Steps.{Step, behind, made, in_turn}
 use Rattle.cir_resolve.specs.Scope.{Lookup, nothing, State, opening, Naming}

@@ -1,5 +1,5 @@
 -- Over the same files a name has one program, or one refusal.
-use Rattle.std.proofs.Common.{◌≡◌, ℕ, List, Option, None, Some, Result, Ok, Err, sym, ap, ◌∙◌, ◌⊎◌}
+use Rattle.std.proofs.Common.{◌≡◌, ℕ, List, Option, None, Some, Result, Ok, sym, ap, ◌∙◌}
 use Rattle.std.proofs.Common.{inl, inr}
 use Rattle.std.specs.Prelude.{map}
 use Rattle.out_io.specs.Contents.{Contents}
@@ -12,7 +12,6 @@ use Rattle.cir_resolve.specs.declared.stop.Found.{Found as Place}
 use Rattle.cir_resolve.specs.Definitions.{Definition, resolved}
 use Rattle.cir_checks.specs.Checks.{first_fault, program_with}
 use Rattle.cir_sources.specs.Includes.{Source}
-use Rattle.cir_sources.specs.Loading.{AreAll}
 use Rattle.cir_sources.proofs.OneLoading.{one_list, one_refusal, all_or_refused, there_or_all}
 use Rattle.cir_sources.proofs.OneLoading.{there_or_refused}
 use Rattle.cir_names.specs.Programs.{definitions_from, names_of, AreTrees, name_fault, refusal_of}

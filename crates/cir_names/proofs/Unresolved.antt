@@ -1,7 +1,7 @@
 -- Sources of the same trees have the same resolved definitions, whatever their names carried
 -- before.
-use Rattle.std.proofs.Common.{◌≡◌, ◌∙◌, ℕ, ◌+◌, ◌==◌, Bool, cond, List, [], ◌∷◌, ◌++◌, length}
-use Rattle.std.proofs.Common.{Option, Some, None, Result, Ok, Err, refl, ap, sym}
+use Rattle.std.proofs.Common.{◌≡◌, ◌∙◌, ℕ, ◌+◌, Bool, List, [], ◌∷◌, ◌++◌}
+use Rattle.std.proofs.Common.{Result, Ok, Err, refl, ap, sym}
 use Rattle.std.specs.Prelude.{map, if◌then◌else◌}
 use Rattle.std.proofs.lemmas.List.{map-append}
 use Rattle.cir_ast.specs.declared.program.Meant.{Meant}
@@ -13,8 +13,8 @@ use Rattle.cir_ast.specs.Plain.{PlainExprs, PlainStatements, PlainItem, PlainFil
 use Rattle.cir_ast.specs.Plain.{plain_statements, plain_item, plain_file}
 use Rattle.cir_ast.specs.Program.{Template, Function, Main}
 use Rattle.cir_resolve.specs.Steps.{Step, behind, made, in_turn}
-use Rattle.cir_resolve.specs.Scope.{Lookup, nothing, State, opening, called_at, Naming}
-use Rattle.cir_resolve.specs.Naming.{named_exprs, named_statements}
+use Rattle.cir_resolve.specs.Scope.{Lookup, nothing, opening, called_at, Naming}
+use Rattle.cir_resolve.specs.Naming.{named_exprs}
 use Rattle.cir_resolve.specs.declared.stop.Found.{Found}
 use Rattle.cir_resolve.specs.Definitions.{Definition, IsTemplate, IsFunction, IsMain}
 use Rattle.cir_resolve.specs.Definitions.{definitions_in, definitions_of, Numbers, first_numbers}

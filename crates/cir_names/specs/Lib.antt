@@ -1,3 +1,4 @@
 pub mod Programs
 pub mod Splitting
 pub mod Loading
+pub mod Resting

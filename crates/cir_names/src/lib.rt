@@ -8,4 +8,4 @@ mod loading;
 mod splitting;
 
 pub use cir_sources::{LoadFault, MAX_FILES, MAX_SOURCE};
-pub use loading::load;
+pub use loading::{Known, Loaded, load, load_all};

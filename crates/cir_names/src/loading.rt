@@ -5,11 +5,12 @@ ghost use Rattle.out_io.specs.Calls.{OnlyReads};
 ghost use Rattle.out_io.specs.Faults.{Rose};
 ghost use Rattle.cir_ast.specs.Program.{bare_program};
 ghost use Rattle.cir_checks.specs.Checked.{IsChecked};
-ghost use Rattle.cir_sources.specs.Includes.{seen};
+ghost use Rattle.cir_sources.specs.Includes.{is_among, seen};
 ghost use Rattle.cir_sources.specs.Loading.{AreSources};
 ghost use Rattle.cir_sources.specs.Steps.{Refuses};
 ghost use Rattle.cir_names.specs.Loading.{Loads, Checks, IsOfSources};
 ghost use Rattle.cir_names.specs.Programs.{refusal_of};
+ghost use Rattle.cir_names.specs.Resting.{LoadsAll, RestsOn};
 
 use crate::gathering::gather;
 use crate::splitting::program_with;
@@ -17,9 +18,52 @@ use cir_ast::program::Program;
 use cir_ast::{Kind, Refusal, Text};
 use cir_checks::{Fault, Found, checks};
 use cir_resolve::{Stop, resolve};
-use cir_sources::{LoadFault, Source, sources};
+use cir_sources::{LoadFault, Reached, Source, reach};
 use out_io::Store;
 use std::alloc::{AllocError, Global};
+use std::collections::BTreeSet;
+
+/// A loaded program, and the names that were asked for and have no file.
+#[derive(Drop)]
+pub struct Loaded {
+    pub program: Program,
+    pub missing: BTreeSet<String>,
+}
+
+/// What is known of a file once a program is loaded.
+#[derive(Clone, Copy)]
+pub enum Known {
+    /// It is one of the program's.
+    Source,
+    /// It was asked for, and there is none.
+    Missing,
+    /// It wasn't asked for.
+    Nothing,
+}
+
+impl Loaded {
+    ghost use Rattle.cir_names.specs.Resting.{IsKnown};
+
+    /// What is known of the file under the name.
+    pub fn known(&self, name: &str) -> Known
+        ensures { IsKnown self.now.missing self.now.program.files name.now result }
+    {
+        if is_among(self.program.files.as_slice(), name.as_bytes()) {
+            Known::Source
+        } else if self.missing.contains(name) {
+            Known::Missing
+        } else {
+            Known::Nothing
+        }
+    }
+}
+
+// Whether the name is one of these.
+fn is_among(names: &[Text], name: &[u8]) -> bool
+    ensures { result ≡ is_among names.now name.now }
+{
+    names.iter().any(|n| n.as_slice() == name)
+}
 
 /// The program of the file with this name and of all files that it includes, beside it or in the
 /// folder of libraries; or its first refusal.
@@ -37,9 +81,33 @@ pub fn load<S: Store>(
         (S.faults store.old) (S.faults store.new) (S.never_fails store.old)
         (S.never_fails store.new) }
 {
-    let sources = sources(alloc, store, name, library)?;
+    match load_all(alloc, store, name, library) {
+        Ok(loaded) => Ok(loaded.program),
+        Err(fault) => Err(fault),
+    }
+}
+
+/// The same, with the names that were asked for and have no file.
+pub fn load_all<S: Store>(
+    alloc: Global,
+    store: &mut S,
+    name: &str,
+    library: Option<&str>,
+) -> Result<Loaded, LoadFault>
+    ensures loads { LoadsAll (S.contents store.old) name.now (option_copied library.entry)
+        (Rose (S.faults store.old) (S.faults store.new)) result }
+    ensures checked { IfOk result (λ l. IsChecked (bare_program l.program)) }
+    ensures theirs { IfOk result (λ l. IsOfSources (bare_program l.program)) }
+    ensures rests { IfOk result (λ l. RestsOn name.now (option_copied library.entry) l.missing
+        (bare_program l.program)) }
+    ensures store { OnlyReads (S.contents store.old) (S.contents store.new)
+        (S.faults store.old) (S.faults store.new) (S.never_fails store.old)
+        (S.never_fails store.new) }
+{
+    let reached = reach(alloc, store, name, library)?;
+    let Reached { sources, missing } = reached;
     let program = program(alloc, sources)?;
-    Ok(program)
+    Ok(Loaded { program, missing })
 }
 
 fn program(alloc: Global, sources: Vec<Source>) -> Result<Program, LoadFault>

@@ -7,3 +7,4 @@ pub mod Reaching
 pub mod Following
 pub mod Program
 pub mod OneLoading
+pub mod Resting

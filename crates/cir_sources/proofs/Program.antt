@@ -29,6 +29,7 @@ use Rattle.cir_sources.specs.declared.fault.LoadFault.TheVariants as fault
 use Rattle.cir_sources.specs.Includes.{IsRead, IsSource, Source, chosen, held, includes_of}
 use Rattle.cir_sources.specs.Includes.{is_among, seen}
 use Rattle.cir_sources.specs.Loading.{Loads, AreAll, IsFirstFault, IsIncludeFault, IsDecoded}
+use Rattle.cir_sources.specs.Resting.{RestOn}
 use Rattle.cir_sources.specs.Steps.{Adds, AreApart, AreMissing, ArePossible, Begins, CannotFollow}
 use Rattle.cir_sources.specs.Steps.{Decodes}
 use Rattle.cir_sources.specs.Steps.{Follows, IsBad, IsFollowed, IsLoading, IsThere, Knows, Leads}
@@ -415,12 +416,32 @@ goes_on contents now name library old site new left same loading top
 pub ends : (contents : Option Contents) (name : List ℕ) (library : Option (List ℕ))
     (names missing : BTreeSet (String Global)) (all : List Source) (left : List Site)
     → IsLoading contents name library names missing all left → left ≡ []
-    → Told contents (λ files. AreAll files name library all)
+    → Told contents (λ files. AreAll files name library all × AreMissing files missing)
 ends contents name library names missing all left loading none =
-    told_on contents (λ files. Knows files all missing) (λ files. AreAll files name library all)
-    (λ files knows. let P : List Site → Type 0 = Leads files name library all in
-    leads_all files name library all loading.sources.few (subst P none (loading.leads files knows)))
+    told_on contents (λ files. Knows files all missing)
+    (λ files. AreAll files name library all × AreMissing files missing)
+    (λ files knows. let P : List Site → Type 0 = Leads files name library all in (
+      leads_all files name library all loading.sources.few
+          (subst P none (loading.leads files knows)),
+      knows.missing_are,
+    ))
     (known_told contents name library names missing all left loading)
+
+pub rests : (contents : Option Contents) (name : List ℕ) (library : Option (List ℕ))
+    (names missing : BTreeSet (String Global)) (all : List Source) (left : List Site)
+    → IsLoading contents name library names missing all left → left ≡ []
+    → RestOn name library missing all
+rests contents name library names missing all left loading none = record {
+  apart = λ q e. sym (loading.names_are q) ∙ loading.apart q e;
+  files = loading.possible.files;
+  sources = loading.possible.sources;
+  others = λ q e. loading.possible.others q (loading.names_are q ∙ e);
+  leads = λ files sources missing_are.
+      let P : List Site → Type 0 = Leads files name library all in
+      leads_all files name library all loading.sources.few
+      (subst P none
+      (loading.leads files (record { sources = sources; missing_are = missing_are })));
+}
 
 -- a file more, or an include less
 pub gets_smaller : (contents : Option Contents) (library : Option (List ℕ)) (old new : Loading)

@@ -6,6 +6,7 @@ ghost use Rattle.cir_sources.specs.Includes.{seen};
 ghost use Rattle.out_io.specs.Calls.{OnlyReads};
 ghost use Rattle.cir_sources.specs.Limits.{most_files};
 ghost use Rattle.cir_sources.specs.Loading.{Loads, AreSources};
+ghost use Rattle.cir_sources.specs.Resting.{Reaches, RestOn};
 ghost use Rattle.cir_sources.specs.Steps.{Adds, Begins, Follows, all_of};
 
 use crate::decode;
@@ -102,6 +103,13 @@ impl Loading {
     }
 }
 
+/// The source files of a program, and the names that were asked for and have no file.
+#[derive(Drop)]
+pub struct Reached {
+    pub sources: Vec<Source>,
+    pub missing: BTreeSet<String>,
+}
+
 /// The source files of the program whose first file has this name: the ones that it reaches by
 /// includes, depth first, each once. An include's file is looked for beside its own file, and then
 /// in the folder of libraries.
@@ -118,6 +126,28 @@ pub fn sources<S: Store>(
         (S.faults store.old) (S.faults store.new) (S.never_fails store.old)
         (S.never_fails store.new) }
 {
+    match reach(alloc, store, name, library) {
+        Ok(reached) => Ok(reached.sources),
+        Err(fault) => Err(fault),
+    }
+}
+
+/// The same, with the names that were asked for and have no file.
+pub fn reach<S: Store>(
+    alloc: Global,
+    store: &mut S,
+    name: &str,
+    library: Option<&str>,
+) -> Result<Reached, LoadFault>
+    ensures reaches { Reaches (S.contents store.old) name.now (option_copied library.entry)
+        (Rose (S.faults store.old) (S.faults store.new)) result }
+    ensures read { IfOk result (λ r. AreSources (map seen r.sources.items)) }
+    ensures rest { IfOk result (λ r.
+        RestOn name.now (option_copied library.entry) r.missing (map seen r.sources.items)) }
+    ensures store { OnlyReads (S.contents store.old) (S.contents store.new)
+        (S.faults store.old) (S.faults store.new) (S.never_fails store.old)
+        (S.never_fails store.new) }
+{
     let Some(bytes) = store.read(alloc, name)? else {
         return Err(LoadFault::Missing);
     };
@@ -128,6 +158,10 @@ pub fn sources<S: Store>(
     while let Some(site) = loading.pending.pop() {
         loading.follow(alloc, store, library, &site)?;
     }
-    let Loading { sources, .. } = loading;
-    Ok(sources)
+    let Loading {
+        sources,
+        missing,
+        ..
+    } = loading;
+    Ok(Reached { sources, missing })
 }

@@ -15,6 +15,7 @@ mod stop;
 
 pub use audit::audit_reply;
 pub use check::check_reply;
+pub use inputs::bytes_in;
 pub use laws::check_laws;
 pub use outcome::{Generated, Halt, Ran};
 pub use prove::prove_reply;

@@ -1,6 +1,6 @@
 -- What the words on the command line ask for.
 use Rattle.std.specs.Prelude.{◌==◌, ℕ, Bool, true, false, List, [], ◌∷◌, map, Option, Some, None}
-use Rattle.std.specs.Prelude.{String, string_bytes, if◌then◌else◌, codes}
+use Rattle.std.specs.Prelude.{String, string_bytes, if◌then◌else◌, is_some, codes}
 use Rattle.std.specs.Option.{option_map, option_map_or, option_and_then}
 use Rattle.std.specs.Result.{result_ok}
 use Rattle.std.specs.Str.{bytes_eq}
@@ -223,9 +223,15 @@ abbrev pub run_command_of : List (List ℕ) → Option Command
 run_command_of [] = None
 run_command_of (name ∷ others) = option_and_then (run_reading (name ∷ others)) (run_word name)
 
--- the reading of the words, None where they have none: of the commands that are built
+-- which command that runs a circuit the first word names, if it does
+abbrev pub first_run_word : List (List ℕ) → Option RunWord
+first_run_word [] = None
+first_run_word (name ∷ others) = run_word name
+
+-- the reading of the words, None where they have none
 abbrev pub command_of : List (List ℕ) → Option Command
-command_of words = plain_command_of words
+command_of words =
+    if is_some (first_run_word words) then run_command_of words else plain_command_of words
 
 -- what the program's own values for options and commands stand for
 abbrev pub meant_options : AskedOptions → Options

@@ -195,8 +195,8 @@ pub fn usage_line(alloc: Global) -> Result<Vec<u8>, AllocError>
     line(
         alloc,
         &[
-            b"usage: circom_gold check, compile, witness, prove, public, audit, sym, batch, series, ",
-            b"determine, confirm or generate",
+            b"usage: circom_gold check, compile, witness, prove, public, audit, sym, batch, ",
+            b"series, determine, confirm or generate",
         ],
     )
 }

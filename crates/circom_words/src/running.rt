@@ -1,9 +1,9 @@
 //! The commands that run a circuit.
 
-ghost use Rattle.std.specs.Prelude.{◌≡◌, ◌≤◌, IfOk, IfSome, option_map};
+ghost use Rattle.std.specs.Prelude.{◌≡◌, ◌≤◌, IfOk, IfSome, is_some, option_map};
 ghost use Rattle.circom_words.specs.Matches.{rows_in};
 ghost use Rattle.circom_words.specs.Words.{texts, run_command_of, run_reading, run_in};
-ghost use Rattle.circom_words.specs.Words.{meant_run};
+ghost use Rattle.circom_words.specs.Words.{first_run_word, meant_run};
 ghost use Rattle.circom_words.specs.Words.{witness_in, generate_in};
 
 use crate::names::RunWord;
@@ -31,6 +31,16 @@ pub enum RunCommand<'w> {
 
 impl<'w> RunCommand<'w> {
     ghost use Rattle.circom_words.specs.Ranges.{HasRanges};
+
+    /// Whether the first word names such a command.
+    pub fn is_named(words: &[String]) -> bool
+        ensures { result ≡ is_some (first_run_word (texts words.now)) }
+    {
+        match words {
+            [name, ..] => RunWord::of(name.as_str()).is_some(),
+            [] => false,
+        }
+    }
 
     /// `None` exactly where the words are no reading of such a command.
     pub fn of(alloc: Global, words: &'w [String]) -> Result<Option<RunCommand<'w>>, AllocError>

@@ -1,7 +1,8 @@
 -- What an input gives: as many numbers of the field as main's inputs have elements.
-use Rattle.std.proofs.Common.{◌≡◌, ◌∙◌, ◌==◌, ℕ, ◌+◌, ◌-◌, ◌%◌, ◌<◌, suc, Bool, true, false, List}
-use Rattle.std.proofs.Common.{[], ◌∷◌, ◌++◌, All, length, Option, Some, None, Result, Ok, Err, refl}
-use Rattle.std.proofs.Common.{ap, subst, if◌then◌else◌, length-append, arith, ℤ, pos, negsuc, ok_or}
+use Rattle.std.proofs.Common.{sym, ◌≡◌, ◌∙◌, ◌==◌, ℕ, ◌+◌, ◌-◌, ◌%◌, ◌<◌, suc, Bool, true, false}
+use Rattle.std.proofs.Common.{List, [], ◌∷◌, ◌++◌, All, length, Option, Some, None, Result, Ok, Err}
+use Rattle.std.proofs.Common.{refl, ap, subst, if◌then◌else◌, length-append, arith, ℤ, pos, negsuc}
+use Rattle.std.proofs.Common.{ok_or}
 use Rattle.std.proofs.lemmas.Bool.Decides.{Decides-eqb}
 use Rattle.std.proofs.lemmas.List.Elements.{All-nil, All-cons, All-append}
 use Rattle.std.specs.Prelude.{sum_by}
@@ -170,3 +171,29 @@ input_counted bytes inputs ns e =
     let found = two_steps (ok_or (option_and_then as_object (json_of bytes)) NotJson)
     (λ members. given inputs members) (1 ∷ ns) e in
     given_counted found.0 inputs ns found.2
+
+-- the first number is 1
+module _ (members : Members) where
+  given_first : (inputs : List InputShape) (ns : List ℕ) → given inputs members ≡ Ok ns
+      → (ms : List ℕ) × (ns ≡ 1 ∷ ms)
+  given_first inputs ns e =
+      let known = λ (u : Unit {0}). unless (unknown (is_input inputs) members) >>= λ v.
+      unless (first_fault (wrong_count members) 0 inputs) >>= λ w.
+      all_numbers members 0 inputs >>= λ numbers. Ok (1 ∷ numbers) in
+      let a = two_steps (unless (first_fault (missing members) 0 inputs)) known ns e in
+      let b = two_steps (unless (unknown (is_input inputs) members))
+      (λ v. unless (first_fault (wrong_count members) 0 inputs) >>= λ w.
+      all_numbers members 0 inputs >>= λ numbers. Ok (1 ∷ numbers)) ns a.2 in
+      let c = two_steps (unless (first_fault (wrong_count members) 0 inputs))
+      (λ w. all_numbers members 0 inputs >>= λ numbers. Ok (1 ∷ numbers)) ns b.2 in
+      let d = two_steps (all_numbers members 0 inputs) (λ numbers. Ok (1 ∷ numbers)) ns c.2 in
+      let same : 1 ∷ d.0 ≡ ns = cc in
+      (d.0, sym same)
+
+pub input_first : (bytes : List ℕ) (inputs : List InputShape) (ns : List ℕ)
+    → input_of bytes inputs ≡ Ok ns → (ms : List ℕ) × (ns ≡ 1 ∷ ms)
+unfolding input_of
+input_first bytes inputs ns e =
+    let found = two_steps (ok_or (option_and_then as_object (json_of bytes)) NotJson)
+    (λ members. given inputs members) ns e in
+    given_first found.0 inputs ns found.2

@@ -4,3 +4,4 @@ pub mod Nested
 pub mod Members
 pub mod Steps
 pub mod InputNumbers
+pub mod NoObject

@@ -14,6 +14,7 @@ use Rattle.wit_flow.specs.Cells.{held}
 use Rattle.wit_flow.specs.Cut.{CanCut}
 use Rattle.wit_flow.specs.OneThread.{IsOutcome}
 use Rattle.cir_ast.specs.Program.{Program}
+use Rattle.cir_meaning.specs.Tried.{Where}
 use Rattle.cir_meaning.specs.Run.{RunTried, Rejected, Stopped as StoppedSo}
 use Rattle.cir_meaning.specs.RunBodies.{Ending, ran}
 use Rattle.cir_meaning.specs.Scoped.{IsResolved}
@@ -22,6 +23,7 @@ use Rattle.cir_steps.specs.Step.{Step}
 use Rattle.cir_steps.specs.RunSteps.{in_cell}
 use Rattle.cir_steps.specs.Circuit.{Circuit}
 use Rattle.cir_steps.specs.Places.{ArePlacesMeant}
+use Rattle.cir_steps.proofs.InstanceLaw.{instances_stand}
 use Rattle.cir_steps.proofs.StartLaw.{starts_counted}
 use Rattle.wit_circuit.specs.declared.code.CircuitCode.{CircuitCode}
 use Rattle.wit_circuit.specs.declared.code.StepPlace.{StepPlace}
@@ -64,6 +66,11 @@ numbers_are values (c ∷ cs) all =
 abbrev HasValues : RunTried Ending → Type 0
 HasValues r = (e : Ending) → r ≡ Ok e → All (λ o. is_some o ≡ true) e.values
 
+-- each step stands in the instance of its number
+abbrev AreIn : List (List ℕ) → List Step → Type 0
+AreIn instances steps = (i : ℕ) (s : Step) → slice_get steps i ≡ Some s
+    → slice_get instances s.place.instance ≡ Some s.place.path
+
 module _ (p : Program) (b : Circuit) (code : CircuitCode) (made : StandsFor p b code) where
   as_many : length code.places ≡ length b.steps
   as_many = ap length made.places ∙ length-map b.steps (λ (s : Step). place_of s.place)
@@ -90,37 +97,42 @@ module _ (p : Program) (b : Circuit) (code : CircuitCode) (made : StandsFor p b 
   has_place (Refused n stop cells) (Err (StoppedSo number w log)) h =
       let near = slice_get_within b.steps n h.0 h.1.there in omega (arith, as_many)
 
-  pub is_end : (o : Outcome) (r : RunTried Ending) (e : RunEnd) → Tells b o r → HasValues r
-      → EndsBy code o e → IsEndOf e r
-  is_end (Done values) (Ok end) (Ended numbers log) h has ends =
-      let cells = held (map Some values) in
-      let homes : end.values ≡ map (in_cell cells) (map Some code.homes) =
-      h.0 ∙ ap (map (in_cell cells)) (sym made.homes) in
-      let same : end.values ≡ map Some numbers =
-      homes
-      ∙ numbers_are values code.homes
-      (All-same (λ o. is_some o ≡ true) (map (in_cell cells) (map Some code.homes)) end.values
-      (sym homes) (has end refl))
-      ∙ ap (map Some) (sym ends.0) in
-      let told : end.log ≡ log =
-      h.1 ∙ ap (λ ss. lines_of cells ss []) (sym (take_all (length code.places) b.steps
-      (omega (arith, as_many))))
-      ∙ lines cells (length code.places) ∙ sym ends.1 in
-      λ i. Ok (record { values = same i; log = told i })
-  is_end (Done values) (Ok end) (Stopped stop place log) h has ends = absurd ends
-  is_end (Done values) (Err x) e h has ends = absurd h
-  is_end (Refused n stop cells) (Ok end) e h has ends = absurd h
-  is_end (Refused n stop cells) (Err (Rejected x)) e h has ends = absurd h
-  is_end (Refused n stop cells) (Err (StoppedSo number w told)) (Ended numbers log) h has ends =
-      absurd ends
-  is_end (Refused n stop cells) (Err (StoppedSo number w told)) (Stopped so place log) h has ends =
-      record {
-        number = number;
-        at = w;
-        run = ap (λ l. Err (StoppedSo number w l)) (h.4 ∙ lines (held cells) n ∙ sym ends.2);
-        stop = ap stop_number ends.0 ∙ h.3;
-        place = place_at n h.0 place h.1.there ends.1 ∙ ap place_of h.2;
-      }
+  module _ (instances : List (List ℕ)) (stand : AreIn instances b.steps) where
+    pub is_end : (o : Outcome) (r : RunTried Ending) (e : RunEnd) → Tells b o r → HasValues r
+        → EndsBy code o e → IsEndOf instances e r
+    is_end (Done values) (Ok end) (Ended numbers log) h has ends =
+        let cells = held (map Some values) in
+        let homes : end.values ≡ map (in_cell cells) (map Some code.homes) =
+        h.0 ∙ ap (map (in_cell cells)) (sym made.homes) in
+        let same : end.values ≡ map Some numbers =
+        homes
+        ∙ numbers_are values code.homes
+        (All-same (λ o. is_some o ≡ true) (map (in_cell cells) (map Some code.homes)) end.values
+        (sym homes) (has end refl))
+        ∙ ap (map Some) (sym ends.0) in
+        let told : end.log ≡ log =
+        h.1 ∙ ap (λ ss. lines_of cells ss []) (sym (take_all (length code.places) b.steps
+        (omega (arith, as_many))))
+        ∙ lines cells (length code.places) ∙ sym ends.1 in
+        λ i. Ok (record { values = same i; log = told i })
+    is_end (Done values) (Ok end) (Stopped stop place log) h has ends = absurd ends
+    is_end (Done values) (Err x) e h has ends = absurd h
+    is_end (Refused n stop cells) (Ok end) e h has ends = absurd h
+    is_end (Refused n stop cells) (Err (Rejected x)) e h has ends = absurd h
+    is_end (Refused n stop cells) (Err (StoppedSo number w told)) (Ended numbers log) h has ends =
+        absurd ends
+    is_end (Refused n stop cells) (Err (StoppedSo number w told)) (Stopped so place log) h _ ends =
+        record {
+          number = number;
+          at = w;
+          run = ap (λ l. Err (StoppedSo number w l)) (h.4 ∙ lines (held cells) n ∙ sym ends.2);
+          stop = ap stop_number ends.0 ∙ h.3;
+          place = place_at n h.0 place h.1.there ends.1 ∙ ap place_of h.2;
+          path =
+              ap (λ (x : StepPlace). slice_get instances x.instance)
+              (place_at n h.0 place h.1.there ends.1)
+              ∙ stand n h.0 h.1.there ∙ ap (λ (x : Where). Some x.path) h.2;
+        }
 
 module _ (p : Program) (code : CircuitCode) (start inputs : List ℕ) (fuel : ℕ)
     (task : IsTask p code start inputs) (o : Outcome)
@@ -141,9 +153,12 @@ module _ (p : Program) (code : CircuitCode) (start inputs : List ℕ) (fuel : �
   pub task_has_place : HasPlace code o
   task_has_place = has_place p task.made.circuit code task.made.made o (ran p fuel inputs) told
 
-  pub task_ends : (e : RunEnd) → EndsBy code o e → IsEndOf e (ran p fuel inputs)
+  pub task_ends : (e : RunEnd) → EndsBy code o e
+      → IsEndOf task.meaning.instances e (ran p fuel inputs)
   task_ends e ends =
-      is_end p task.made.circuit code task.made.made o (ran p fuel inputs) e told
+      is_end p task.made.circuit code task.made.made task.meaning.instances
+      (instances_stand p task.meaning task.made.circuit task.resolved task.compiles
+      task.made.emitted) o (ran p fuel inputs) e told
       (λ end same. run_has_values p task.meaning fuel inputs end task.resolved task.compiles
       task.each same) ends
 

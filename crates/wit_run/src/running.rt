@@ -124,8 +124,9 @@ impl CutCircuit {
     pub fn run_one(&self, alloc: Global, start: &[Gold], fuel: u64) -> Result<RunEnd, AllocError>
         requires { (p : Program) × (inputs : List ℕ)
             × IsTask p (code_in self.now) start.now inputs }
-        ensures { (p : Program) (inputs : List ℕ) → IsTask p (code_in self.now) start.now inputs
-            → IfOk result (λ end. IsEndOf end (ran p fuel inputs)) }
+        ensures { (p : Program) (inputs : List ℕ)
+            (task : IsTask p (code_in self.now) start.now inputs)
+            → IfOk result (λ end. IsEndOf task.meaning.instances end (ran p fuel inputs)) }
     {
         let outcome = run_one(alloc, &self.flow, start, fuel)?;
         self.end_of(alloc, outcome)
@@ -145,8 +146,9 @@ impl CutCircuit {
             × IsTask p (code_in self.now) start.now inputs }
         requires some { 0 < workers }
         requires few { workers ≤ 64 }
-        ensures { (p : Program) (inputs : List ℕ) → IsTask p (code_in self.now) start.now inputs
-            → IfOk result (λ end. IsEndOf end (ran p fuel inputs)) }
+        ensures { (p : Program) (inputs : List ℕ)
+            (task : IsTask p (code_in self.now) start.now inputs)
+            → IfOk result (λ end. IsEndOf task.meaning.instances end (ran p fuel inputs)) }
     {
         let outcome = run_many(rt, &self.flow, start, fuel, workers, gate)?;
         self.end_of(rt.alloc(), outcome)

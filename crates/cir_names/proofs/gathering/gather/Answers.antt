@@ -1,9 +1,8 @@
-use Rattle.std.proofs.Common.{◌≡◌, ap, map, sym, subst, arith, length, ◌∙◌}
-use Rattle.std.proofs.lemmas.List.{length-map}
+use Rattle.std.proofs.Common.{ap, map}
 use Rattle.cir_resolve.specs.Definitions.{bare_definition}
 use Rattle.cir_sources.specs.Includes.{seen}
 use Rattle.cir_names.specs.Programs.{tree_of, names_of}
-use Rattle.cir_names.proofs.SoFar.{begun, gathered_more, gathered_few, names_all, definitions_all}
+use Rattle.cir_names.proofs.SoFar.{begun, gathered_more, gathered_few}
 use Rattle.cir_names.proofs.gathering.gather.Goals as goal
 
 pub loop-source-init : goal.loop-source-init

@@ -1,36 +1,8 @@
-use Rattle.std.proofs.lemmas.Result.{err_from_is_err_and}
 use Rattle.std.specs.Option.{option_copied}
-use Rattle.std.specs.Prelude.{map}
-use Rattle.cir_ast.specs.Program.{bare_program}
-use Rattle.cir_sources.specs.Includes.{seen}
-use Rattle.cir_names.proofs.Answering.{loaded, misnamed, unread}
+use Rattle.cir_names.proofs.Resting.{as_loaded}
 use Rattle.cir_names.proofs.loading.load.Goals as goal
 
-pub returns-clause-loads : goal.returns-clause-loads
-returns-clause-loads g c =
-    loaded _ c.args.name.now (option_copied c.args.library)
-    (map seen c.in_ok-sources.sources.items) (bare_program c.in_ok-program.program)
-    c.in_ok-sources.ensures.loads c.in_ok-program.ensures.program
-
-pub returns-clause-theirs : goal.returns-clause-theirs
-returns-clause-theirs g c = record {
-  sources = map seen c.in_ok-sources.sources.items;
-  are = c.in_ok-sources.ensures.read;
-  theirs = c.in_ok-program.ensures.program;
-}
-
-pub returns-in_err-sources-clause-loads : goal.returns-in_err-sources-clause-loads
-returns-in_err-sources-clause-loads g c =
-    let p = err_from_is_err_and c.from_residual.result c.from_residual.ensures.1 in
-    rw (p.1, p.2)
-    (unread _ c.args.name.now (option_copied c.args.library) _ c.in_err-sources.field-0.0
-    c.in_err-sources.ensures.loads)
-
-pub returns-in_err-program-clause-loads : goal.returns-in_err-program-clause-loads
-returns-in_err-program-clause-loads g c =
-    let p = err_from_is_err_and c.from_residual-in_err-program.result
-    c.from_residual-in_err-program.ensures.1 in
-    rw (p.1, p.2)
-    (misnamed _ c.args.name.now (option_copied c.args.library) _
-    (map seen c.in_ok-sources.sources.items) c.in_err-program.field-0.0
-    c.in_ok-sources.ensures.loads c.in_err-program.ensures.program)
+pub returns-in-Ok-clause-loads : goal.returns-in-Ok-clause-loads
+returns-in-Ok-clause-loads g c =
+    as_loaded _ c.args.name.now (option_copied c.args.library) c.in-Ok.loaded
+    c.in-Ok.ensures.loads

@@ -20,6 +20,7 @@ pub returns : goal.returns
 returns c = λ p inputs task.
     let code = code_in c.args.self.now in
     let o = c.in_ok-outcome.outcome in
-    IfOk-weaker c.end_of.result (EndsBy code o) (λ e. IsEndOf e (ran p c.args.fuel inputs))
+    IfOk-weaker c.end_of.result (EndsBy code o)
+    (λ e. IsEndOf task.meaning.instances e (ran p c.args.fuel inputs))
     (task_ends p code c.args.start.now inputs c.args.fuel task o c.in_ok-outcome.ensures)
     c.end_of.ensures

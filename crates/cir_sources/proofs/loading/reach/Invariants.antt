@@ -3,7 +3,7 @@ use Rattle.std.specs.Option.{option_copied}
 use Rattle.out_io.specs.Calls.{OnlyReads}
 use Rattle.cir_sources.specs.Limits.{most_files}
 use Rattle.cir_sources.specs.Steps.{IsLoading, all_of, left_of}
-use Rattle.cir_sources.proofs.loading.sources.Given as goal
+use Rattle.cir_sources.proofs.loading.reach.Given as goal
 
 abbrev pub invariant-loop-site : goal.invariant-loop-site
 invariant-loop-site g l = record {
