@@ -105,7 +105,7 @@ module _ (keys : List Made) (shapes : List R.Shape) (components : ℕ → List �
         (back (asked e) (place_asked rest) h)
     place_known_same m indices (member name rest) h = refl
 
-  port_same : (homes : L.Homes) (front : L.Front) (indices : List (Option ℕ)) (name : List ℕ)
+  pub port_same : (homes : L.Homes) (front : L.Front) (indices : List (Option ℕ)) (name : List ℕ)
       → L.port_of (ground_with one) homes front indices name
       ≡ L.port_of (ground_with two) homes front indices name
   port_same homes (L.Named meant.Other) indices name = refl

@@ -15,5 +15,5 @@ pub use jumps::{begin_jump, begin_other, begin_turns, end_jump, end_jump_zero, e
 pub use keys::place_of;
 pub use pieces::zeros;
 pub use reading::write;
-pub use shapes::size_of;
-pub use values::{emit, emit_place, emit_right};
+pub use shapes::{shapes_of, size_of};
+pub use values::{decided, emit, emit_place, emit_right};

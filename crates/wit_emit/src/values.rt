@@ -24,7 +24,7 @@ use wit_code::Op;
 use wit_sourced::{Scope, behind, op_of};
 
 /// What a known left operand decides.
-fn decided(op: Operator, left: Option<u64>) -> Option<Gold>
+pub fn decided(op: Operator, left: Option<u64>) -> Option<Gold>
     ensures { result ≡ P.decided (operator_by op) left }
 {
     match (op, left) {

@@ -75,12 +75,12 @@ module _ (keys : List Made) (shapes : List R.Shape) (components : ℕ → List �
   back : (xs ys : List (Expr Meant)) → Agree (xs ++ ys) → Agree ys
   back xs ys a = all_back (λ c. one c ≡ two c) xs ys a
 
-  first_of : (xs ys : List X.Wanted) → Wanted (xs ++ ys) → Wanted xs
+  pub first_of : (xs ys : List X.Wanted) → Wanted (xs ++ ys) → Wanted xs
   first_of xs ys a =
       front (wanted_calls xs) (wanted_calls ys)
       (subst Agree (flat_map-append (λ x. asked x.expr) xs ys) a)
 
-  last_of : (xs ys : List X.Wanted) → Wanted (xs ++ ys) → Wanted ys
+  pub last_of : (xs ys : List X.Wanted) → Wanted (xs ++ ys) → Wanted ys
   last_of xs ys a =
       back (wanted_calls xs) (wanted_calls ys)
       (subst Agree (flat_map-append (λ x. asked x.expr) xs ys) a)
@@ -158,7 +158,7 @@ module _ (keys : List Made) (shapes : List R.Shape) (components : ℕ → List �
   dims_part v a = subst Agree (dims_asked v.dimensions)
       (first_of (X.numbers_wanted (X.list_of v.dimensions)) (X.value_wanted v.value) a)
 
-  variable_scope_same : (s : L.Scope) (v : Variable Meant) → Wanted (X.variable_wanted v)
+  pub variable_scope_same : (s : L.Scope) (v : Variable Meant) → Wanted (X.variable_wanted v)
       → S.variable_scope g s v ≡ S.variable_scope h s v
   variable_scope_same s v a = scope_step s v v.meant (numbers_same v.dimensions (dims_part v a))
 
@@ -203,7 +203,7 @@ module _ (keys : List Made) (shapes : List R.Shape) (components : ℕ → List �
       (S.variable_scope h s v) p vs (last_of (X.variable_wanted v) rest a) i))
 
   -- ---- simple statements, and the head of a `for`
-  first_scope_same : (s : L.Scope) (f : First Meant) → Wanted (X.first_wanted f)
+  pub first_scope_same : (s : L.Scope) (f : First Meant) → Wanted (X.first_wanted f)
       → S.first_scope g s f ≡ S.first_scope h s f
   first_scope_same s (FirstVars vs) a = variables_scope_same s vs a
   first_scope_same s (FirstAssign x) a = refl
@@ -239,7 +239,7 @@ module _ (keys : List Made) (shapes : List R.Shape) (components : ℕ → List �
   simple_same s at (TargetRight x arrow t) a = refl
   simple_same s at (Alone parallel name m arguments inputs) a = refl
 
-  scope_same : (s : L.Scope) (x : Statement Spot Meant) → Wanted (X.wanted_in x)
+  pub scope_same : (s : L.Scope) (x : Statement Spot Meant) → Wanted (X.wanted_in x)
       → S.scope_behind g s x ≡ S.scope_behind h s x
   scope_same s (Ended spot x) a = simple_scope_same s x a
   scope_same s (Block spot ss) a = refl

@@ -33,7 +33,7 @@ fn emit_dims(
 }
 
 /// The numbers of the dimensions.
-fn known_dims(ground: &Ground, es: &[Expr]) -> Result<Items<u64>, AllocError>
+pub fn known_dims(ground: &Ground, es: &[Expr]) -> Result<Items<u64>, AllocError>
     ensures { IfOk result (λ dims. dims ≡ map (λ e. unwrap_or ((ground_of ground.now).known e) 0)
         (list_of (bare_exprs es.now))) }
 {
@@ -47,7 +47,7 @@ fn known_dims(ground: &Ground, es: &[Expr]) -> Result<Items<u64>, AllocError>
 
 /// A name that is a variable gets its home.
 #[tactic(auto, using(wit_sourced::proofs::Left::behind_same))]
-fn declare_as(scope: &mut Scope, meant: Meant, dims: Items<u64>) -> Result<(), AllocError>
+pub fn declare_as(scope: &mut Scope, meant: Meant, dims: Items<u64>) -> Result<(), AllocError>
     ensures { OnOk result (IsBehind scope.old scope.new
         (E.declared_as meant dims (scope_of scope.old))) }
 {

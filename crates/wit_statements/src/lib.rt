@@ -10,6 +10,7 @@ mod steps;
 mod tasks;
 
 pub use asked::{are_listed, asked_calls, changed_by};
+pub use declaring::{declare_as, known_dims};
 pub use slots::{most_named, params_of};
 pub use statements::emit_block;
 pub use steps::emit_step;

@@ -1,0 +1,39 @@
+use Rattle.std.proofs.Common.{◌∙◌, ap, subst, sym}
+use Rattle.std.specs.Prelude.{map}
+use Rattle.std.proofs.lemmas.Result.{on_ok_weaker}
+use Rattle.cir_ast.specs.Tree.{bare, bare_assign, bare_statement}
+use Rattle.cir_emit.specs.Sourced as H
+use Rattle.wit_emit.specs.Grounds.{ground_of}
+use Rattle.wit_sourced.specs.Shown.{scope_of}
+use Rattle.wit_statements.specs.Asked.{element_of, task_of}
+use Rattle.cir_has.proofs.Executed.{executes_has, repeats_has}
+use Rattle.cir_has.proofs.tasks.has_task.Goals as goal
+
+pub returns-in_ok-has_touched-in-Executes : goal.returns-in_ok-has_touched-in-Executes
+returns-in_ok-has_touched-in-Executes g c =
+    let There = g.A.Arrays.there c.args.arrays.now in
+    let ground = ground_of c.args.ground.now in
+    let s = scope_of c.args.scope.now in
+    let x = c.in-Executes in
+    let touched = c.in_ok-touched-in-Executes in
+    let tested = c.in_ok-has_touched-in-Executes.ensures in
+    on_ok_weaker c.has_inner.result (λ h.
+    subst (λ t. H.TaskHas There ground s (task_of t)) (sym x.is)
+    (executes_has There ground s (bare_statement x.a.now) (map element_of x.field-1.now)
+    touched.touched.declared.items touched.touched.assigned.items touched.ensures.declared
+    touched.ensures.assigned tested.fresh tested.homes h)) c.has_inner.ensures.has
+
+pub returns-in_ok-has_turn-in-Repeats : goal.returns-in_ok-has_turn-in-Repeats
+returns-in_ok-has_turn-in-Repeats g c =
+    let There = g.A.Arrays.there c.args.arrays.now in
+    let ground = ground_of c.args.ground.now in
+    let s = scope_of c.args.scope.now in
+    let x = c.in-Repeats in
+    let touched = c.in_ok-touched-in-Repeats in
+    let tested = c.in_ok-has_touched-in-Repeats.ensures in
+    let turn = c.in_ok-has_turn-in-Repeats.ensures in
+    subst (λ t. H.TaskHas There ground s (task_of t)) (sym x.is)
+    (repeats_has There ground s x.field-0 x.step.now.spot (bare x.condition.now)
+    (bare_statement x.body.now) (bare_assign x.step.now.assign) (map element_of x.field-4.now)
+    touched.touched.declared.items touched.touched.assigned.items touched.ensures.declared
+    touched.ensures.assigned tested.fresh tested.homes turn.condition turn.body turn.step)

@@ -1,0 +1,13 @@
+pub mod Asserting
+pub mod Codes
+pub mod Coding
+pub mod ElementCells
+pub mod Fewer
+pub mod Going
+pub mod Growing
+pub mod Homing
+pub mod Knowing
+pub mod Leading
+pub mod LogSteps
+pub mod Placing
+pub mod PortCells

@@ -1,0 +1,20 @@
+//! The making of steps while a template's body is executed: the cells of a body, and the code of a
+//! step of what isn't known at compile time.
+#![tactic(auto)]
+
+mod arrays;
+mod calls;
+mod cells;
+mod collecting;
+mod finding;
+mod leaves;
+mod make;
+mod ports;
+mod told;
+mod whole;
+mod work;
+
+pub use cells::{Cells, Homes, PartCells, Run, Source, VariableCells};
+pub use leaves::{assert, log};
+pub use make::{Before, Doing, Elements, Making, make_step, plain_step};
+pub use whole::{Body, Cast, Inside, Made, Whole};
