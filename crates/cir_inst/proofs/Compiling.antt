@@ -1,6 +1,6 @@
 -- A program's first main component, and what it compiles to.
-use Rattle.std.proofs.Common.{◌≡◌, ◌≤◌, List, [], ◌∷◌, Option, Some, Ok, Err, length, get_or}
-use Rattle.std.proofs.Common.{refl, sym, ap, subst, ◌∙◌, slice_get, arith}
+use Rattle.std.proofs.Common.{◌≡◌, ◌≤◌, List, [], ◌∷◌, Option, Some, Ok, Err, length, get_or, refl}
+use Rattle.std.proofs.Common.{sym, ap, subst, ◌∙◌, slice_get, arith}
 use Rattle.std.specs.Prelude.{◌↔◌, All, option_map}
 use Rattle.std.proofs.lemmas.Option.{slice_get-map, slice_get_read}
 use Rattle.gold_field.specs.Form.{Holds}
@@ -14,7 +14,7 @@ use Rattle.cir_meaning.specs.Tried.{Tried, Refused, next, found}
 use Rattle.cir_meaning.specs.Source.{Equation}
 use Rattle.cir_meaning.specs.Frame as F
 use Rattle.cir_meaning.specs.Compile.{Circuit, exec_main, circuit_of, compiled, group_size, shown}
-use Rattle.cir_meaning.specs.Compile.{refusal_of, Satisfies}
+use Rattle.cir_meaning.specs.Compile.{the_main, refusal_of, Satisfies}
 use Rattle.cir_meaning.proofs.FineLaws.{list_holds}
 use Rattle.cir_frame.specs.declared.world.World.{World as CodeWorld}
 use Rattle.cir_arrays.specs.declared.stop.Fault.{Fault}
@@ -33,18 +33,11 @@ abbrev pub of_main : Program → Main → Tried Circuit
 of_main p m =
     next (exec_main p group_size m m.meant) (λ (signals, w). Ok (circuit_of group_size w))
 
-pub compiled_by : (p : Program) (m : Main) → slice_get p.mains 0 ≡ Some m
-    → compiled p ≡ of_main p m
-compiled_by p m e =
-    ap (λ (o : Option Main). next (found record {
-      file = 0;
-      spot = record { line = 1; column = 1 };
-      instance = 0;
-      path = 45 ∷ [];
-    } MainKind o) (of_main p)) e
+compiled_by : (p : Program) (m : Main) → the_main p ≡ Ok m → compiled p ≡ of_main p m
+compiled_by p m e = ap (λ (t : Tried Main). next t (of_main p)) e
 
 pub made_by : (p : Program) (m : Main) (w : CodeWorld) (es : List Equation) (signals : F.Signals)
-    → slice_get p.mains 0 ≡ Some m
+    → the_main p ≡ Ok m
     → exec_main p group_size m m.meant ≡ Ok (signals, world_of w es)
     → compiled p ≡ Ok (circuit_of group_size (world_of w es))
 made_by p m w es signals first e =
@@ -52,7 +45,11 @@ made_by p m w es signals first e =
     ∙ ap (λ (t : Tried (F.Signals × F.World)). next t (λ (signals, w).
     Ok (circuit_of group_size w))) e
 
-pub refused_by : (p : Program) (m : Main) (f : Fault) → slice_get p.mains 0 ≡ Some m
+pub main_refused : (p : Program) (f : Fault) → IsRefusal f (the_main p)
+    → IsRefusal f (compiled p)
+main_refused p f h = exits f (the_main p) (of_main p) h
+
+pub refused_by : (p : Program) (m : Main) (f : Fault) → the_main p ≡ Ok m
     → IsRefusal f (exec_main p group_size m m.meant) → IsRefusal f (compiled p)
 refused_by p m f first h =
     subst (λ (t : Tried Circuit). IsRefusal f t) (sym (compiled_by p m first))
@@ -60,11 +57,17 @@ refused_by p m f first h =
 
 pub first_main : (p : CodeProgram) (mains : List CodeMain) (m : CodeMain) → mains ≡ p.mains
     → 1 ≤ length mains → m ≡ get_or mains 0 m
-    → slice_get (bare_program p).mains 0 ≡ Some (bare_main m)
+    → the_main (bare_program p) ≡ Ok (bare_main m)
 first_main p mains m same long e =
-    slice_get-map bare_main p.mains 0
+    ap (λ (o : Option Main). found record {
+      file = 0;
+      spot = record { line = 1; column = 1 };
+      instance = 0;
+      path = 45 ∷ [];
+    } MainKind o)
+    (slice_get-map bare_main p.mains 0
     ∙ ap (option_map bare_main) (subst (λ (ms : List CodeMain). slice_get ms 0 ≡ Some m) same
-    (slice_get_read mains (length mains) 0 m refl (omega arith) e))
+    (slice_get_read mains (length mains) 0 m refl (omega arith) e)))
 
 -- as a user sees it
 pub instantiated : (p : Program) (c : CodeCircuit) → Compiles (Ok c) (compiled p)

@@ -403,24 +403,36 @@ pub fn new_instance(alloc: Global, path: &[u8], world: &mut World) -> Result<u32
     Ok(instance)
 }
 
-/// At the end of a body every output and every inner signal is written, and every input of each
-/// component.
-pub fn ended<C>(context: &Context<C>, frame: Frame) -> Result<Vec<Option<SignalEntry>>, Fault>
+/// The signals of a body that has ended.
+fn ended<C>(context: &Context<C>, frame: Frame) -> Result<Vec<Option<SignalEntry>>, Fault>
     ensures { (call : F.Caller) (make : _) (s : F.State) →
         s.frame.signals ≡ signals_of frame.signals.items →
         s.frame.parts ≡ map part_of frame.parts.items →
         Gives (λ signals. (signals_of signals.items, s.world)) result
         (B.ended (context_of context.now call make) s) }
 {
+    all_ended(context, &frame)?;
     let Frame {
         variables: _,
         signals,
         components: _,
-        parts,
+        parts: _,
     } = frame;
-    all_written(context, signals.as_slice())?;
-    all_fed(context, parts.as_slice())?;
     Ok(signals)
+}
+
+/// At the end of a body every output and every inner signal is written, and every input of each
+/// component.
+pub fn all_ended<C>(context: &Context<C>, frame: &Frame) -> Result<(), Fault>
+    ensures { (call : F.Caller) (make : _) (s : F.State) →
+        s.frame.signals ≡ signals_of frame.now.signals.items →
+        s.frame.parts ≡ map part_of frame.now.parts.items →
+        Gives (λ u. (signals_of frame.now.signals.items, s.world)) result
+        (B.ended (context_of context.now call make) s) }
+{
+    all_written(context, frame.signals.as_slice())?;
+    all_fed(context, frame.parts.as_slice())?;
+    Ok(())
 }
 
 fn all_written<C>(context: &Context<C>, signals: &[Option<SignalEntry>]) -> Result<(), Fault>

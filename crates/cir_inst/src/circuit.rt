@@ -83,6 +83,16 @@ fn compile(alloc: Global, program: &Program) -> Result<Circuit, Fault>
     ensures meaning { Compiles result (compiled (bare_program program.now)) }
     ensures fits { IfOk result IsWithinLimits }
 {
+    let main = main_of(alloc, program)?;
+    let world = run_main(alloc, program, main)?;
+    let circuit = circuit_of(alloc, world)?;
+    Ok(circuit)
+}
+
+/// The first main component. A program without one is refused, at no place of its own.
+pub fn main_of<'p>(alloc: Global, program: &'p Program) -> Result<&'p Main, Fault>
+    ensures { Gives (λ m. bare_main m.now) result (M.the_main (bare_program program.now)) }
+{
     let [main, ..] = program.mains.as_slice() else {
         let nowhere = Site {
             file: 0,
@@ -92,9 +102,7 @@ fn compile(alloc: Global, program: &Program) -> Result<Circuit, Fault>
         };
         return Err(nowhere.refused(alloc, Kind::Main));
     };
-    let world = run_main(alloc, program, main)?;
-    let circuit = circuit_of(alloc, world)?;
-    Ok(circuit)
+    Ok(main)
 }
 
 /// Main is executed in a context of its own.
@@ -191,7 +199,8 @@ fn open_main<C>(
     run_template(opening, template, &grouping, arguments, b"main", world)
 }
 
-fn no_frame(alloc: Global) -> Result<Frame, AllocError>
+/// No variable, signal or component is declared.
+pub fn no_frame(alloc: Global) -> Result<Frame, AllocError>
     ensures { (c : AnyCounts) → IfOk result (λ f. frame_of f c
         ≡ record (F.begun [] 0 0 0) { added = c }) }
 {
@@ -203,7 +212,8 @@ fn no_frame(alloc: Global) -> Result<Frame, AllocError>
     begun(alloc, Vec::new(alloc), room)
 }
 
-fn circuit_of(alloc: Global, world: World) -> Result<Circuit, AllocError>
+/// The circuit of a program that is executed.
+pub fn circuit_of(alloc: Global, world: World) -> Result<Circuit, AllocError>
     requires { (es : List Equation) × IsMade es world }
     ensures circuit { (es : List Equation) → IsMade es world
         → IfOk result (IsCircuitOf (M.circuit_of group_size (world_of world es))) }
@@ -227,7 +237,7 @@ fn circuit_of(alloc: Global, world: World) -> Result<Circuit, AllocError>
 }
 
 /// A refusal as a user sees it, with its file's name.
-fn placed(alloc: Global, program: &Program, fault: Fault) -> InstFault
+pub fn placed(alloc: Global, program: &Program, fault: Fault) -> InstFault
     ensures { Shows (bare_program program.now) fault result }
 {
     match fault {

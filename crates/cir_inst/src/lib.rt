@@ -6,6 +6,6 @@ mod circuit;
 mod table;
 
 pub use bodies::{
-    MOST_OPEN, Opening, Place, call_function, context_in, ended, more_than, new_instance,
+    MOST_OPEN, Opening, Place, all_ended, call_function, context_in, more_than, new_instance,
 };
-pub use circuit::{Circuit, InstFault, instantiate};
+pub use circuit::{Circuit, InstFault, circuit_of, instantiate, main_of, no_frame, placed};

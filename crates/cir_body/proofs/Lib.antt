@@ -1,0 +1,14 @@
+pub mod Branching
+pub mod Casting
+pub mod Coded
+pub mod Executing
+pub mod Leaving
+pub mod Lifted
+pub mod MainCasts
+pub mod Mirroring
+pub mod Renewals
+pub mod Scanning
+pub mod Slots
+pub mod Turning
+pub mod Undoing
+pub mod Walking

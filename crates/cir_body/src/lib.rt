@@ -1,0 +1,14 @@
+//! The execution of a template's body, with the steps of its run-time statements.
+#![tactic(auto)]
+
+mod bodies;
+mod circuit;
+mod mains;
+mod renewing;
+mod simple;
+mod statement;
+mod undecided;
+
+pub use bodies::cast_template;
+pub use circuit::circuit_code;
+pub use statement::execute_all;

@@ -1,0 +1,14 @@
+pub mod Assigned
+pub mod Casts
+pub mod CodeSources
+pub mod Creations
+pub mod Declaring
+pub mod Each
+pub mod Freeing
+pub mod Keeping
+pub mod NewCells
+pub mod NewPlaces
+pub mod Sourcing
+pub mod Waits
+pub mod Wired
+pub mod Wires
