@@ -10,6 +10,7 @@ use std::env;
 use std::io::ErrorKind;
 use std::process::ExitCode;
 use std::rt::Env;
+use std::sync::Wait;
 use std::thread::{Builder, Promise, Threads};
 
 // The exit status where memory ran out.
@@ -80,7 +81,7 @@ fn devices(
     Ok((RealStore::new(rt.clone()?), RealSink::new(rt.clone()?)))
 }
 
-fn outcome<R: Threads + Env + AllocGlobal + Sync, S: Store, K: Sink>(
+fn outcome<R: Threads + Wait + Env + AllocGlobal + Sync, S: Store, K: Sink>(
     rt: &R,
     store: &mut S,
     out: &mut K,

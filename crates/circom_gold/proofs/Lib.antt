@@ -5,3 +5,9 @@ pub mod OneRun
 pub mod Replies
 pub mod Satisfied
 pub mod WitnessLaws
+pub mod NoInput
+pub mod Sourcing
+pub mod Witnessing
+pub mod RunReplies
+pub mod Saying
+pub mod Generating

@@ -160,15 +160,15 @@ module _ (p : Program) (fuel : ℕ) (inputs : List ℕ) where
   pub one_generated_run : (f : File) (a b : Generated) → IsGeneratedRun p f fuel inputs a
       → IsGeneratedRun p f fuel inputs b → a ≡ b
   one_generated_run f (made.Ended w c o log) (made.Ended v d u lines)
-      (ns, x, e1, e2, e3) (ms, y, k1, k2, k3) =
+      (ns, x, e1, e2, e3, _) (ms, y, k1, k2, k3, _) =
       let both = one_numbers ns ms log lines x y in
       let wires : w ≡ v = e1 ∙ sym k1 in
       let constraints : c ≡ d = e2 ∙ sym k2 in
       let out : o ≡ u = e3 ∙ ap (λ (l : List ℕ). slice_index l 1) both.0 ∙ sym k3 in
       λ i. made.Ended (wires i) (constraints i) (out i) (both.1 i)
-  one_generated_run f (made.Ended w c o log) (made.Halted h) (ns, x, e1, e2, e3) y =
+  one_generated_run f (made.Ended w c o log) (made.Halted h) (ns, x, e1, e2, e3, _) y =
       absurd (ended_or_halted ns log h x y)
-  one_generated_run f (made.Halted h) (made.Ended v d u lines) x (ms, y, k1, k2, k3) =
+  one_generated_run f (made.Halted h) (made.Ended v d u lines) x (ms, y, k1, k2, k3, _) =
       absurd (ended_or_halted ms lines h y x)
   one_generated_run f (made.Halted g) (made.Halted h) x y = ap made.Halted (one_halt g h x y)
 

@@ -91,7 +91,7 @@ accepted_is : (inputs : List InputShape) (r : Result (List ℕ) InputFault) (ns 
 accepted_is inputs (Ok ms) ns e = let same : ms ≡ ns = cc in ap Ok same
 accepted_is inputs (Err fault) ns e = cc
 
-input_read : (inputs : List InputShape) (b : Result (List ℕ) Refusal) (ns : List ℕ)
+pub input_read : (inputs : List InputShape) (b : Result (List ℕ) Refusal) (ns : List ℕ)
     → (b >>= λ bytes. accepted_input inputs (input_of bytes inputs)) ≡ Ok ns
     → (bytes : List ℕ) × (input_of bytes inputs ≡ Ok ns)
 input_read inputs (Ok bytes) ns e = (bytes, accepted_is inputs (input_of bytes inputs) ns e)
@@ -103,7 +103,7 @@ module _ (files : Contents) (input : List ℕ) (p : Program) (resolved : IsResol
   unfolding input_in
   bytes_read = input_read g.inputs (bytes_in files input) (1 ∷ inputs) g.reads
 
-  many : length inputs ≡ g.has.meaning.public_inputs + g.has.meaning.private_inputs
+  pub many : length inputs ≡ g.has.meaning.public_inputs + g.has.meaning.private_inputs
   many =
       (input_counted bytes_read.0 g.inputs inputs bytes_read.1).many
       ∙ sym (shapes_counted g.inputs)

@@ -1,5 +1,6 @@
 -- What a run of the program does to the store and the sink.
-use Rattle.std.specs.Prelude.{◌≡◌, ℕ, List, [], ◌⊎◌, Option, Some, None}
+use Rattle.std.specs.Prelude.{◌≡◌, ℕ, List, [], ◌⊎◌, Option, Some, None, Result, IfOk, IfSome}
+use Rattle.std.specs.declared.alloc.AllocError.{AllocError}
 use Rattle.out_io.specs.Calls.{Course, HasFailed}
 use Rattle.out_io.specs.Contents.{Contents, Changes, Replaces, ReplacesInPart}
 use Rattle.out_io.specs.Written.{IsAppended, IsAppendedInPart}
@@ -77,3 +78,7 @@ pub record GivesNothing (store : Course Contents) (sink : Course (List ℕ)) : T
 abbrev pub Stays : Option Command → Course Contents → Course (List ℕ) → Type 0
 Stays command store sink =
     GivesNothing store sink ⊎ ((r : Reply) × Answers store.old command r × GivesInPart r store sink)
+
+-- this holds of the status, where there is one
+abbrev pub IfStatus : Result (Option ℕ) AllocError → (ℕ → Type 0) → Type 0
+IfStatus result P = IfOk result (λ o. IfSome o P)

@@ -119,18 +119,21 @@ Witnesses files source input options fuel (Err refusal) =
 abbrev pub generated_name : List ℕ
 generated_name = codes "generated"
 
+abbrev pub one_file : List ℕ → Contents
+one_file text name = if bytes_eq name generated_name then Some text else None
+
 abbrev pub generated_files : ℕ → Contents
-generated_files size name =
-    if bytes_eq name generated_name then Some (generated_text size) else None
+generated_files size = one_file (generated_text size)
 
 abbrev pub generated_options : Options
 generated_options = record { level = O1; folder = None }
 
--- how the run of a generated circuit ends: its output is signal 1
+-- how the run of a generated circuit ends: its output is signal 1, and its values satisfy the file
 abbrev pub IsGeneratedRun : Program → File → (fuel : ℕ) → (inputs : List ℕ) → Generated → Type 0
 IsGeneratedRun program file fuel inputs (made.Ended wires constraints out log) =
     (numbers : List ℕ) × RunsTo program fuel inputs numbers log × (wires ≡ file.wires)
     × (constraints ≡ length file.constraints) × (out ≡ slice_index numbers 1)
+    × Satisfies file (values_by_wire file numbers)
 IsGeneratedRun program file fuel inputs (made.Halted h) = HaltsBy program fuel inputs h
 
 pub record IsGenerated (seed size fuel : ℕ) (found : Generated) : Type 0 where

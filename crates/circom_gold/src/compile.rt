@@ -11,9 +11,9 @@ ghost use Rattle.circom_files.specs.Reply.{Says};
 ghost use Rattle.circom_files.specs.Shown.{shown};
 ghost use Rattle.circom_words.specs.Words.{meant_options};
 
-use cir_compile::CompileFault;
+use crate::source::stop_of;
 use circom_files::{Reply, Stop};
-use circom_words::{Options, Refusal, compiled_line};
+use circom_words::{Options, compiled_line};
 use iden_files::{R1cs, write_r1cs};
 use items::Items;
 use out_io::{IoFault, Store};
@@ -38,14 +38,14 @@ pub fn compile_reply<'w, S: Store>(
         (S.faults store.old) (S.faults store.new)
         (S.never_fails store.old) (S.never_fails store.new) }
 {
-    match source_in(alloc, store, source, options) {
+    match file_in(alloc, store, source, options) {
         Ok(file) => Ok(compiled(alloc, out, &file)?),
         Err(stop) => stop.reply(alloc),
     }
 }
 
 // The file that the source under the name means.
-fn source_in<S: Store>(
+fn file_in<S: Store>(
     alloc: Global,
     store: &mut S,
     name: &str,
@@ -60,12 +60,7 @@ fn source_in<S: Store>(
 {
     match cir_compile::compile(alloc, store, name, options.folder, options.level) {
         Ok(file) => Ok(file),
-        Err(CompileFault::Missing) => Err(Stop::Refused(Refusal::NoSuchFile {
-            name: Items::from_slice(alloc, name.as_bytes())?,
-        })),
-        Err(CompileFault::Refused(refusal)) => Err(Stop::Refused(Refusal::BadSource(refusal))),
-        Err(CompileFault::Fault) => Err(Stop::StoreFailed),
-        Err(CompileFault::OutOfMemory) => Err(Stop::OutOfMemory),
+        Err(fault) => Err(stop_of(alloc, name, fault)),
     }
 }
 

@@ -3,9 +3,17 @@
 #![tactic(auto)]
 
 mod compile;
+mod generate;
 mod laws;
+mod one_file;
+mod plain;
 mod program;
+mod running;
+mod source;
+mod waiting;
+mod witness;
+mod writing;
 
 pub use circom_files::check_laws;
 pub use laws::{check_accepts_witnesses, one_reply, witness_laws};
-pub use program::{run, run_in_memory};
+pub use program::{run, run_in_memory, run_plain};

@@ -1,29 +1,26 @@
-ghost use Rattle.std.specs.Prelude.{◌≡◌, ◌⊎◌, ◌≢◌, ◌↔◌, ℕ, List, [], None, Some, IfOk, IsErrOf};
-ghost use Rattle.std.specs.Prelude.{IsOk, OnOk, OnErr, option_map};
-ghost use Rattle.out_io.specs.Calls.{Counting, OnlyReads, Told, course};
+ghost use Rattle.std.specs.Prelude.{◌≡◌, ◌⊎◌, ◌≢◌, ◌↔◌, ℕ, List, [], None, Some, IfOk, IsSome};
+ghost use Rattle.std.specs.Prelude.{is_some, true};
+ghost use Rattle.out_io.specs.Calls.{Counting, IfTold, Told, course};
 ghost use Rattle.out_io.specs.Contents.{Changes};
 ghost use Rattle.out_io.specs.Faults.{Rose};
 ghost use Rattle.out_io.specs.Memory.{files_of};
-ghost use Rattle.out_io.specs.Written.{IsAppendedInPart};
-ghost use Rattle.out_io.specs.declared.fault.IoFault.TheVariants.{Failed};
+ghost use Rattle.circom_files.specs.Accepted.{HoldsProof, IsAccepted};
+ghost use Rattle.circom_files.specs.declared.outcome.Halt.{Halt};
+ghost use Rattle.circom_files.specs.declared.outcome.Ran.TheVariants.{Halted};
 ghost use Rattle.circom_gold.specs.Compile.{HoldsConstraintsOf};
-ghost use Rattle.circom_files.specs.Accepted.{HoldsProof, IsAccepted, WritesProof};
-ghost use Rattle.circom_files.specs.Reply.{Reply};
-ghost use Rattle.circom_gold.specs.Reply.{Answers, WritesConstraintsOf};
-ghost use Rattle.circom_gold.specs.Run.{Ends, Stays, Leaves, LeavesInPart, Puts, Replies, Writing};
-ghost use Rattle.circom_files.specs.Shown.{shown};
-ghost use Rattle.circom_words.specs.Words.{Options, ProveOptions, compile, prove, audit, texts};
-ghost use Rattle.circom_words.specs.Words.{command_of, meant};
+ghost use Rattle.circom_gold.specs.Run.{Ends, IfStatus, Stays, Replies};
+ghost use Rattle.circom_gold.specs.Witness.{HasWitness, HoldsWitnessOf, IsWitnessed, SaysHalt};
+ghost use Rattle.circom_words.specs.Words.{Options, ProveOptions, compile, witness, prove, audit};
+ghost use Rattle.circom_words.specs.Words.{command_of, first_run_word, texts};
+ghost use Rattle.circom_words.specs.declared.options.RunOptions.{RunOptions};
 
-use crate::compile::compile_reply;
-use circom_files::{Reply, audit_reply, check_reply, prove_reply, public_reply};
-use circom_words::Command;
-use out_io::{IoFault, MemSink, MemStore, Sink, Store};
-use std::alloc::{AllocError, Global};
+use crate::plain::run_command;
+use crate::waiting::run_circuit;
+use circom_words::RunCommand;
+use out_io::{MemSink, MemStore, Sink, Store};
+use std::alloc::{AllocError, AllocGlobal, Global};
+use std::sync::Wait;
 use std::thread::Threads;
-
-// The exit status where a call to the store or the sink failed.
-const FAULT: u8 = 3;
 
 /// Does what the words ask for, and gives the exit status:
 ///
@@ -33,8 +30,9 @@ const FAULT: u8 = 3;
 /// - 3: a call to the store or the sink failed
 /// - 64: the words have no reading
 ///
-/// The error is want of memory.
-pub fn run<R: Threads + AllocGlobal + Sync, S: Store, K: Sink>(
+/// The error is want of memory. `witness` and `generate` wait for other threads. On all other words
+/// this is `run_plain`, which waits for nobody.
+pub fn run<R: Threads + Wait + AllocGlobal + Sync, S: Store, K: Sink>(
     rt: &R,
     alloc: Global,
     words: &[String],
@@ -81,6 +79,33 @@ pub fn run<R: Threads + AllocGlobal + Sync, S: Store, K: Sink>(
         → IfOk result (λ exit. (exit ≡ 3) ⊎ Told (S.contents store.old)
         (λ files. (exit ≡ 0) ↔ IsAccepted files r1cs publics proof)) }
 
+    // `witness` with the status 0 leaves under OUT bytes that are read as the values of the wires
+    // of the source's file: those of the run of its program on the input, whatever the number of
+    // workers. They satisfy the file.
+    ensures witnessed { (source input out_name : List ℕ) (options : Options)
+        (running : RunOptions)
+        → command_of (texts words.now) ≡ Some (witness source input out_name options running)
+        → IfOk result (λ exit. exit ≡ 0 → Changes
+        (λ files after. HoldsWitnessOf files source input options running.fuel (after out_name))
+        (S.contents store.old) (S.contents store.new)) }
+
+    // Its status is 0 exactly where the source compiles, the input is read, and the run of the
+    // source's program doesn't stop. Where a call failed it is 3.
+    ensures has_witness { (source input out_name : List ℕ) (options : Options)
+        (running : RunOptions)
+        → command_of (texts words.now) ≡ Some (witness source input out_name options running)
+        → IfOk result (λ exit. (exit ≡ 3) ⊎ IfTold (S.contents store.old)
+        (λ files. (exit ≡ 0) ↔ HasWitness files source input options running.fuel)) }
+
+    // Where the run stops, what is put is its log lines, and why and where it stops first.
+    ensures halted { (source input out_name : List ℕ) (options : Options)
+        (running : RunOptions) (h : Halt)
+        → command_of (texts words.now) ≡ Some (witness source input out_name options running)
+        → IfOk result (λ exit. (exit ≡ 3) ⊎ IfTold (S.contents store.old)
+        (λ files. IsWitnessed files source input options running.fuel (Halted h)
+        → SaysHalt h (course (K.contents out.old) (K.contents out.new)
+        (K.faults out.old) (K.faults out.new)) exit)) }
+
     // Where the words have no reading the status is 64, unless the sink failed, and the store isn't
     // asked. It is 64 only there.
     ensures usage { command_of (texts words.now) ≡ None
@@ -96,19 +121,73 @@ pub fn run<R: Threads + AllocGlobal + Sync, S: Store, K: Sink>(
     ensures sink { Counting (K.faults out.old) (K.faults out.new)
         (K.never_fails out.old) (K.never_fails out.new) }
 {
-    let command = Command::of(alloc, words)?;
-    match answered(rt, alloc, command, store) {
-        Ok(reply) => put_text(&reply, out),
-        Err(IoFault::Failed) => {
-            let reply = Reply::store_failed(alloc)?;
-            put_text(&reply, out)
-        }
-        Err(IoFault::OutOfMemory) => Err(AllocError),
+    if RunCommand::is_named(words) {
+        run_circuit(rt, alloc, words, store, out)
+    } else {
+        run_command(rt, alloc, words, store, out)
+    }
+}
+
+/// The part of `run` that waits for nobody: the exit status, which is that of `run`; or `None`,
+/// with nothing read, written or put, exactly where the first word is `witness` or `generate`.
+pub fn run_plain<R: Threads + AllocGlobal + Sync, S: Store, K: Sink>(
+    rt: &R,
+    alloc: Global,
+    words: &[String],
+    store: &mut S,
+    out: &mut K,
+) -> Result<Option<u8>, AllocError>
+    ensures waits { IfOk result
+        (λ o. (o ≡ None) ↔ (is_some (first_run_word (texts words.now)) ≡ true)) }
+    ensures untouched { IfOk result (λ o. o ≡ None
+        → (S.contents store.new ≡ S.contents store.old) × (S.faults store.new ≡ S.faults store.old)
+        × (K.contents out.new ≡ K.contents out.old) × (K.faults out.new ≡ K.faults out.old)) }
+
+    // What holds of the status of `run` holds of this one.
+    ensures ended { IfStatus result (Ends (command_of (texts words.now))
+        (course (S.contents store.old) (S.contents store.new)
+        (S.faults store.old) (S.faults store.new))
+        (course (K.contents out.old) (K.contents out.new) (K.faults out.old) (K.faults out.new))) }
+    ensures kept { Stays (command_of (texts words.now))
+        (course (S.contents store.old) (S.contents store.new)
+        (S.faults store.old) (S.faults store.new))
+        (course (K.contents out.old) (K.contents out.new) (K.faults out.old) (K.faults out.new)) }
+    ensures compiled { (source out_name : List ℕ) (options : Options)
+        → command_of (texts words.now) ≡ Some (compile source out_name options)
+        → IfStatus result (λ exit. exit ≡ 0 → Changes
+        (λ files after. HoldsConstraintsOf files source options (after out_name))
+        (S.contents store.old) (S.contents store.new)) }
+    ensures proved { (r1cs wtns out_name : List ℕ) (options : ProveOptions)
+        → command_of (texts words.now) ≡ Some (prove r1cs wtns out_name options)
+        → IfStatus result (λ exit. exit ≡ 0 → Changes
+        (λ files after. HoldsProof files r1cs wtns (after out_name))
+        (S.contents store.old) (S.contents store.new)) }
+    ensures audited { (r1cs publics proof : List ℕ)
+        → command_of (texts words.now) ≡ Some (audit r1cs publics proof)
+        → IfStatus result (λ exit. (exit ≡ 3) ⊎ Told (S.contents store.old)
+        (λ files. (exit ≡ 0) ↔ IsAccepted files r1cs publics proof)) }
+    ensures usage { command_of (texts words.now) ≡ None
+        → IfStatus result (λ exit. (exit ≡ 64) ⊎ Rose (K.faults out.old) (K.faults out.new)) }
+    ensures unasked { command_of (texts words.now) ≡ None
+        → (S.contents store.new ≡ S.contents store.old)
+        × (S.faults store.new ≡ S.faults store.old) }
+    ensures only_usage { IfStatus result (λ exit. exit ≡ 64 → command_of (texts words.now) ≡ None) }
+    ensures store { Counting (S.faults store.old) (S.faults store.new)
+        (S.never_fails store.old) (S.never_fails store.new) }
+    ensures sink { Counting (K.faults out.old) (K.faults out.new)
+        (K.never_fails out.old) (K.never_fails out.new) }
+{
+    if RunCommand::is_named(words) {
+        return Ok(None);
+    }
+    match run_command(rt, alloc, words, store, out) {
+        Ok(status) => Ok(Some(status)),
+        Err(error) => Err(error),
     }
 }
 
 /// `run` over memory where no call fails: the reply is given, and the exit status is never 3.
-pub fn run_in_memory<R: Threads + AllocGlobal + Sync>(
+pub fn run_in_memory<R: Threads + Wait + AllocGlobal + Sync>(
     rt: &R,
     alloc: Global,
     words: &[String],
@@ -127,134 +206,4 @@ pub fn run_in_memory<R: Threads + AllocGlobal + Sync>(
     ensures no_fault { IfOk result (λ exit. exit ≢ 3) }
 {
     run(rt, alloc, words, store, out)
-}
-
-// The reply to the command, whose file is written.
-fn answered<'w, R: Threads + AllocGlobal + Sync, S: Store>(
-    rt: &R,
-    alloc: Global,
-    command: Option<Command<'w>>,
-    store: &mut S,
-) -> Result<Reply<'w>, IoFault>
-    ensures answers { IfOk result
-        (λ r. Answers (S.contents store.old) (option_map meant command.entry) (shown r)) }
-    ensures files { IfOk result
-        (λ r. Changes (Leaves (shown r).file) (S.contents store.old) (S.contents store.new)) }
-    ensures kept { OnErr result
-        (Writing (option_map meant command.entry) (S.contents store.old) (S.contents store.new)) }
-    ensures compiled { (source out_name : List ℕ) (options : Options)
-        → option_map meant command.entry ≡ Some (compile source out_name options)
-        → IfOk result (λ r. r.status ≡ 0 → Told (S.contents store.old)
-        (λ files. WritesConstraintsOf files source options out_name (shown r))) }
-    ensures proved { (r1cs wtns out_name : List ℕ) (options : ProveOptions)
-        → option_map meant command.entry ≡ Some (prove r1cs wtns out_name options)
-        → IfOk result (λ r. r.status ≡ 0 → Told (S.contents store.old)
-        (λ files. WritesProof files r1cs wtns out_name (shown r))) }
-    ensures audited { (r1cs publics proof : List ℕ)
-        → option_map meant command.entry ≡ Some (audit r1cs publics proof)
-        → IfOk result (λ r. Told (S.contents store.old)
-        (λ files. (r.status ≡ 0) ↔ IsAccepted files r1cs publics proof)) }
-    ensures unasked { option_map meant command.entry ≡ None
-        → (S.contents store.new ≡ S.contents store.old)
-        × (S.faults store.new ≡ S.faults store.old) }
-    ensures answered { option_map meant command.entry ≡ None → ¬ IsErrOf result Failed }
-    ensures fault { IsErrOf result Failed → Rose (S.faults store.old) (S.faults store.new) }
-    ensures counting { Counting (S.faults store.old) (S.faults store.new)
-        (S.never_fails store.old) (S.never_fails store.new) }
-{
-    let reply = reply_to(rt, alloc, command, store)?;
-    write_file(alloc, &reply, store)?;
-    Ok(reply)
-}
-
-// The reply to the command. Its file isn't written.
-fn reply_to<'w, R: Threads + AllocGlobal + Sync, S: Store>(
-    rt: &R,
-    alloc: Global,
-    command: Option<Command<'w>>,
-    store: &mut S,
-) -> Result<Reply<'w>, IoFault>
-    ensures answers { IfOk result
-        (λ r. Answers (S.contents store.old) (option_map meant command.entry) (shown r)) }
-    ensures compiled { (source out_name : List ℕ) (options : Options)
-        → option_map meant command.entry ≡ Some (compile source out_name options)
-        → IfOk result (λ r. r.status ≡ 0 → Told (S.contents store.old)
-        (λ files. WritesConstraintsOf files source options out_name (shown r))) }
-    ensures proved { (r1cs wtns out_name : List ℕ) (options : ProveOptions)
-        → option_map meant command.entry ≡ Some (prove r1cs wtns out_name options)
-        → IfOk result (λ r. r.status ≡ 0 → Told (S.contents store.old)
-        (λ files. WritesProof files r1cs wtns out_name (shown r))) }
-    ensures audited { (r1cs publics proof : List ℕ)
-        → option_map meant command.entry ≡ Some (audit r1cs publics proof)
-        → IfOk result (λ r. Told (S.contents store.old)
-        (λ files. (r.status ≡ 0) ↔ IsAccepted files r1cs publics proof)) }
-    ensures unasked { option_map meant command.entry ≡ None
-        → (S.faults store.new ≡ S.faults store.old) × ¬ IsErrOf result Failed }
-    ensures fault { IsErrOf result Failed → Rose (S.faults store.old) (S.faults store.new) }
-    ensures store { OnlyReads (S.contents store.old) (S.contents store.new)
-        (S.faults store.old) (S.faults store.new)
-        (S.never_fails store.old) (S.never_fails store.new) }
-{
-    match command {
-        None => Ok(Reply::usage(alloc)?),
-        Some(Command::Check { r1cs, wtns }) => check_reply(alloc, r1cs, wtns, store),
-        Some(
-            Command::Compile {
-                source,
-                out,
-                options,
-            },
-        ) => compile_reply(alloc, source, out, options, store),
-        Some(
-            Command::Prove {
-                r1cs,
-                wtns,
-                out,
-                options,
-            },
-        ) => prove_reply(rt, alloc, r1cs, wtns, out, options, store),
-        Some(Command::Public { r1cs, wtns, out }) => public_reply(alloc, r1cs, wtns, out, store),
-        Some(
-            Command::Audit {
-                r1cs,
-                publics,
-                proof,
-            },
-        ) => audit_reply(rt, alloc, r1cs, publics, proof, store),
-    }
-}
-
-// Writes the reply's file, if it has one.
-fn write_file<S: Store>(alloc: Global, reply: &Reply<'_>, store: &mut S) -> Result<(), IoFault>
-    ensures ok { OnOk result
-        (Changes (Leaves (shown reply.now).file) (S.contents store.old) (S.contents store.new)) }
-    ensures err { OnErr result
-        (Changes (LeavesInPart (shown reply.now).file)
-        (S.contents store.old) (S.contents store.new)) }
-    ensures none { (shown reply.now).file ≡ None → (S.contents store.new ≡ S.contents store.old)
-        × (S.faults store.new ≡ S.faults store.old) × IsOk result }
-    ensures fault { IsErrOf result Failed → Rose (S.faults store.old) (S.faults store.new) }
-    ensures counting { Counting (S.faults store.old) (S.faults store.new)
-        (S.never_fails store.old) (S.never_fails store.new) }
-{
-    match &reply.file {
-        None => Ok(()),
-        Some(file) => store.write(alloc, file.name, file.bytes.as_slice()),
-    }
-}
-
-// Puts the reply's text at once, and gives the exit status.
-fn put_text<K: Sink>(reply: &Reply<'_>, out: &mut K) -> Result<u8, AllocError>
-    ensures puts { IfOk result (Puts (shown reply.now)
-        (course (K.contents out.old) (K.contents out.new) (K.faults out.old) (K.faults out.new))) }
-    ensures front { IsAppendedInPart (shown reply.now).text
-        (K.contents out.old) (K.contents out.new) }
-    ensures counting { Counting (K.faults out.old) (K.faults out.new)
-        (K.never_fails out.old) (K.never_fails out.new) }
-{
-    match out.put(reply.text.as_slice()) {
-        Ok(()) => Ok(reply.status),
-        Err(IoFault::Failed) => Ok(FAULT),
-        Err(IoFault::OutOfMemory) => Err(AllocError),
-    }
 }

@@ -3,11 +3,13 @@ use checks::same;
 use circom_gold::run;
 use out_io::{MemSink, MemStore};
 use std::process::Abort;
+use std::sync::Wait;
 use std::thread::Threads;
 
 mod checks;
 mod compiling;
 mod proving;
+mod running;
 
 // Three sections: the sizes, the constraint (-a) * b = -c, the labels.
 static R1CS: [u8; 168] = [
@@ -23,21 +25,19 @@ fn put(rt: &impl Abort, bytes: &mut Vec<u8>, more: &[u8]) {
     bytes.extend_from_slice(more).expect(rt, "memory");
 }
 
-// A file of so few values that its sizes fit a byte.
-fn wtns<R: AllocGlobal + Abort>(rt: &R, values: &[u8]) -> Vec<u8> {
+// A file of these values.
+fn wtns<R: AllocGlobal + Abort>(rt: &R, values: &[u64]) -> Vec<u8> {
     let mut bytes = Vec::new(rt.alloc());
-    let count = u8::try_from(values.len()).unwrap_or(0);
+    let count = values.len() as u64;
     put(rt, &mut bytes, b"wtns\x02\0\0\0\x02\0\0\0");
     put(rt, &mut bytes, b"\x01\0\0\0\x10\0\0\0\0\0\0\0\x08\0\0\0");
     put(rt, &mut bytes, b"\x01\0\0\0\xff\xff\xff\xff");
-    put(rt, &mut bytes, &[count, 0, 0, 0, 2, 0, 0, 0]);
-    put(
-        rt,
-        &mut bytes,
-        &[count.wrapping_mul(8), 0, 0, 0, 0, 0, 0, 0],
-    );
+    let few = u32::try_from(count).unwrap_or(0);
+    put(rt, &mut bytes, &few.to_le_bytes());
+    put(rt, &mut bytes, &[2, 0, 0, 0]);
+    put(rt, &mut bytes, &count.wrapping_mul(8).to_le_bytes());
     for value in values {
-        put(rt, &mut bytes, &[*value, 0, 0, 0, 0, 0, 0, 0]);
+        put(rt, &mut bytes, &value.to_le_bytes());
     }
     bytes
 }
@@ -59,7 +59,7 @@ fn put_file<R: AllocGlobal + Abort>(rt: &R, store: &mut MemStore, name: &str, by
 }
 
 // A store of the two files.
-fn store<R: AllocGlobal + Abort>(rt: &R, r1cs: &[u8], values: &[u8]) -> MemStore {
+fn store<R: AllocGlobal + Abort>(rt: &R, r1cs: &[u8], values: &[u64]) -> MemStore {
     let mut store = MemStore::new(rt.alloc());
     put_file(rt, &mut store, "m.r1cs", r1cs);
     put_file(rt, &mut store, "m.wtns", &wtns(rt, values));
@@ -76,7 +76,7 @@ fn sources<R: AllocGlobal + Abort>(rt: &R, files: &[(&str, &str)]) -> MemStore {
 }
 
 // The exit status of the words over the store.
-fn status_of<R: Threads + AllocGlobal + Sync + Abort>(
+fn status_of<R: Threads + Wait + AllocGlobal + Sync + Abort>(
     rt: &R,
     words: &[String],
     store: &mut MemStore,
@@ -94,7 +94,7 @@ struct Ran {
     puts: u32,
 }
 
-fn run_into<R: Threads + AllocGlobal + Sync + Abort>(
+fn run_into<R: Threads + Wait + AllocGlobal + Sync + Abort>(
     rt: &R,
     words: &str,
     store: &mut MemStore,
@@ -110,7 +110,7 @@ fn run_into<R: Threads + AllocGlobal + Sync + Abort>(
     }
 }
 
-fn run_words<R: Threads + AllocGlobal + Sync + Abort>(
+fn run_words<R: Threads + Wait + AllocGlobal + Sync + Abort>(
     rt: &R,
     words: &str,
     store: &mut MemStore,
@@ -119,7 +119,7 @@ fn run_words<R: Threads + AllocGlobal + Sync + Abort>(
 }
 
 // The same with a sink that fails.
-fn run_lost<R: Threads + AllocGlobal + Sync + Abort>(
+fn run_lost<R: Threads + Wait + AllocGlobal + Sync + Abort>(
     rt: &R,
     words: &str,
     store: &mut MemStore,
@@ -130,7 +130,7 @@ fn run_lost<R: Threads + AllocGlobal + Sync + Abort>(
 }
 
 // The words over the store end with this status and say this, by one call of the sink.
-fn says<R: Threads + AllocGlobal + Sync + Abort>(
+fn says<R: Threads + Wait + AllocGlobal + Sync + Abort>(
     rt: &R,
     words: &str,
     store: &mut MemStore,
@@ -143,7 +143,7 @@ fn says<R: Threads + AllocGlobal + Sync + Abort>(
 }
 
 // How many bytes of the file there are, the values, the status and the line.
-static CHECKS: [(usize, &[u8], u8, &str); 5] = [
+static CHECKS: [(usize, &[u64], u8, &str); 5] = [
     (168, &[1, 33, 3, 11], 0, "satisfied\n"),
     (168, &[1, 34, 3, 11], 2, "unsatisfied: constraint 0\n"),
     (168, &[2, 33, 3, 11], 2, "unsatisfied: wire 0\n"),
@@ -185,7 +185,7 @@ fn failing_store<R: AllocGlobal + Abort>(rt: &R, fail: u32) -> MemStore {
 }
 
 // The store's call of this number fails: the status is 3, and no file is written.
-fn is_fault<R: Threads + AllocGlobal + Sync + Abort>(
+fn is_fault<R: Threads + Wait + AllocGlobal + Sync + Abort>(
     rt: &R,
     words: &str,
     store: &mut MemStore,
@@ -198,7 +198,7 @@ fn is_fault<R: Threads + AllocGlobal + Sync + Abort>(
 }
 
 // The sink fails: the status is 3, and nothing is said.
-fn is_lost<R: Threads + AllocGlobal + Sync + Abort>(
+fn is_lost<R: Threads + Wait + AllocGlobal + Sync + Abort>(
     rt: &R,
     words: &str,
     store: &mut MemStore,
@@ -210,7 +210,7 @@ fn is_lost<R: Threads + AllocGlobal + Sync + Abort>(
 }
 
 // So many calls of the store, of which each fails once, and the text where none does.
-fn each_call_fails<R: Threads + AllocGlobal + Sync + Abort>(
+fn each_call_fails<R: Threads + Wait + AllocGlobal + Sync + Abort>(
     rt: &R,
     words: &str,
     calls: u32,
@@ -319,7 +319,7 @@ fn compile_writes_a_file_that_check_accepts(rt: HostRuntime) {
 }
 
 // The line of the words over these files. The status is 1 where it is a refusal, else 0.
-fn gives<R: Threads + AllocGlobal + Sync + Abort>(
+fn gives<R: Threads + Wait + AllocGlobal + Sync + Abort>(
     rt: &R,
     words: &str,
     files: &[(&str, &str)],

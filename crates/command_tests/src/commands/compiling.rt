@@ -58,8 +58,8 @@ template Tuples() {
 }
 ";
 
-// A store of the library and of a source that includes it and ends with this main component.
-fn with_library<R: AllocGlobal + Abort>(rt: &R, main: &str) -> MemStore {
+/// A store of the library and of a source that includes it and ends with this main component.
+pub fn with_library<R: AllocGlobal + Abort>(rt: &R, main: &str) -> MemStore {
     let mut store = sources(rt, &[("lib.circom", LIBRARY)]);
     let source = format!(in rt.alloc(); "include \"lib.circom\"; component main {main};");
     let source = source.expect(rt, "memory");
@@ -150,7 +150,7 @@ fn circuits_have_their_wires_and_constraints(rt: HostRuntime) {
 }
 
 // 3 is less than 5; that it isn't fails at the last constraint, which says what the output is.
-static COMPARISONS: [([u8; 14], u8, &str); 2] = [
+static COMPARISONS: [([u64; 14], u8, &str); 2] = [
     (
         [1, 1, 3, 5, 254, 0, 1, 1, 1, 1, 1, 1, 1, 0],
         0,

@@ -3,6 +3,7 @@ use super::checks::same;
 use super::{R1CS, is_fault, is_lost, put_file, run_words, says, store};
 use out_io::MemStore;
 use std::process::Abort;
+use std::sync::Wait;
 use std::thread::Threads;
 
 const PROVE: &str = "prove m.r1cs m.wtns m.proof --seed \
@@ -18,7 +19,7 @@ fn proof_in<R: AllocGlobal + Abort>(rt: &R, store: &MemStore) -> Vec<u8> {
 }
 
 // Runs a command that makes a proof, which is accepted. The answer is how many bytes it has.
-fn makes_a_proof<R: Threads + AllocGlobal + Sync + Abort>(
+fn makes_a_proof<R: Threads + Wait + AllocGlobal + Sync + Abort>(
     rt: &R,
     words: &str,
     store: &mut MemStore,
@@ -42,7 +43,7 @@ fn a_proof_is_made_and_accepted(rt: HostRuntime) {
 }
 
 // The verdict on a proof with these public values is a rejection, by this line.
-fn is_rejected<R: Threads + AllocGlobal + Sync + Abort>(
+fn is_rejected<R: Threads + Wait + AllocGlobal + Sync + Abort>(
     rt: &R,
     store: &mut MemStore,
     publics: &str,
@@ -55,7 +56,7 @@ fn is_rejected<R: Threads + AllocGlobal + Sync + Abort>(
 }
 
 // A store with the proof of the values 1, 33, 3 and 11, and that proof.
-fn proved<R: Threads + AllocGlobal + Sync + Abort>(rt: &R) -> (MemStore, Vec<u8>) {
+fn proved<R: Threads + Wait + AllocGlobal + Sync + Abort>(rt: &R) -> (MemStore, Vec<u8>) {
     let mut store = store(rt, &R1CS, &[1, 33, 3, 11]);
     same(rt, run_words(rt, FIRST, &mut store).status, 0);
     let proof = proof_in(rt, &store);
@@ -92,7 +93,7 @@ fn a_changed_column_is_off_its_path(rt: HostRuntime) {
 }
 
 // The status of `audit` on a proof with these public values.
-fn status_on<R: Threads + AllocGlobal + Sync + Abort>(
+fn status_on<R: Threads + Wait + AllocGlobal + Sync + Abort>(
     rt: &R,
     store: &mut MemStore,
     publics: &str,
@@ -112,7 +113,7 @@ fn other_publics_and_polynomials_are_rejected(rt: HostRuntime) {
 }
 
 // The words, the values, the status and the line.
-static UNPROVED: [(&str, &[u8], u8, &str); 7] = [
+static UNPROVED: [(&str, &[u64], u8, &str); 7] = [
     (PROVE, &[1, 34, 3, 11], 2, "unsatisfied: constraint 0\n"),
     (PROVE, &[2, 33, 3, 11], 2, "unsatisfied: wire 0\n"),
     (PROVE, &[1, 33, 3], 1, "refused: 3 values for 4 wires\n"),

@@ -1,69 +1,169 @@
-use Rattle.std.proofs.Common.{◌∙◌, List, ℕ, Option, refl, subst}
+use Rattle.std.proofs.Common.{◌∙◌, List, ℕ}
 use Rattle.out_io.specs.Calls.{Course, course}
 use Rattle.out_io.specs.Contents.{Contents}
-use Rattle.circom_gold.specs.Reply.{Answers}
-use Rattle.circom_gold.specs.Run.{Writing}
-use Rattle.circom_files.specs.Shown.{shown}
-use Rattle.circom_words.specs.Words.{Command, command_of, texts}
-use Rattle.circom_gold.proofs.Replies.{audit_told, proof_written, stays_said, stays_wanting}
-use Rattle.circom_gold.proofs.Replies.{success_written}
+use Rattle.circom_words.specs.Words.{audit, compile, prove, texts, witness}
+use Rattle.circom_gold.proofs.RunReplies.{ended_so, only_so, plain_so, runs_only, runs_so, stays_so}
+use Rattle.circom_gold.proofs.RunReplies.{waits_only}
 use Rattle.circom_gold.proofs.program.run.Goals as goal
 
-pub returns-in-Ok-clause-kept : goal.returns-in-Ok-clause-kept
-returns-in-Ok-clause-kept g c =
+pub returns-then-is_named-clause-ended : goal.returns-then-is_named-clause-ended
+returns-then-is_named-clause-ended g c =
     let store : Course Contents =
-    course (g.S.Store.contents c.args.store.now) (g.S.Store.contents c.answered.new.store)
-    (g.S.Store.faults c.args.store.now) (g.S.Store.faults c.answered.new.store) in
+    course (g.S.Store.contents c.args.store.now) (g.S.Store.contents c.run_circuit.new.store)
+    (g.S.Store.faults c.args.store.now) (g.S.Store.faults c.run_circuit.new.store) in
     let sink : Course (List ℕ) =
-    course (g.K.Sink.contents c.args.out.now) (g.K.Sink.contents c.put_text.new.out)
-    (g.K.Sink.faults c.args.out.now) (g.K.Sink.faults c.put_text.new.out) in
-    stays_said (command_of (texts c.args.words.now)) (shown c.in-Ok.reply) store sink
-    (subst
-    (λ (x : Option Command). Answers (g.S.Store.contents c.args.store.now) x (shown c.in-Ok.reply))
-    c.in_ok-command.ensures c.in-Ok.ensures.answers)
-    c.in-Ok.ensures.files c.put_text.ensures.front
+    course (g.K.Sink.contents c.args.out.now) (g.K.Sink.contents c.run_circuit.new.out)
+    (g.K.Sink.faults c.args.out.now) (g.K.Sink.faults c.run_circuit.new.out) in
+    let same = runs_so (texts c.args.words.now) c.is_named.result c.is_named.ensures
+    c.if-is_named.true in
+    ended_so same store sink c.run_circuit.result c.run_circuit.ensures.ended
 
-pub returns-in-Ok-clause-compiled : goal.returns-in-Ok-clause-compiled
-returns-in-Ok-clause-compiled g c = λ source out options is.
-    let sink : Course (List ℕ) =
-    course (g.K.Sink.contents c.args.out.now) (g.K.Sink.contents c.put_text.new.out)
-    (g.K.Sink.faults c.args.out.now) (g.K.Sink.faults c.put_text.new.out) in
-    success_written c.put_text.result (g.S.Store.contents c.args.store.now)
-    (g.S.Store.contents c.answered.new.store) sink source options out (shown c.in-Ok.reply)
-    (c.in-Ok.ensures.compiled source out options (c.in_ok-command.ensures ∙ is))
-    c.in-Ok.ensures.files c.put_text.ensures.puts
-
-pub returns-in-Ok-clause-proved : goal.returns-in-Ok-clause-proved
-returns-in-Ok-clause-proved g c = λ r1cs wtns out options is.
-    let sink : Course (List ℕ) =
-    course (g.K.Sink.contents c.args.out.now) (g.K.Sink.contents c.put_text.new.out)
-    (g.K.Sink.faults c.args.out.now) (g.K.Sink.faults c.put_text.new.out) in
-    proof_written c.put_text.result (g.S.Store.contents c.args.store.now)
-    (g.S.Store.contents c.answered.new.store) sink r1cs wtns out (shown c.in-Ok.reply)
-    (c.in-Ok.ensures.proved r1cs wtns out options (c.in_ok-command.ensures ∙ is))
-    c.in-Ok.ensures.files c.put_text.ensures.puts
-
-pub returns-in-Ok-clause-audited : goal.returns-in-Ok-clause-audited
-returns-in-Ok-clause-audited g c = λ r1cs publics proof is.
-    let sink : Course (List ℕ) =
-    course (g.K.Sink.contents c.args.out.now) (g.K.Sink.contents c.put_text.new.out)
-    (g.K.Sink.faults c.args.out.now) (g.K.Sink.faults c.put_text.new.out) in
-    audit_told c.put_text.result (g.S.Store.contents c.args.store.now) sink r1cs publics proof
-    (shown c.in-Ok.reply)
-    (c.in-Ok.ensures.audited r1cs publics proof (c.in_ok-command.ensures ∙ is))
-    c.put_text.ensures.puts
-
-pub returns-in_err-reply-in-Err-Failed-clause-kept :
-    goal.returns-in_err-reply-in-Err-Failed-clause-kept
-returns-in_err-reply-in-Err-Failed-clause-kept g c =
+pub returns-then-is_named-clause-kept : goal.returns-then-is_named-clause-kept
+returns-then-is_named-clause-kept g c =
     let store : Course Contents =
-    course (g.S.Store.contents c.args.store.now) (g.S.Store.contents c.answered.new.store)
-    (g.S.Store.faults c.args.store.now) (g.S.Store.faults c.answered.new.store) in
+    course (g.S.Store.contents c.args.store.now) (g.S.Store.contents c.run_circuit.new.store)
+    (g.S.Store.faults c.args.store.now) (g.S.Store.faults c.run_circuit.new.store) in
     let sink : Course (List ℕ) =
-    course (g.K.Sink.contents c.args.out.now) (g.K.Sink.contents c.args.out.now)
-    (g.K.Sink.faults c.args.out.now) (g.K.Sink.faults c.args.out.now) in
-    stays_wanting (command_of (texts c.args.words.now)) store sink
-    (subst
-    (λ (x : Option Command). Writing x (g.S.Store.contents c.args.store.now)
-    (g.S.Store.contents c.answered.new.store)) c.in_ok-command.ensures c.in-Err-Failed.ensures.kept)
-    refl
+    course (g.K.Sink.contents c.args.out.now) (g.K.Sink.contents c.run_circuit.new.out)
+    (g.K.Sink.faults c.args.out.now) (g.K.Sink.faults c.run_circuit.new.out) in
+    let same = runs_so (texts c.args.words.now) c.is_named.result c.is_named.ensures
+    c.if-is_named.true in
+    stays_so same store sink c.run_circuit.ensures.kept
+
+pub returns-then-is_named-clause-compiled : goal.returns-then-is_named-clause-compiled
+returns-then-is_named-clause-compiled g c = λ source out options is.
+    let same = runs_so (texts c.args.words.now) c.is_named.result c.is_named.ensures
+    c.if-is_named.true in
+    absurd (runs_only (texts c.args.words.now) (compile source out options) (same ∙ is))
+
+pub returns-then-is_named-clause-proved : goal.returns-then-is_named-clause-proved
+returns-then-is_named-clause-proved g c = λ r1cs wtns out options is.
+    let same = runs_so (texts c.args.words.now) c.is_named.result c.is_named.ensures
+    c.if-is_named.true in
+    absurd (runs_only (texts c.args.words.now) (prove r1cs wtns out options) (same ∙ is))
+
+pub returns-then-is_named-clause-audited : goal.returns-then-is_named-clause-audited
+returns-then-is_named-clause-audited g c = λ r1cs publics proof is.
+    let same = runs_so (texts c.args.words.now) c.is_named.result c.is_named.ensures
+    c.if-is_named.true in
+    absurd (runs_only (texts c.args.words.now) (audit r1cs publics proof) (same ∙ is))
+
+pub returns-then-is_named-clause-witnessed : goal.returns-then-is_named-clause-witnessed
+returns-then-is_named-clause-witnessed g c = λ source input out options running is.
+    let same = runs_so (texts c.args.words.now) c.is_named.result c.is_named.ensures
+    c.if-is_named.true in
+    c.run_circuit.ensures.witnessed source input out options running (same ∙ is)
+
+pub returns-then-is_named-clause-has_witness : goal.returns-then-is_named-clause-has_witness
+returns-then-is_named-clause-has_witness g c = λ source input out options running is.
+    let same = runs_so (texts c.args.words.now) c.is_named.result c.is_named.ensures
+    c.if-is_named.true in
+    c.run_circuit.ensures.has_witness source input out options running (same ∙ is)
+
+pub returns-then-is_named-clause-halted : goal.returns-then-is_named-clause-halted
+returns-then-is_named-clause-halted g c = λ source input out options running h is.
+    let same = runs_so (texts c.args.words.now) c.is_named.result c.is_named.ensures
+    c.if-is_named.true in
+    c.run_circuit.ensures.halted source input out options running h (same ∙ is)
+
+pub returns-then-is_named-clause-usage : goal.returns-then-is_named-clause-usage
+returns-then-is_named-clause-usage g c = λ none.
+    let same = runs_so (texts c.args.words.now) c.is_named.result c.is_named.ensures
+    c.if-is_named.true in
+    c.run_circuit.ensures.usage (same ∙ none)
+
+pub returns-then-is_named-clause-unasked : goal.returns-then-is_named-clause-unasked
+returns-then-is_named-clause-unasked g c = λ none.
+    let same = runs_so (texts c.args.words.now) c.is_named.result c.is_named.ensures
+    c.if-is_named.true in
+    c.run_circuit.ensures.unasked (same ∙ none)
+
+pub returns-then-is_named-clause-only_usage : goal.returns-then-is_named-clause-only_usage
+returns-then-is_named-clause-only_usage g c =
+    let same = runs_so (texts c.args.words.now) c.is_named.result c.is_named.ensures
+    c.if-is_named.true in
+    only_so same c.run_circuit.result c.run_circuit.ensures.only_usage
+
+pub returns-else-is_named-clause-ended : goal.returns-else-is_named-clause-ended
+returns-else-is_named-clause-ended g c =
+    let store : Course Contents =
+    course (g.S.Store.contents c.args.store.now) (g.S.Store.contents c.run_command.new.store)
+    (g.S.Store.faults c.args.store.now) (g.S.Store.faults c.run_command.new.store) in
+    let sink : Course (List ℕ) =
+    course (g.K.Sink.contents c.args.out.now) (g.K.Sink.contents c.run_command.new.out)
+    (g.K.Sink.faults c.args.out.now) (g.K.Sink.faults c.run_command.new.out) in
+    let same = plain_so (texts c.args.words.now) c.is_named.result c.is_named.ensures
+    c.if-is_named.false in
+    ended_so same store sink c.run_command.result c.run_command.ensures.ended
+
+pub returns-else-is_named-clause-kept : goal.returns-else-is_named-clause-kept
+returns-else-is_named-clause-kept g c =
+    let store : Course Contents =
+    course (g.S.Store.contents c.args.store.now) (g.S.Store.contents c.run_command.new.store)
+    (g.S.Store.faults c.args.store.now) (g.S.Store.faults c.run_command.new.store) in
+    let sink : Course (List ℕ) =
+    course (g.K.Sink.contents c.args.out.now) (g.K.Sink.contents c.run_command.new.out)
+    (g.K.Sink.faults c.args.out.now) (g.K.Sink.faults c.run_command.new.out) in
+    let same = plain_so (texts c.args.words.now) c.is_named.result c.is_named.ensures
+    c.if-is_named.false in
+    stays_so same store sink c.run_command.ensures.kept
+
+pub returns-else-is_named-clause-compiled : goal.returns-else-is_named-clause-compiled
+returns-else-is_named-clause-compiled g c = λ source out options is.
+    let same = plain_so (texts c.args.words.now) c.is_named.result c.is_named.ensures
+    c.if-is_named.false in
+    c.run_command.ensures.compiled source out options (same ∙ is)
+
+pub returns-else-is_named-clause-proved : goal.returns-else-is_named-clause-proved
+returns-else-is_named-clause-proved g c = λ r1cs wtns out options is.
+    let same = plain_so (texts c.args.words.now) c.is_named.result c.is_named.ensures
+    c.if-is_named.false in
+    c.run_command.ensures.proved r1cs wtns out options (same ∙ is)
+
+pub returns-else-is_named-clause-audited : goal.returns-else-is_named-clause-audited
+returns-else-is_named-clause-audited g c = λ r1cs publics proof is.
+    let same = plain_so (texts c.args.words.now) c.is_named.result c.is_named.ensures
+    c.if-is_named.false in
+    c.run_command.ensures.audited r1cs publics proof (same ∙ is)
+
+pub returns-else-is_named-clause-witnessed : goal.returns-else-is_named-clause-witnessed
+returns-else-is_named-clause-witnessed g c = λ source input out options running is.
+    let same = plain_so (texts c.args.words.now) c.is_named.result c.is_named.ensures
+    c.if-is_named.false in
+    absurd
+    (waits_only (texts c.args.words.now) (witness source input out options running)
+    (same ∙ is))
+
+pub returns-else-is_named-clause-has_witness : goal.returns-else-is_named-clause-has_witness
+returns-else-is_named-clause-has_witness g c = λ source input out options running is.
+    let same = plain_so (texts c.args.words.now) c.is_named.result c.is_named.ensures
+    c.if-is_named.false in
+    absurd
+    (waits_only (texts c.args.words.now) (witness source input out options running)
+    (same ∙ is))
+
+pub returns-else-is_named-clause-halted : goal.returns-else-is_named-clause-halted
+returns-else-is_named-clause-halted g c = λ source input out options running h is.
+    let same = plain_so (texts c.args.words.now) c.is_named.result c.is_named.ensures
+    c.if-is_named.false in
+    absurd
+    (waits_only (texts c.args.words.now) (witness source input out options running)
+    (same ∙ is))
+
+pub returns-else-is_named-clause-usage : goal.returns-else-is_named-clause-usage
+returns-else-is_named-clause-usage g c = λ none.
+    let same = plain_so (texts c.args.words.now) c.is_named.result c.is_named.ensures
+    c.if-is_named.false in
+    c.run_command.ensures.usage (same ∙ none)
+
+pub returns-else-is_named-clause-unasked : goal.returns-else-is_named-clause-unasked
+returns-else-is_named-clause-unasked g c = λ none.
+    let same = plain_so (texts c.args.words.now) c.is_named.result c.is_named.ensures
+    c.if-is_named.false in
+    c.run_command.ensures.unasked (same ∙ none)
+
+pub returns-else-is_named-clause-only_usage : goal.returns-else-is_named-clause-only_usage
+returns-else-is_named-clause-only_usage g c =
+    let same = plain_so (texts c.args.words.now) c.is_named.result c.is_named.ensures
+    c.if-is_named.false in
+    only_so same c.run_command.result c.run_command.ensures.only_usage

@@ -1,7 +1,7 @@
 use Rattle.std.proofs.Common.{◌∙◌, Some, ap, option_map, sym}
 use Rattle.circom_words.specs.Words.{meant}
 use Rattle.circom_gold.proofs.Replies.{same_audit}
-use Rattle.circom_gold.proofs.program.reply_to.Goals as goal
+use Rattle.circom_gold.proofs.plain.reply_to.Goals as goal
 
 pub returns-in-Some-Audit-clause-audited : goal.returns-in-Some-Audit-clause-audited
 returns-in-Some-Audit-clause-audited g c = λ r1cs publics proof same.

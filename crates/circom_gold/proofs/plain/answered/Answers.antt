@@ -1,4 +1,4 @@
-use Rattle.circom_gold.proofs.program.answered.Goals as goal
+use Rattle.circom_gold.proofs.plain.answered.Goals as goal
 
 pub returns-clause-proved : goal.returns-clause-proved
 returns-clause-proved g c = λ r1cs wtns out options is.

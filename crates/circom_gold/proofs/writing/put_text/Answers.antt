@@ -1,6 +1,6 @@
 use Rattle.std.proofs.Common.{◌≡◌}
 use Rattle.circom_gold.proofs.Replies.{front_of_all}
-use Rattle.circom_gold.proofs.program.put_text.Goals as goal
+use Rattle.circom_gold.proofs.writing.put_text.Goals as goal
 
 pub returns-in-Ok-clause-front : goal.returns-in-Ok-clause-front
 returns-in-Ok-clause-front g c =

@@ -1,0 +1,272 @@
+-- The numbers that a run starts from fit the program, and its end is what a command finds.
+use Rattle.std.proofs.Common.{◌≡◌, ◌∙◌, ℕ, ◌∷◌, ◌+◌, List, [], length, Option, Some, None, Result}
+use Rattle.std.proofs.Common.{Ok, Err, Vec, sym, ap, subst, slice_get, inl, inr}
+use Rattle.std.specs.Prelude.{unwrap_or}
+use Rattle.std.specs.declared.alloc.Global.{Global}
+use Rattle.out_io.specs.Calls.{Told}
+use Rattle.out_io.specs.Contents.{Contents}
+use Rattle.out_io.proofs.Telling.{told_on}
+use Rattle.iden_files.specs.File.{File}
+use Rattle.cir_ast.specs.Program.{Program}
+use Rattle.cir_meaning.specs.Compile.{Circuit, compiled, shown}
+use Rattle.cir_meaning.specs.Run.{Stopped}
+use Rattle.cir_meaning.specs.RunBodies.{ran}
+use Rattle.cir_meaning.specs.Tried.{Tried, Where}
+use Rattle.cir_compile.specs.Compiled.{IsWritten}
+use Rattle.cir_simplify.specs.declared.types.Level.{Level}
+use Rattle.wit_circuit.specs.Whole.{place_of as step_place}
+use Rattle.wit_circuit.specs.declared.code.StepPlace.{StepPlace}
+use Rattle.wit_code.specs.Table.{stop_number}
+use Rattle.wit_code.specs.declared.code.Stop.{Stop as CodeStop}
+use Rattle.wit_input.specs.Input.{input_of}
+use Rattle.wit_input.proofs.InputNumbers.{input_first}
+use Rattle.wit_run.specs.Ending.{IsEndOf}
+use Rattle.wit_run.specs.Task.{IsTask}
+use Rattle.wit_run.specs.declared.ending.RunEnd.{RunEnd}
+use Rattle.wit_run.specs.declared.ending.RunEnd.TheVariants as end
+use Rattle.circom_words.specs.Words.{Options}
+use Rattle.circom_words.specs.declared.answer.Refusal.{Refusal}
+use Rattle.circom_files.specs.Files.{bytes_in}
+use Rattle.circom_files.specs.Satisfaction.{Satisfies}
+use Rattle.circom_files.specs.Steps.{StepsTo}
+use Rattle.circom_files.specs.declared.outcome.Halt.{Halt}
+use Rattle.circom_files.specs.declared.outcome.Ran.{Ran}
+use Rattle.circom_files.specs.declared.outcome.Ran.TheVariants.{Ended, Halted}
+use Rattle.circom_files.specs.declared.outcome.Generated.{Generated}
+use Rattle.circom_files.specs.declared.outcome.Generated.TheVariants as made
+use Rattle.circom_files.specs.declared.stop.Stop.{Stop}
+use Rattle.circom_files.specs.declared.stop.Stop.TheVariants.{Refused, StoreFailed, OutOfMemory}
+use Rattle.circom_gold.specs.Compile.{Compiles, SourceSteps}
+use Rattle.circom_gold.specs.Running.{EndsIn, GeneratesIn, IsHaltAt, shown_place}
+use Rattle.circom_gold.specs.Source.{Given, GivesSteps, IsCoded, KnowsSource, program_of}
+use Rattle.circom_gold.specs.Witness.{GivesInput, HaltsBy, HasInputs, IsGeneratedRun, IsRunOf}
+use Rattle.circom_gold.specs.Witness.{IsInputRefused, IsWitnessed, RunsTo, Witnesses}
+use Rattle.circom_gold.specs.Witness.{values_by_wire}
+use Rattle.circom_gold.specs.declared.source.Coded.{Coded}
+use Rattle.circom_gold.proofs.Sourcing.{input_is}
+use Rattle.circom_gold.proofs.WitnessLaws.{input_read, many}
+
+shown_ok : (p : Program) (r : Tried Circuit) (m : Circuit) → shown p r ≡ Ok m → r ≡ Ok m
+shown_ok p (Ok c) m e = let same : c ≡ m = cc in ap Ok same
+shown_ok p (Err r) m e = cc
+
+-- something that is told holds of some contents
+pub told_some : (contents : Option Contents) (P : Contents → Type 0) → Told contents P
+    → (files : Contents) × P files
+told_some None P told = told
+told_some (Some files) P told = (files, told)
+
+module _ (level : Level) (x : Coded) (coded : IsCoded level x) where
+  abbrev p : Program
+  p = program_of x
+
+  abbrev main : Circuit
+  main = coded.instantiated.0
+
+  compiles : compiled p ≡ Ok main
+  compiles = shown_ok p (compiled p) main coded.instantiated.1
+
+  pub has_inputs : HasInputs p x.circuit.signals.inputs
+  has_inputs =
+      record { meaning = main; compiles = compiles; are = coded.instantiated.2.inputs }
+
+  pub task_of_start : (start inputs : List ℕ) → start ≡ 1 ∷ inputs
+      → length inputs ≡ main.public_inputs + main.private_inputs → IsTask p x.code start inputs
+  task_of_start start inputs begins each = record {
+    resolved = coded.resolved;
+    places = coded.places;
+    meaning = main;
+    compiles = compiles;
+    made = coded.made;
+    begins = begins;
+    each = each;
+  }
+
+  -- an input that is read
+  module _ (files : Contents) (source : List ℕ) (options : Options) (name start : List ℕ)
+      (given : Given files source options x name (Ok start)) where
+    pub first : (ms : List ℕ) × (start ≡ 1 ∷ ms)
+    first =
+        let bytes : (bytes : List ℕ) × (input_of bytes x.circuit.signals.inputs ≡ Ok start) =
+        input_read x.circuit.signals.inputs (bytes_in files name) start
+        (sym (input_is files name x.circuit.signals.inputs) ∙ given.1) in
+        input_first bytes.0 x.circuit.signals.inputs start bytes.1
+
+    pub gives : GivesInput files name p (Ok (1 ∷ first.0))
+    gives = record {
+      inputs = x.circuit.signals.inputs;
+      has = has_inputs;
+      reads = given.1 ∙ ap Ok first.1;
+    }
+
+    task_of_first : IsTask p x.code start first.0
+    unfolding gives has_inputs
+    task_of_first =
+        task_of_start start first.0 first.1 (many files name p coded.resolved first.0 gives)
+
+    pub task : (inputs : List ℕ) × IsTask p x.code start inputs
+    task = (first.0, task_of_first)
+
+    pub witnessed_by : (fuel : ℕ) (r : Ran) → options.level ≡ level
+        → ((inputs : List ℕ) → IsTask p x.code start inputs → IsRunOf p x.file fuel inputs r)
+        → IsWitnessed files source name options fuel r
+    witnessed_by fuel r same runs = record {
+      program = p;
+      file = x.file;
+      compiled = record {
+        loaded = given.0;
+        written = subst (λ (l : Level). IsWritten p l x.file) (sym same) coded.written;
+      };
+      inputs = first.0;
+      given = gives;
+      run = runs first.0 task_of_first;
+    }
+
+  pub refused_by : (files : Contents) (source : List ℕ) (options : Options) (name : List ℕ)
+      (refusal : Refusal) → options.level ≡ level
+      → Given files source options x name (Err refusal)
+      → IsInputRefused files source name options refusal
+  refused_by files source options name refusal same given = record {
+    program = p;
+    file = x.file;
+    compiled = record {
+      loaded = given.0;
+      written = subst (λ (l : Level). IsWritten p l x.file) (sym same) coded.written;
+    };
+    given = record { inputs = x.circuit.signals.inputs; has = has_inputs; reads = given.1 };
+  }
+
+  pub same_instances : (start inputs : List ℕ) (task : IsTask p x.code start inputs)
+      → x.circuit.instances ≡ task.meaning.instances
+  same_instances start inputs task =
+      let both : Ok main ≡ Ok task.meaning = sym compiles ∙ task.compiles in
+      let same : main ≡ task.meaning = cc in
+      coded.instantiated.2.instances ∙ ap (λ (c : Circuit). c.instances) same
+
+-- ---- the end of a run
+
+shown_at : (files instances : List (List ℕ)) (there : StepPlace) (at : Where)
+    → there ≡ step_place at → slice_get instances there.instance ≡ Some at.path
+    → shown_place files instances there ≡ record {
+      file = unwrap_or (slice_get files at.file) [];
+      line = at.spot.line;
+      column = at.spot.column;
+      path = at.path;
+    }
+shown_at files instances there at same path = λ i. record {
+  file = unwrap_or (slice_get files (same i).file) [];
+  line = (same i).spot.line;
+  column = (same i).spot.column;
+  path = unwrap_or (path i) [];
+}
+
+module _ (p : Program) (file : File) (fuel : ℕ) (inputs : List ℕ)
+    (instances others : List (List ℕ)) (same : others ≡ instances) where
+  halts : (stop : CodeStop) (place : StepPlace) (log : List (List ℕ)) (h : Halt)
+      → IsEndOf instances (end.Stopped stop place log) (ran p fuel inputs)
+      → IsHaltAt p.files others stop place log h → HaltsBy p fuel inputs h
+  halts stop place log h ends is = record {
+    number = ends.number;
+    at = ends.at;
+    runs = ends.run ∙ ap (λ (l : List (List ℕ)). Err (Stopped ends.number ends.at l))
+        (sym is.behind);
+    stop = ap stop_number is.stops ∙ ends.stop;
+    place =
+        is.there ∙ ap (λ (l : List (List ℕ)). shown_place p.files l place) same
+        ∙ shown_at p.files instances place ends.at ends.place ends.path;
+  }
+
+  runs_to : (numbers : List ℕ) (log lines : List (List ℕ)) → lines ≡ log
+      → IsEndOf instances (end.Ended numbers log) (ran p fuel inputs)
+      → RunsTo p fuel inputs numbers lines
+  runs_to numbers log lines e ends =
+      subst (λ (l : List (List ℕ)). RunsTo p fuel inputs numbers l) (sym e) ends
+
+  pub run_of : (e : RunEnd) (r : Ran) → IsEndOf instances e (ran p fuel inputs)
+      → EndsIn p.files others file e r → IsRunOf p file fuel inputs r
+  run_of (end.Ended numbers log) (Ended values lines) ends is =
+      (numbers, runs_to numbers log lines is.1 ends, is.0)
+  run_of (end.Ended numbers log) (Halted h) ends is = absurd is
+  run_of (end.Stopped stop place log) (Ended values lines) ends is = absurd is
+  run_of (end.Stopped stop place log) (Halted h) ends is = halts stop place log h ends is
+
+  pub generated_run_of : ((numbers : List ℕ) (log : List (List ℕ))
+      → RunsTo p fuel inputs numbers log → Satisfies file (values_by_wire file numbers))
+      → (e : RunEnd) (r : Generated) → IsEndOf instances e (ran p fuel inputs)
+      → GeneratesIn p.files others file e r → IsGeneratedRun p file fuel inputs r
+  generated_run_of satisfied (end.Ended numbers log) (made.Ended w c out lines) ends is =
+      let runs : RunsTo p fuel inputs numbers lines = runs_to numbers log lines is.3 ends in
+      (numbers, runs, is.0, is.1, is.2, satisfied numbers lines runs)
+  generated_run_of satisfied (end.Ended numbers log) (made.Halted h) ends is = absurd is
+  generated_run_of satisfied (end.Stopped stop place log) (made.Ended w c out lines) ends is =
+      absurd is
+  generated_run_of satisfied (end.Stopped stop place log) (made.Halted h) ends is =
+      halts stop place log h ends is
+
+-- ---- the steps of `witness`
+
+module _ (contents : Option Contents) (source name : List ℕ) (options : Options) (fuel : ℕ)
+    (failed : Type 0) where
+  abbrev Finds : Contents → Result Ran Refusal → Type 0
+  Finds files found = Witnesses files source name options fuel found
+
+  pub unsourced : (stop : Stop) → SourceSteps contents source options failed (Err stop)
+      → StepsTo (λ (r : Ran). r) contents Finds failed (Err stop)
+  unsourced (Refused r) step =
+      told_on contents (λ files. Compiles files source options (Err r))
+      (λ files. Finds files (Err r)) (λ files h. inl h) step
+  unsourced StoreFailed step = step
+  unsourced OutOfMemory step = tt
+
+  module _ (level : Level) (x : Coded) (coded : IsCoded level x) (same : options.level ≡ level)
+    where
+      pub unstarted : (stop : Stop) → GivesSteps contents source options x name failed (Err stop)
+          → StepsTo (λ (r : Ran). r) contents Finds failed (Err stop)
+      unstarted (Refused r) step =
+          told_on contents (λ files. Given files source options x name (Err r))
+          (λ files. Finds files (Err r))
+          (λ files h. inr (refused_by level x coded files source options name r same h)) step
+      unstarted StoreFailed step = step
+      unstarted OutOfMemory step = tt
+
+      pub found : (v : Vec ℕ Global) (start : List ℕ) (r : Ran) → start ≡ v.items
+          → GivesSteps contents source options x name failed (Ok v)
+          → ((inputs : List ℕ) → IsTask (program_of x) x.code start inputs
+          → IsRunOf (program_of x) x.file fuel inputs r)
+          → Told contents (λ files. Finds files (Ok r))
+      found v start r is step runs =
+          told_on contents (λ files. Given files source options x name (Ok v.items))
+          (λ files. Finds files (Ok r))
+          (λ files h.
+          witnessed_by level x coded files source options name start
+          (subst (λ (l : List ℕ). Given files source options x name (Ok l)) (sym is) h) fuel r same
+          runs) step
+
+      pub task_told : (v : Vec ℕ Global) (start : List ℕ) → start ≡ v.items
+          → GivesSteps contents source options x name failed (Ok v)
+          → (inputs : List ℕ) × IsTask (program_of x) x.code start inputs
+      task_told v start is step =
+          let some = told_some contents (λ files. Given files source options x name (Ok v.items))
+          step in
+          task level x coded some.0 source options name start
+          (subst (λ (l : List ℕ). Given some.0 source options x name (Ok l)) (sym is) some.1)
+
+-- what was read as an input since the source was loaded
+pub started_later : (contents now : Option Contents) (source : List ℕ) (options : Options)
+    (x : Coded) (name : List ℕ) (failed fails : Type 0) (result : Result (Vec ℕ Global) Stop)
+    → now ≡ contents → (fails → failed) → KnowsSource contents source options x.loaded
+    → (KnowsSource now source options x.loaded
+    → GivesSteps now source options x name fails result)
+    → GivesSteps contents source options x name failed result
+started_later contents now source options x name failed fails result same rose knows step =
+    by result
+    (subst (λ (o : Option Contents). GivesSteps o source options x name fails result) same
+    (step
+    (subst (λ (o : Option Contents). KnowsSource o source options x.loaded) (sym same) knows)))
+  where
+    by : (r : Result (Vec ℕ Global) Stop) → GivesSteps contents source options x name fails r
+        → GivesSteps contents source options x name failed r
+    by (Ok v) h = h
+    by (Err (Refused r)) h = h
+    by (Err StoreFailed) h = rose h
+    by (Err OutOfMemory) h = h

@@ -1,0 +1,24 @@
+-- What `generate` finds, step by step.
+use Rattle.std.specs.Prelude.{ℕ, Some, Result, Ok, Err, ⊤}
+use Rattle.circom_files.specs.declared.outcome.Generated.{Generated}
+use Rattle.circom_files.specs.declared.stop.Stop.{Stop}
+use Rattle.circom_files.specs.declared.stop.Stop.TheVariants.{Refused, StoreFailed, OutOfMemory}
+use Rattle.circom_gold.specs.Compile.{Compiles}
+use Rattle.circom_gold.specs.Source.{KnowsSource}
+use Rattle.circom_gold.specs.Witness.{Generates, generated_files, generated_name}
+use Rattle.circom_gold.specs.Witness.{generated_options}
+use Rattle.circom_gold.specs.declared.source.Coded.{Coded}
+
+abbrev pub MakesGenerated : (seed size fuel : ℕ) → Result Generated Stop → Type 0
+MakesGenerated seed size fuel (Ok x) = Generates seed size fuel (Ok x)
+MakesGenerated seed size fuel (Err (Refused r)) = Generates seed size fuel (Err r)
+MakesGenerated seed size fuel (Err StoreFailed) = ⊥
+MakesGenerated seed size fuel (Err OutOfMemory) = ⊤
+
+abbrev pub SourcesGenerated : (size : ℕ) → Result Coded Stop → Type 0
+SourcesGenerated size (Ok x) =
+    KnowsSource (Some (generated_files size)) generated_name generated_options x.loaded
+SourcesGenerated size (Err (Refused r)) =
+    Compiles (generated_files size) generated_name generated_options (Err r)
+SourcesGenerated size (Err StoreFailed) = ⊥
+SourcesGenerated size (Err OutOfMemory) = ⊤

@@ -1,0 +1,150 @@
+//! What a source comes to before it is run.
+
+ghost use Rattle.std.specs.Prelude.{◌≡◌, ℕ, List, IfOk};
+ghost use Rattle.out_io.specs.Calls.{OnlyReads};
+ghost use Rattle.out_io.specs.Faults.{Rose};
+ghost use Rattle.cir_ast.specs.Program.{bare_program};
+ghost use Rattle.cir_checks.specs.Checked.{IsChecked};
+ghost use Rattle.cir_names.specs.Loading.{IsOfSources};
+ghost use Rattle.wit_input.specs.Input.{input_of};
+ghost use Rattle.circom_files.specs.Running.{accepted_input};
+ghost use Rattle.circom_files.specs.Steps.{Gets};
+ghost use Rattle.circom_gold.specs.Source.{Codes, IsCoded, IsStopOf, KnowsSource, Sources};
+ghost use Rattle.circom_gold.specs.Source.{SourcesBy, GivesSteps};
+ghost use Rattle.circom_words.specs.Words.{Options as MeantOptions, meant_options};
+
+use cir_body::circuit_code;
+use cir_compile::{CompileFault, Level, file_from};
+use cir_inst::Circuit;
+use cir_names::{Known, Loaded, load_all};
+use cir_values::Signals;
+use circom_files::{Stop, bytes_in, input_from};
+use circom_words::{BadInput, Options, Refusal};
+use gold_field::Gold;
+use iden_files::R1cs;
+use items::Items;
+use out_io::Store;
+use std::alloc::Global;
+use wit_circuit::CircuitCode;
+
+// As many inputs as have numbers. There is no memory for more.
+const MOST_INPUTS: usize = 1 << 32;
+
+/// A loaded program, what its main component compiles to, the file of its constraints, and the code
+/// of its circuit.
+#[derive(Drop)]
+pub struct Coded {
+    pub loaded: Loaded,
+    pub circuit: Circuit,
+    pub file: R1cs,
+    pub code: CircuitCode,
+}
+
+/// What the source under the name comes to.
+pub fn source_in<S: Store>(
+    alloc: Global,
+    store: &mut S,
+    name: &str,
+    options: Options<'_>,
+) -> Result<Coded, Stop>
+    ensures step { SourcesBy (S.contents store.old) name.now (meant_options options.entry)
+        (Rose (S.faults store.old) (S.faults store.new)) result }
+    ensures coded { IfOk result (IsCoded options.entry.level) }
+    ensures store { OnlyReads (S.contents store.old) (S.contents store.new)
+        (S.faults store.old) (S.faults store.new)
+        (S.never_fails store.old) (S.never_fails store.new) }
+{
+    match coded_in(alloc, store, name, options) {
+        Ok(coded) => Ok(coded),
+        Err(fault) => Err(stop_of(alloc, name, fault)),
+    }
+}
+
+fn coded_in<S: Store>(
+    alloc: Global,
+    store: &mut S,
+    name: &str,
+    options: Options<'_>,
+) -> Result<Coded, CompileFault>
+    ensures sources { Sources (S.contents store.old) name.now (meant_options options.entry)
+        (Rose (S.faults store.old) (S.faults store.new)) result }
+    ensures coded { IfOk result (IsCoded options.entry.level) }
+    ensures store { OnlyReads (S.contents store.old) (S.contents store.new)
+        (S.faults store.old) (S.faults store.new)
+        (S.never_fails store.old) (S.never_fails store.new) }
+{
+    let loaded = load_all(alloc, store, name, options.folder)?;
+    coded_from(alloc, loaded, options.level)
+}
+
+// What a loaded program comes to.
+fn coded_from(alloc: Global, loaded: Loaded, level: Level) -> Result<Coded, CompileFault>
+    requires checked { IsChecked (bare_program loaded.program) }
+    requires theirs { IsOfSources (bare_program loaded.program) }
+    ensures codes { Codes loaded level result }
+    ensures coded { IfOk result (IsCoded level) }
+{
+    let (circuit, code) = circuit_code(alloc, &loaded.program)?;
+    let file = file_from(alloc, &loaded.program, &circuit, level)?;
+    Ok(Coded {
+        loaded,
+        circuit,
+        file,
+        code,
+    })
+}
+
+/// Why a command ends where the source under the name doesn't compile.
+pub fn stop_of(alloc: Global, name: &str, fault: CompileFault) -> Stop
+    ensures { IsStopOf name.now fault result }
+{
+    match fault {
+        CompileFault::Missing => match Items::from_slice(alloc, name.as_bytes()) {
+            Ok(name) => Stop::Refused(Refusal::NoSuchFile { name }),
+            Err(_) => Stop::OutOfMemory,
+        },
+        CompileFault::Refused(refusal) => Stop::Refused(Refusal::BadSource(refusal)),
+        CompileFault::Fault => Stop::StoreFailed,
+        CompileFault::OutOfMemory => Stop::OutOfMemory,
+    }
+}
+
+/// The numbers that the run of a source's program starts from, in the file under the name. A file
+/// that was read or asked for while the source was loaded isn't read again: one of the source's own
+/// is no input.
+pub fn start_in<S: Store>(
+    alloc: Global,
+    store: &mut S,
+    coded: &Coded,
+    name: &str,
+) -> Result<Vec<Gold>, Stop>
+    ensures step { (source : List ℕ) (options : MeantOptions)
+        → KnowsSource (S.contents store.old) source options coded.now.loaded
+        → GivesSteps (S.contents store.old) source options coded.now name.now
+        (Rose (S.faults store.old) (S.faults store.new)) result }
+    ensures store { OnlyReads (S.contents store.old) (S.contents store.new)
+        (S.faults store.old) (S.faults store.new)
+        (S.never_fails store.old) (S.never_fails store.new) }
+{
+    match coded.loaded.known(name) {
+        Known::Source => Err(Stop::Refused(Refusal::BadInput(BadInput::NotJson))),
+        Known::Missing => Err(Stop::Refused(Refusal::NoSuchFile {
+            name: Items::from_slice(alloc, name.as_bytes())?,
+        })),
+        Known::Nothing => {
+            let bytes = bytes_in(alloc, store, name)?;
+            start_from(alloc, bytes.as_slice(), &coded.circuit.signals)
+        }
+    }
+}
+
+// The same in bytes that were read.
+fn start_from(alloc: Global, bytes: &[u8], signals: &Signals) -> Result<Vec<Gold>, Stop>
+    ensures { Gets (λ v. v.items)
+        (accepted_input signals.now.inputs (input_of bytes.now signals.now.inputs)) result }
+{
+    if signals.inputs.len() > MOST_INPUTS {
+        return Err(Stop::OutOfMemory);
+    }
+    input_from(alloc, bytes, signals)
+}
