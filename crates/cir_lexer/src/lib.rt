@@ -5,6 +5,7 @@ mod class;
 mod fault;
 mod front;
 mod scan;
+mod tables;
 
 ghost use Rattle.std.specs.Prelude.{◌≡◌, ◌^◌, ◌≤◌, ℕ, List, Result, length};
 ghost use Rattle.cir_lexer.specs.Reading.{Reads, IsReading};

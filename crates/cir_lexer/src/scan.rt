@@ -13,10 +13,12 @@ ghost use Rattle.cir_lexer.specs.Class.{alone};
 ghost use Rattle.cir_token.specs.Spelling.{reserved_bytes, symbol_bytes};
 ghost use Rattle.cir_token.specs.declared.token.Reserved.{Reserved};
 ghost use Rattle.cir_token.specs.declared.token.Symbol.{Symbol};
+ghost use Rattle.cir_token.specs.declared.spelling.TheConstants.{RESERVED_WORDS};
 ghost use Rattle.cir_token.specs.declared.spelling.TheConstants.{SYMBOLS};
 
 use crate::class::{digit_value, is_digit, is_hexadecimal, is_letter, is_mark, is_name_byte};
-use cir_token::{RESERVED_WORDS, Reserved, SYMBOLS, Symbol};
+use crate::tables::{symbols_from, words_from};
+use cir_token::{Reserved, Symbol};
 
 fn marks_len(text: &[u8]) -> usize
     ensures { result ≡ prefix_len is_mark text.now }
@@ -148,12 +150,24 @@ fn find_reserved(words: &[Reserved], name: &[u8]) -> Option<Reserved>
     words.iter().copied().find(|word| word.spelling() == name)
 }
 
+/// The first word of the table that these bytes are. Only those with the same first byte are looked
+/// at.
+fn first_word(name: &[u8]) -> Option<Reserved>
+    ensures { result
+        ≡ find (λ word. pointwise nat_eq (reserved_bytes word) name.now) RESERVED_WORDS }
+{
+    match name.first() {
+        Some(first) => find_reserved(words_from(*first), name),
+        None => None,
+    }
+}
+
 /// The reserved word that these bytes are.
 pub(crate) fn reserved(name: &[u8]) -> Option<Reserved>
     ensures found { IfSome result (λ word. name.now ≡ reserved_bytes word) }
     ensures none { IfNone result ((word : Reserved) → name.now ≢ reserved_bytes word) }
 {
-    find_reserved(&RESERVED_WORDS, name)
+    first_word(name)
 }
 
 /// Whether the text begins with these bytes. Most texts differ in the first byte, so that one is
@@ -205,7 +219,8 @@ fn alone(byte: u8) -> Option<Symbol>
     }
 }
 
-/// The first symbol of the table that the text begins with. Most are told by their first byte.
+/// The first symbol of the table that the text begins with. Most are told by their first byte, and
+/// of the others only those with the same first byte are looked at.
 fn first_symbol(text: &[u8]) -> Option<Symbol>
     requires { 0 < length text.now }
     ensures { result
@@ -213,7 +228,7 @@ fn first_symbol(text: &[u8]) -> Option<Symbol>
 {
     match alone(text[0]) {
         Some(symbol) => Some(symbol),
-        None => find_symbol(&SYMBOLS, text),
+        None => find_symbol(symbols_from(text[0]), text),
     }
 }
 

@@ -3,7 +3,7 @@ use Rattle.cir_lexer.proofs.scan.reserved.Goals as goal
 
 pub returns-clause-found : goal.returns-clause-found
 returns-clause-found c =
-    reserved_found c.args.name.now c.find_reserved.result c.find_reserved.ensures
+    reserved_found c.args.name.now c.first_word.result c.first_word.ensures
 
 pub returns-clause-none : goal.returns-clause-none
-returns-clause-none c = reserved_none c.args.name.now c.find_reserved.result c.find_reserved.ensures
+returns-clause-none c = reserved_none c.args.name.now c.first_word.result c.first_word.ensures
