@@ -170,15 +170,15 @@ pub(crate) fn reserved(name: &[u8]) -> Option<Reserved>
     first_word(name)
 }
 
-/// Whether the text begins with these bytes. Most texts differ in the first byte, so that one is
-/// compared before the slices are.
+/// Whether the text begins with these bytes. A symbol has so few that they are compared one by one.
 fn begins_with(text: &[u8], bytes: &[u8]) -> bool
-    requires { 0 < length bytes.now }
     ensures { result ≡ starts_with nat_eq text.now bytes.now }
 {
-    match (text.first(), bytes.first()) {
-        (Some(first), Some(wanted)) if first == wanted => text.starts_with(bytes),
-        _ => false,
+    match (bytes, text) {
+        ([a], [x, ..]) => *a == *x,
+        ([a, b], [x, y, ..]) => *a == *x && *b == *y,
+        ([a, b, c], [x, y, z, ..]) => *a == *x && *b == *y && *c == *z,
+        _ => text.starts_with(bytes),
     }
 }
 
