@@ -1,8 +1,10 @@
 -- The steps of reading an expression, where a number stands in place of its successor.
 use Rattle.std.proofs.Common.{◌≡◌, ℕ, zero, suc, ◌+◌, ◌-◌, ◌<◌, ◌≤◌, List, Option, Some, None}
 use Rattle.std.proofs.Common.{Result, Ok, Err, refl, ap, ◌∙◌, sym, arith, sub-one, subst}
-use Rattle.std.specs.Prelude.{IsErrAnd}
+use Rattle.std.proofs.Common.{Bool, true, false, cond}
+use Rattle.std.specs.Prelude.{IsErrAnd, nat_le}
 use Rattle.std.proofs.lemmas.Bool.{le-leb}
+use Rattle.cir_token.specs.declared.token.Symbol.TheVariants.{Question}
 use Rattle.cir_ast.specs.declared.operators.Binary.{Binary as BinaryOp}
 use Rattle.cir_ast.specs.Tree.{Binary, Parentheses}
 use Rattle.cir_ast.specs.Plain.{PlainExpr as Expr, PlainAccessors as Accessors}
@@ -15,7 +17,7 @@ use Rattle.cir_expression.specs.declared.measured.Reading.{Reading}
 use Rattle.cir_expression.specs.declared.measured.Listing.{Listing}
 use Rattle.cir_expression.specs.declared.measured.Path.{Path}
 use Rattle.cir_expression.specs.declared.measured.Naming.{Naming}
-use Rattle.cir_expression.specs.Front.{Tokens, next, otherwise, tail}
+use Rattle.cir_expression.specs.Front.{Tokens, next, otherwise, tail, begins}
 use Rattle.cir_expression.specs.Reading.{Found, continues, within, chain, choice, climb, operand_by}
 use Rattle.cir_expression.specs.Reading.{continued, whole}
 use Rattle.cir_expression.specs.Answers.{Stops, Reads, seen}
@@ -147,6 +149,26 @@ pub chain_is : (turns : ℕ) (read : ℕ → Tokens → Found) (room level : ℕ
     next (within room (Binary op left right.0)) (λ e. chain (turns - 1) read room level e right.1)))
 chain_is zero read room level left ts h = absurd (omega arith)
 chain_is (suc turns) read room level left ts h = rw sub-one refl
+
+either_way : {A : Type 0} (b : Bool) (x : A) → cond b x x ≡ x
+either_way true x = refl
+either_way false x = refl
+
+choice_ends : (read : ℕ → Tokens → Found) (room level : ℕ) (condition : Expr) (ts : Tokens)
+    → begins Question ts ≡ false → choice read room level condition ts ≡ Some (condition, ts)
+choice_ends read room level condition ts q =
+    rw q (either_way (nat_le level 1) (Some (condition, ts)))
+
+-- with no operator and no choice behind it
+pub ended : (room level : ℕ) (ts rest : Tokens) (left : Expr) → 0 < room
+    → operand_by (climb (room - 1)) ts ≡ Some (left, rest)
+    → continues level rest ≡ None → begins Question rest ≡ false
+    → climb room level ts ≡ Some (left, rest)
+ended room level ts rest left h e n q =
+    chained room level ts rest rest left left h e
+    (chain_is (room - 1 + 1) (climb (room - 1)) (room - 1 + 1) level left rest (omega arith)
+    ∙ rw n refl)
+    ∙ choice_ends (climb (room - 1)) (room - 1 + 1) level left rest q
 
 -- an operator behind a left operand
 pub turned : (turns room level : ℕ) (read : ℕ → Tokens → Found) (ts : Tokens) (op : BinaryOp)

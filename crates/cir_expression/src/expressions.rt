@@ -189,6 +189,9 @@ impl<'a> Reader<'a> {
             return Err(Stop::NoTree);
         }
         let left = self.operand(alloc, room - 1)?;
+        if self.ends(level) {
+            return Ok(left);
+        }
         let whole = self.chain(alloc, room - 1, level, left)?;
         let found = self.choice(alloc, room - 1, level, whole)?;
         Ok(found)

@@ -1,5 +1,7 @@
-ghost use Rattle.std.specs.Prelude.{◌≡◌, ◌<◌};
+ghost use Rattle.std.specs.Prelude.{◌≡◌, ◌<◌, None, true, false};
+ghost use Rattle.cir_token.specs.declared.token.Symbol.TheVariants.{Question};
 ghost use Rattle.cir_ast.specs.Shape.{level_of};
+ghost use Rattle.cir_expression.specs.Front.{begins};
 ghost use Rattle.cir_expression.specs.Reading.{unary_of, unary_at, binary_of, binary_at, continues};
 ghost use Rattle.cir_expression.specs.Answers.{kinds};
 
@@ -41,6 +43,14 @@ impl<'a> Reader<'a> {
             Some(op) if level <= level_of(op) => Some(op),
             _ => None,
         }
+    }
+
+    /// Whether no operator of this level or a tighter one comes next, and no `?`.
+    pub fn ends(&self, level: u32) -> bool
+        ensures operator { result ≡ true → continues level (kinds self.now.rest.now) ≡ None }
+        ensures choice { result ≡ true → begins Question (kinds self.now.rest.now) ≡ false }
+    {
+        self.continues(level).is_none() && !self.begins(Symbol::Question)
     }
 }
 

@@ -14,7 +14,7 @@ use Rattle.cir_expression.specs.Reading.{climb}
 use Rattle.cir_expression.specs.Answers.{kinds, seen, seen_accessors, seen_named}
 use Rattle.cir_expression.proofs.reader.Reader.+expressions.Goals as goal
 use Rattle.cir_expression.proofs.Steps.{exits, exits_listing, exits_path, exits_names, no_room}
-use Rattle.cir_expression.proofs.Steps.{no_operand, no_chain, chained, no_choice, turns_on}
+use Rattle.cir_expression.proofs.Steps.{no_operand, ended, no_chain, chained, no_choice, turns_on}
 use Rattle.cir_expression.proofs.Lists.{no_item, no_end, last_item, more_items, list_height}
 use Rattle.cir_expression.proofs.Lists.{no_turn, same_turns, same_place, no_index, no_close}
 use Rattle.cir_expression.proofs.Lists.{one_index, no_member, one_member, index_last, member_last}
@@ -31,6 +31,14 @@ climb-returns-in_err-left-clause-read g t c =
     exits _ _ _ _ c.from_residual.ensures.1
     (no_operand _ c.args.room c.args.level (kinds c.args.self.now.rest.now)
     (omega arith) c.in_err-left.ensures.read)
+
+pub climb-returns-then-ends-clause-read : goal.climb-returns-then-ends-clause-read
+climb-returns-then-ends-clause-read g t c = (
+  ended c.args.room c.args.level (kinds c.args.self.now.rest.now) _ _
+      (omega arith) c.in_ok-left.ensures.read.0 (c.ends.ensures.operator c.if-ends.true)
+      (c.ends.ensures.choice c.if-ends.true),
+  c.in_ok-left.ensures.read.1,
+)
 
 pub climb-returns-in_err-whole-clause-read : goal.climb-returns-in_err-whole-clause-read
 climb-returns-in_err-whole-clause-read g t c =
