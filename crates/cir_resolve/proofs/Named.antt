@@ -10,11 +10,10 @@ use Rattle.cir_ast.specs.declared.marked.Anonymous.{Anonymous as CodeAnonymous}
 use Rattle.cir_ast.specs.declared.marked.Inputs.{Inputs as CodeInputs}
 use Rattle.cir_ast.specs.declared.marked.Inputs.TheVariants as inputs
 use Rattle.cir_ast.specs.declared.marked.NamedInput.{NamedInput as CodeInput}
-use Rattle.cir_ast.specs.declared.marked.Source.{Source as CodeSource}
 use Rattle.cir_ast.specs.declared.marked.Source.TheVariants as source
 use Rattle.cir_ast.specs.declared.program.Meant.{Meant}
-use Rattle.cir_ast.specs.Tree.{Expr, Place, Call, Anonymous, Array, Exprs, none, more, Accessors}
-use Rattle.cir_ast.specs.Tree.{done, index, member, NamedInputs, unnamed, named, Inputs, Listed}
+use Rattle.cir_ast.specs.Tree.{Expr, Place, Call, Anonymous, Array, Exprs, none, more}
+use Rattle.cir_ast.specs.Tree.{Listed}
 use Rattle.cir_ast.specs.Tree.{Named, bare, bare_exprs, bare_place, bare_anonymous, bare_inputs}
 use Rattle.cir_ast.specs.Tree.{as_accessors, as_named, arguments_of, Values, bare_source}
 use Rattle.cir_ast.proofs.Rows.{exprs_are, accessors_are, named_are}
@@ -118,8 +117,7 @@ exprs_apart st (a ∷ xs) (b ∷ bs) is =
     let more : map bare bs ≡ map (named_expr st) (map bare xs) = exprs_apart st xs bs rest in
     cc
 
-pub values_named : (st : State) (es fs : List (CodeExpr Meant)) (s : CodeSource Meant)
-    → s ≡ source.Tuple es → bare_exprs fs ≡ named_exprs st (bare_exprs es)
-    → Values (map bare fs) ≡ named_source st (bare_source s)
-values_named st es fs s is given =
-    ap Values (exprs_apart st es fs given) ∙ sym (ap (λ x. named_source st (bare_source x)) is)
+pub values_named : (st : State) (es fs : List (CodeExpr Meant))
+    → bare_exprs fs ≡ named_exprs st (bare_exprs es)
+    → bare_source (source.Tuple fs) ≡ named_source st (bare_source (source.Tuple es))
+values_named st es fs given = ap Values (exprs_apart st es fs given)

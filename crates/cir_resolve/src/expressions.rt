@@ -42,7 +42,7 @@ impl Scopes<'_> {
     }
 
     #[cycle(naming)]
-    fn name_all(&self, expressions: &mut Items<Expr>)
+    pub(crate) fn name_all(&self, expressions: &mut Items<Expr>)
         ensures { bare_exprs expressions.new
             ≡ named_exprs (state_of self.now) (bare_exprs expressions.old) }
     {
@@ -54,7 +54,7 @@ impl Scopes<'_> {
     }
 
     #[cycle(naming)]
-    fn name_place(&self, place: &mut Place)
+    pub(crate) fn name_place(&self, place: &mut Place)
         ensures { bare_place place.new ≡ named_expr (state_of self.now) (bare_place place.old) }
     {
         place.meant = self.read(place.name.as_slice());
@@ -87,7 +87,7 @@ impl Scopes<'_> {
     }
 
     #[cycle(naming)]
-    fn name_anonymous(&self, anonymous: &mut Anonymous)
+    pub(crate) fn name_anonymous(&self, anonymous: &mut Anonymous)
         ensures { bare_anonymous anonymous.new
             ≡ named_expr (state_of self.now) (bare_anonymous anonymous.old) }
     {
@@ -132,22 +132,5 @@ impl Scopes<'_> {
         let mut expressions = expressions;
         self.name_all(&mut expressions);
         expressions
-    }
-
-    pub(crate) fn place(&self, place: Place) -> Place
-        ensures { bare_place result ≡ named_expr (state_of self.now) (bare_place place) }
-    {
-        let mut place = place;
-        self.name_place(&mut place);
-        place
-    }
-
-    pub(crate) fn anonymous(&self, anonymous: Anonymous) -> Anonymous
-        ensures { bare_anonymous result
-            ≡ named_expr (state_of self.now) (bare_anonymous anonymous) }
-    {
-        let mut anonymous = anonymous;
-        self.name_anonymous(&mut anonymous);
-        anonymous
     }
 }
