@@ -6,7 +6,7 @@ use Rattle.cir_ast.specs.declared.marked.Expr.{Expr as CodeExpr}
 use Rattle.cir_ast.specs.declared.marked.First.{First as CodeFirst}
 use Rattle.cir_ast.specs.declared.marked.Step.{Step as CodeStep}
 use Rattle.cir_ast.specs.declared.marked.Statement.{Statement as CodeStatement}
-use Rattle.cir_ast.specs.Tree.{Statement, Statements, then_more, as_statements, For, bare}
+use Rattle.cir_ast.specs.Tree.{Statement, then_more, as_statements, For, bare}
 use Rattle.cir_ast.specs.Tree.{bare_first, bare_assign, bare_statement}
 use Rattle.cir_resolve.specs.Steps.{behind, made, in_turn}
 use Rattle.cir_resolve.specs.Scope.{State, Naming}

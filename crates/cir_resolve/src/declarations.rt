@@ -67,7 +67,8 @@ impl Scopes<'_> {
         signals: &mut Items<DeclaredSignal>,
     ) -> Result<(), Stop<Spot>>
         ensures named { Gives (λ _. map bare_signal signals.new) result (state_of self.new)
-            (in_turn (named_signal spot direction) (state_of self.old) (map bare_signal signals.old)) }
+            (in_turn (named_signal spot direction) (state_of self.old)
+            (map bare_signal signals.old)) }
         ensures outer { OnOk result (self.new.outer.items ≡ self.old.outer.items) }
     {
         let mut all = mem::replace(signals, Items::new(self.alloc)).into_vec();
@@ -95,7 +96,8 @@ impl Scopes<'_> {
         components: &mut Items<DeclaredComponent>,
     ) -> Result<(), Stop<Spot>>
         ensures named { Gives (λ _. map bare_component components.new) result (state_of self.new)
-            (in_turn (named_component spot) (state_of self.old) (map bare_component components.old)) }
+            (in_turn (named_component spot) (state_of self.old)
+            (map bare_component components.old)) }
         ensures outer { OnOk result (self.new.outer.items ≡ self.old.outer.items) }
     {
         let mut all = mem::replace(components, Items::new(self.alloc)).into_vec();

@@ -26,9 +26,11 @@ statement-returns-in_err-for_loop-in-For-clause-named t c =
     _ _ _ _ _ _ _ c.from_residual-in_err-for_loop-in-For.ensures.1
     c.in_err-for_loop-in-For.ensures.named
     (λ p stops.
-    ap (λ f. named_statement (state_of c.args.self.now) (bare_form c.args.statement.now.spot f)) e.is
-    ∙ for_named (state_of c.args.self.now) c.args.statement.now.spot e.first _ e.condition _ e.step _
-    e.body.value c.deref_mut-in-For.result.now _ e.first-is e.condition-is e.step-is body stops)
+    ap (λ f. named_statement (state_of c.args.self.now) (bare_form c.args.statement.now.spot f))
+    e.is
+    ∙ for_named (state_of c.args.self.now) c.args.statement.now.spot e.first _ e.condition _
+    e.step _ e.body.value c.deref_mut-in-For.result.now _ e.first-is e.condition-is e.step-is
+    body stops)
 
 pub statement-returns-in_ok-for_loop-in-For-clause-named :
     goal.statement-returns-in_ok-for_loop-in-For-clause-named
@@ -36,10 +38,11 @@ statement-returns-in_ok-for_loop-in-For-clause-named t c =
     let e = c.in-For in
     let body : c.deref_mut-in-For.result.now ≡ e.body.value =
     cc (c.deref_mut-in-For.ensures.value, e.body-is) in
-    ap (λ f. named_statement (state_of c.args.self.now) (bare_form c.args.statement.now.spot f)) e.is
-    ∙ for_named (state_of c.args.self.now) c.args.statement.now.spot e.first _ e.condition _ e.step _
-    e.body.value c.deref_mut-in-For.result.now _ e.first-is e.condition-is e.step-is body
-    c.in_ok-for_loop-in-For.ensures.named
+    ap (λ f. named_statement (state_of c.args.self.now) (bare_form c.args.statement.now.spot f))
+    e.is
+    ∙ for_named (state_of c.args.self.now) c.args.statement.now.spot e.first _ e.condition _
+    e.step _ e.body.value c.deref_mut-in-For.result.now _ e.first-is e.condition-is e.step-is
+    body c.in_ok-for_loop-in-For.ensures.named
 
 pub body-returns-in_err-statements-clause-named : goal.body-returns-in_err-statements-clause-named
 body-returns-in_err-statements-clause-named t c =
