@@ -1,8 +1,13 @@
--- Naming of a list of statements, as steps in turn.
+-- Naming of a list of statements, as steps in turn, and of a `for` by its parts.
 use Rattle.std.proofs.Common.{◌≡◌, ◌∙◌, List, [], ◌∷◌, refl, ap, sym, Ok, Err}
 use Rattle.cir_ast.specs.declared.program.Spot.{Spot}
 use Rattle.cir_ast.specs.declared.program.Meant.{Meant}
-use Rattle.cir_ast.specs.Tree.{Statement, Statements, then_more, as_statements}
+use Rattle.cir_ast.specs.declared.marked.Expr.{Expr as CodeExpr}
+use Rattle.cir_ast.specs.declared.marked.First.{First as CodeFirst}
+use Rattle.cir_ast.specs.declared.marked.Step.{Step as CodeStep}
+use Rattle.cir_ast.specs.declared.marked.Statement.{Statement as CodeStatement}
+use Rattle.cir_ast.specs.Tree.{Statement, then_more, as_statements, For, bare}
+use Rattle.cir_ast.specs.Tree.{bare_first, bare_assign, bare_statement}
 use Rattle.cir_resolve.specs.Steps.{behind, made, in_turn}
 use Rattle.cir_resolve.specs.Scope.{State, Naming}
 use Rattle.cir_resolve.specs.Naming.{named_statement, named_statements}
@@ -29,3 +34,21 @@ pub statements_in_turn : (st : State) (ss : List (Statement Spot Meant))
 statements_in_turn st [] = refl
 statements_in_turn st (s ∷ ss) =
     first_named ss (λ after. statements_in_turn after ss) (named_statement st s)
+
+abbrev for_by : State → Spot → CodeFirst Spot Meant → CodeExpr Meant → CodeStep Spot Meant
+    → CodeStatement Spot Meant → Naming (Statement Spot Meant)
+for_by st spot f c s b =
+    named_statement st
+    (For spot f.spot (bare_first f.form) (bare c) s.spot (bare_assign s.assign) (bare_statement b))
+
+-- a `for` is named as one of equal parts
+pub for_named : (st : State) (spot : Spot) (f g : CodeFirst Spot Meant) (c d : CodeExpr Meant)
+    (s t : CodeStep Spot Meant) (b x : CodeStatement Spot Meant)
+    (r : Naming (Statement Spot Meant))
+    → g ≡ f → d ≡ c → t ≡ s → x ≡ b → for_by st spot g d t x ≡ r → for_by st spot f c s b ≡ r
+for_named st spot f g c d s t b x r first condition step body given =
+    ap (λ y. for_by st spot y c s b) (sym first)
+    ∙ ap (λ y. for_by st spot g y s b) (sym condition)
+    ∙ ap (λ y. for_by st spot g d y b) (sym step)
+    ∙ ap (λ y. for_by st spot g d t y) (sym body)
+    ∙ given

@@ -1,10 +1,8 @@
 -- Scopes of nested blocks.
-use Rattle.std.proofs.Common.{◌≡◌, ℕ, ◌+◌, ◌<◌, ◌≤◌, List, [], ◌∷◌, ◌++◌, length, take, get_or}
-use Rattle.std.proofs.Common.{refl, sym, ap, ◌∙◌, Option, Some, None, length-append, arith}
+use Rattle.std.proofs.Common.{◌≡◌, ℕ, List, [], ◌∷◌, ◌++◌, length, refl, ap, ◌∙◌}
+use Rattle.std.proofs.Common.{length-append, arith}
 use Rattle.std.specs.Option.{option_or}
-use Rattle.std.proofs.lemmas.List.{take_all}
-use Rattle.std.proofs.lemmas.List.Sums.{fold-append, fold_more}
-use Rattle.cir_ast.specs.declared.program.Meant.{Meant}
+use Rattle.std.proofs.lemmas.List.Sums.{fold-append}
 use Rattle.cir_resolve.specs.declared.names.Names.{Names}
 use Rattle.cir_resolve.specs.Scope.{Lookup, State, nothing}
 use Rattle.cir_resolve.specs.Answers.{names_in, hiding, nested}
@@ -20,31 +18,12 @@ pub nested_none : nested [] ≡ nothing
 unfolding nested
 nested_none = refl
 
-pub nested_more : (blocks : List Names) (i : ℕ) (d : Names) → i < length blocks
-    → nested (take (i + 1) blocks) ≡ hiding (nested (take i blocks)) (names_in (get_or blocks i d))
-unfolding nested
-nested_more blocks i d l = fold_more (λ around n. hiding around (names_in n)) nothing blocks i d l
-
--- what a name means in one more block
-pub meaning_next : (blocks : List Names) (i : ℕ) (names : Names) (name : List ℕ)
-    (found m r : Option Meant) → i < length blocks → names ≡ get_or blocks i names
-    → found ≡ nested (take i blocks) name → m ≡ names_in names name → r ≡ option_or m found
-    → r ≡ nested (take (i + 1) blocks) name
-meaning_next blocks i names name found m r l same e f is =
-    is
-    ∙ ap (option_or m) e
-    ∙ ap (λ x. option_or x (nested (take i blocks) name)) f
-    ∙ ap (λ n. hiding (nested (take i blocks)) (names_in n) name) same
-    ∙ sym (ap (λ s. s name) (nested_more blocks i names l))
-
-pub meaning_all : (blocks all : List Names) (i : ℕ) (inner : Lookup) (name : List ℕ)
-    (found m r : Option Meant) → blocks ≡ all → length blocks ≤ i
-    → found ≡ nested (take i blocks) name → m ≡ inner name → r ≡ option_or m found
-    → r ≡ option_or (inner name) (nested all name)
-meaning_all blocks all i inner name found m r same l e f is =
-    is
-    ∙ ap (option_or m) (e ∙ ap (λ b. nested b name) (take_all i blocks l ∙ same))
-    ∙ ap (λ x. option_or x (nested all name)) f
+-- what a name means in blocks, by the last of them
+pub nested_last : (blocks around : List Names) (names : Names) (name : List ℕ)
+    → blocks ≡ around ++ names ∷ []
+    → nested blocks name ≡ option_or (names_in names name) (nested around name)
+nested_last blocks around names name is =
+    ap (λ b. nested b name) is ∙ ap (λ f. f name) (nested_push around names)
 
 pub same_state : (defined outer outer' inner inner' : Lookup) (v s c : ℕ) → outer ≡ outer'
     → inner ≡ inner'

@@ -1,10 +1,11 @@
 -- What the code's tables stand for, and what its calls answer.
 use Rattle.std.specs.Prelude.{◌≡◌, ℕ, List, [], ◌∷◌, ◌++◌, fold, Option, Some, None, Result, Ok}
 use Rattle.std.specs.Prelude.{Err, ⊤}
-use Rattle.std.specs.Ordering.{nat_cmp}
 use Rattle.std.specs.Option.{option_or}
-use Rattle.std.specs.Cmp.Lexicographic.{slice_cmp}
-use Rattle.std.specs.BTreeMap.{get_by}
+use Rattle.std.specs.Str.{bytes_eq}
+use Rattle.std.specs.Map.{update}
+use Rattle.std.specs.HashMap.{get_by}
+use Rattle.cir_resolve.specs.declared.names.Named.{Named}
 use Rattle.cir_resolve.specs.declared.names.Names.{Names as CodeNames}
 use Rattle.cir_resolve.specs.declared.scope.Scopes.{Scopes}
 use Rattle.cir_resolve.specs.declared.stop.Stop.{Stop}
@@ -12,8 +13,13 @@ use Rattle.cir_resolve.specs.declared.stop.Stop.TheVariants.{Twice, OutOfMemory}
 use Rattle.cir_resolve.specs.Steps.{Step}
 use Rattle.cir_resolve.specs.Scope.{Lookup, nothing, State}
 
+-- the newest last
+abbrev pub newest_in : List Named → Lookup
+newest_in few = fold (λ older n. update bytes_eq older n.name.items (Some n.meant)) nothing few
+
 unfoldable pub names_in : CodeNames → Lookup
-names_in names name = get_by (λ k. slice_cmp nat_cmp name k.items) names.meanings
+names_in names name =
+    option_or (get_by (λ k. bytes_eq name k.items) names.many) (newest_in names.few.items name)
 
 -- the names of a block hide those around it
 abbrev pub hiding : Lookup → Lookup → Lookup

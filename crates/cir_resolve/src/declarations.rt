@@ -19,8 +19,7 @@ impl Scopes<'_> {
             (named_variable spot (state_of self.old) (bare_variable variable.old)) }
         ensures outer { OnOk result (self.new.outer.items ≡ self.old.outer.items) }
     {
-        let dimensions = mem::replace(&mut variable.dimensions, Items::new(self.alloc));
-        variable.dimensions = self.expressions(dimensions);
+        self.name_all(&mut variable.dimensions);
         variable.meant = Meant::Variable(self.variables);
         self.declare(spot, variable.name.as_slice(), variable.meant)?;
         self.value(&mut variable.value);
@@ -30,17 +29,18 @@ impl Scopes<'_> {
     pub(crate) fn variables(
         &mut self,
         spot: Spot,
-        variables: Items<DeclaredVariable>,
-    ) -> Result<Items<DeclaredVariable>, Stop<Spot>>
-        ensures named { Gives (map bare_variable) result (state_of self.new)
-            (in_turn (named_variable spot) (state_of self.old) (map bare_variable variables)) }
+        variables: &mut Items<DeclaredVariable>,
+    ) -> Result<(), Stop<Spot>>
+        ensures named { Gives (λ _. map bare_variable variables.new) result (state_of self.new)
+            (in_turn (named_variable spot) (state_of self.old) (map bare_variable variables.old)) }
         ensures outer { OnOk result (self.new.outer.items ≡ self.old.outer.items) }
     {
-        let mut variables = variables.into_vec();
-        for i in 0..variables.len() {
-            self.variable(spot, &mut variables[i])?;
+        let mut all = mem::replace(variables, Items::new(self.alloc)).into_vec();
+        for i in 0..all.len() {
+            self.variable(spot, &mut all[i])?;
         }
-        Ok(Items::of(variables))
+        *variables = Items::of(all);
+        Ok(())
     }
 
     fn signal(
@@ -53,8 +53,7 @@ impl Scopes<'_> {
             (named_signal spot direction (state_of self.old) (bare_signal signal.old)) }
         ensures outer { OnOk result (self.new.outer.items ≡ self.old.outer.items) }
     {
-        let dimensions = mem::replace(&mut signal.dimensions, Items::new(self.alloc));
-        signal.dimensions = self.expressions(dimensions);
+        self.name_all(&mut signal.dimensions);
         signal.meant = Meant::Signal(direction, self.signals);
         self.declare(spot, signal.name.as_slice(), signal.meant)?;
         self.signal_value(&mut signal.value);
@@ -65,17 +64,19 @@ impl Scopes<'_> {
         &mut self,
         spot: Spot,
         direction: Direction,
-        signals: Items<DeclaredSignal>,
-    ) -> Result<Items<DeclaredSignal>, Stop<Spot>>
-        ensures named { Gives (map bare_signal) result (state_of self.new)
-            (in_turn (named_signal spot direction) (state_of self.old) (map bare_signal signals)) }
+        signals: &mut Items<DeclaredSignal>,
+    ) -> Result<(), Stop<Spot>>
+        ensures named { Gives (λ _. map bare_signal signals.new) result (state_of self.new)
+            (in_turn (named_signal spot direction) (state_of self.old)
+            (map bare_signal signals.old)) }
         ensures outer { OnOk result (self.new.outer.items ≡ self.old.outer.items) }
     {
-        let mut signals = signals.into_vec();
-        for i in 0..signals.len() {
-            self.signal(spot, direction, &mut signals[i])?;
+        let mut all = mem::replace(signals, Items::new(self.alloc)).into_vec();
+        for i in 0..all.len() {
+            self.signal(spot, direction, &mut all[i])?;
         }
-        Ok(Items::of(signals))
+        *signals = Items::of(all);
+        Ok(())
     }
 
     fn component(&mut self, spot: Spot, component: &mut DeclaredComponent) -> Result<(), Stop<Spot>>
@@ -83,8 +84,7 @@ impl Scopes<'_> {
             (named_component spot (state_of self.old) (bare_component component.old)) }
         ensures outer { OnOk result (self.new.outer.items ≡ self.old.outer.items) }
     {
-        let dimensions = mem::replace(&mut component.dimensions, Items::new(self.alloc));
-        component.dimensions = self.expressions(dimensions);
+        self.name_all(&mut component.dimensions);
         component.meant = Meant::Component(self.components);
         self.declare(spot, component.name.as_slice(), component.meant)?;
         Ok(())
@@ -93,16 +93,18 @@ impl Scopes<'_> {
     pub(crate) fn components(
         &mut self,
         spot: Spot,
-        components: Items<DeclaredComponent>,
-    ) -> Result<Items<DeclaredComponent>, Stop<Spot>>
-        ensures named { Gives (map bare_component) result (state_of self.new)
-            (in_turn (named_component spot) (state_of self.old) (map bare_component components)) }
+        components: &mut Items<DeclaredComponent>,
+    ) -> Result<(), Stop<Spot>>
+        ensures named { Gives (λ _. map bare_component components.new) result (state_of self.new)
+            (in_turn (named_component spot) (state_of self.old)
+            (map bare_component components.old)) }
         ensures outer { OnOk result (self.new.outer.items ≡ self.old.outer.items) }
     {
-        let mut components = components.into_vec();
-        for i in 0..components.len() {
-            self.component(spot, &mut components[i])?;
+        let mut all = mem::replace(components, Items::new(self.alloc)).into_vec();
+        for i in 0..all.len() {
+            self.component(spot, &mut all[i])?;
         }
-        Ok(Items::of(components))
+        *components = Items::of(all);
+        Ok(())
     }
 }

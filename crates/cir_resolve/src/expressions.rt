@@ -1,4 +1,4 @@
-//! Expressions, with the meaning of each name.
+//! Expressions: each name in them gets its meaning, where it stands.
 ghost use Rattle.std.specs.Prelude.{◌≡◌, [], ◌∷◌};
 ghost use Rattle.cir_ast.specs.Tree.{bare, bare_exprs, bare_place, bare_anonymous, bare_inputs};
 ghost use Rattle.cir_ast.specs.Tree.{as_accessors, as_named};
@@ -13,94 +13,71 @@ use std::mem;
 
 impl Scopes<'_> {
     #[cycle(naming)]
-    pub(crate) fn expression(&self, expression: Expr) -> Expr
-        ensures { bare result ≡ named_expr (state_of self.now) (bare expression) }
-    {
-        match expression {
-            Expr::Number(number) => Expr::Number(number),
-            Expr::Place(place) => Expr::Place(self.place(place)),
-            Expr::Call(parallel, name, _, arguments) => {
-                let meant = self.called(name.as_slice());
-                Expr::call(parallel, name, meant, self.expressions(arguments))
-            }
-            Expr::Anonymous(anonymous) => Expr::Anonymous(self.anonymous(anonymous)),
-            Expr::Parentheses(inner) => {
-                let mut inner = inner;
-                self.name(&mut inner);
-                Expr::Parentheses(inner)
-            }
-            Expr::Array(elements) => Expr::array(self.expressions(elements)),
-            Expr::Unary(operator, operand) => {
-                let mut operand = operand;
-                self.name(&mut operand);
-                Expr::Unary(operator, operand)
-            }
-            Expr::Binary(operator, left, right) => {
-                let mut left = left;
-                let mut right = right;
-                self.name(&mut left);
-                self.name(&mut right);
-                Expr::Binary(operator, left, right)
-            }
-            Expr::Choice(condition, chosen, other) => {
-                let mut condition = condition;
-                let mut chosen = chosen;
-                let mut other = other;
-                self.name(&mut condition);
-                self.name(&mut chosen);
-                self.name(&mut other);
-                Expr::Choice(condition, chosen, other)
-            }
-        }
-    }
-
-    /// The same in place.
-    #[cycle(naming)]
     pub(crate) fn name(&self, expression: &mut Expr)
         ensures { bare expression.new ≡ named_expr (state_of self.now) (bare expression.old) }
     {
-        let unnamed = mem::replace(expression, Expr::Number(0));
-        *expression = self.expression(unnamed);
-    }
-
-    #[cycle(naming)]
-    pub(crate) fn expressions(&self, expressions: Items<Expr>) -> Items<Expr>
-        ensures { bare_exprs result ≡ named_exprs (state_of self.now) (bare_exprs expressions) }
-    {
-        let mut expressions = expressions.into_vec();
-        for i in 0..expressions.len() {
-            self.name(&mut expressions[i]);
+        match expression {
+            Expr::Number(_) => {}
+            Expr::Place(place) => self.name_place(place),
+            Expr::Call(parallel, name, meant, arguments) => {
+                // The word stays.
+                let _parallel = *parallel;
+                *meant = self.called(name.as_slice());
+                self.name_all(arguments);
+            }
+            Expr::Anonymous(anonymous) => self.name_anonymous(anonymous),
+            Expr::Parentheses(inner) => self.name(inner),
+            Expr::Array(elements) => self.name_all(elements),
+            Expr::Unary(_, operand) => self.name(operand),
+            Expr::Binary(_, left, right) => {
+                self.name(left);
+                self.name(right);
+            }
+            Expr::Choice(condition, chosen, other) => {
+                self.name(condition);
+                self.name(chosen);
+                self.name(other);
+            }
         }
-        Items::of(expressions)
     }
 
     #[cycle(naming)]
-    pub(crate) fn place(&self, place: Place) -> Place
-        ensures { bare_place result ≡ named_expr (state_of self.now) (bare_place place) }
+    pub(crate) fn name_all(&self, expressions: &mut Items<Expr>)
+        ensures { bare_exprs expressions.new
+            ≡ named_exprs (state_of self.now) (bare_exprs expressions.old) }
     {
-        let Place {
-            name,
-            meant: _,
-            accessors,
-        } = place;
-        let meant = self.read(name.as_slice());
-        Place::of(name, meant, self.accessors(accessors))
-    }
-
-    #[cycle(naming)]
-    fn accessors(&self, accessors: Items<Accessor>) -> Items<Accessor>
-        ensures { as_accessors result
-            ≡ named_accessors (state_of self.now) (as_accessors accessors) }
-    {
-        let mut accessors = accessors.into_vec();
-        for i in 0..accessors.len() {
-            self.accessor(&mut accessors[i]);
+        let mut all = mem::replace(expressions, Items::new(self.alloc)).into_vec();
+        for i in 0..all.len() {
+            self.name(&mut all[i]);
         }
-        Items::of(accessors)
+        *expressions = Items::of(all);
     }
 
     #[cycle(naming)]
-    fn accessor(&self, accessor: &mut Accessor)
+    pub(crate) fn name_place(&self, place: &mut Place)
+        ensures { bare_place place.new ≡ named_expr (state_of self.now) (bare_place place.old) }
+    {
+        place.meant = self.read(place.name.as_slice());
+        self.name_accessors(&mut place.accessors);
+    }
+
+    #[cycle(naming)]
+    fn name_accessors(&self, accessors: &mut Items<Accessor>)
+        ensures { as_accessors accessors.new
+            ≡ named_accessors (state_of self.now) (as_accessors accessors.old) }
+    {
+        if accessors.is_empty() {
+            return;
+        }
+        let mut all = mem::replace(accessors, Items::new(self.alloc)).into_vec();
+        for i in 0..all.len() {
+            self.name_accessor(&mut all[i]);
+        }
+        *accessors = Items::of(all);
+    }
+
+    #[cycle(naming)]
+    fn name_accessor(&self, accessor: &mut Accessor)
         ensures { as_accessors (accessor.new ∷ [])
             ≡ named_accessors (state_of self.now) (as_accessors (accessor.old ∷ [])) }
     {
@@ -110,40 +87,50 @@ impl Scopes<'_> {
     }
 
     #[cycle(naming)]
-    pub(crate) fn anonymous(&self, anonymous: Anonymous) -> Anonymous
-        ensures { bare_anonymous result
-            ≡ named_expr (state_of self.now) (bare_anonymous anonymous) }
+    pub(crate) fn name_anonymous(&self, anonymous: &mut Anonymous)
+        ensures { bare_anonymous anonymous.new
+            ≡ named_expr (state_of self.now) (bare_anonymous anonymous.old) }
     {
-        let Anonymous {
-            parallel,
-            name,
-            meant: _,
-            arguments,
-            inputs,
-        } = anonymous;
-        let meant = self.called(name.as_slice());
-        let arguments = self.expressions(arguments);
-        Anonymous::of(parallel, name, meant, arguments, self.inputs(inputs))
+        anonymous.meant = self.called(anonymous.name.as_slice());
+        self.name_all(&mut anonymous.arguments);
+        self.name_inputs(&mut anonymous.inputs);
     }
 
     #[cycle(naming)]
-    fn inputs(&self, inputs: Inputs) -> Inputs
-        ensures { bare_inputs result ≡ named_inputs (state_of self.now) (bare_inputs inputs) }
+    fn name_inputs(&self, inputs: &mut Inputs)
+        ensures { bare_inputs inputs.new
+            ≡ named_inputs (state_of self.now) (bare_inputs inputs.old) }
     {
         match inputs {
-            Inputs::Listed(values) => Inputs::listed(self.expressions(values)),
-            Inputs::Named(inputs) => Inputs::named(self.named_inputs(inputs)),
+            Inputs::Listed(values) => self.name_all(values),
+            Inputs::Named(inputs) => self.name_each(inputs),
         }
     }
 
     #[cycle(naming)]
-    fn named_inputs(&self, inputs: Items<NamedInput>) -> Items<NamedInput>
-        ensures { as_named result ≡ named_each (state_of self.now) (as_named inputs) }
+    fn name_each(&self, inputs: &mut Items<NamedInput>)
+        ensures { as_named inputs.new ≡ named_each (state_of self.now) (as_named inputs.old) }
     {
-        let mut inputs = inputs.into_vec();
-        for i in 0..inputs.len() {
-            self.name(&mut inputs[i].value);
+        let mut all = mem::replace(inputs, Items::new(self.alloc)).into_vec();
+        for i in 0..all.len() {
+            self.name(&mut all[i].value);
         }
-        Items::of(inputs)
+        *inputs = Items::of(all);
+    }
+
+    pub(crate) fn expression(&self, expression: Expr) -> Expr
+        ensures { bare result ≡ named_expr (state_of self.now) (bare expression) }
+    {
+        let mut expression = expression;
+        self.name(&mut expression);
+        expression
+    }
+
+    pub(crate) fn expressions(&self, expressions: Items<Expr>) -> Items<Expr>
+        ensures { bare_exprs result ≡ named_exprs (state_of self.now) (bare_exprs expressions) }
+    {
+        let mut expressions = expressions;
+        self.name_all(&mut expressions);
+        expressions
     }
 }

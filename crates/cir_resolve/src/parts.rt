@@ -29,24 +29,25 @@ impl Scopes<'_> {
         }
     }
 
-    pub(crate) fn assign(&self, assign: Assign) -> Assign
-        ensures { bare_assign result ≡ named_assign (state_of self.now) (bare_assign assign) }
+    pub(crate) fn assign(&self, assign: &mut Assign)
+        ensures { bare_assign assign.new
+            ≡ named_assign (state_of self.now) (bare_assign assign.old) }
     {
         match assign {
             Assign::Set(place, value) => {
-                let place = self.place(place);
-                Assign::Set(place, self.expression(value))
+                self.name_place(place);
+                self.name(value);
             }
-            Assign::Compound(place, operator, value) => {
-                let place = self.place(place);
-                Assign::Compound(place, operator, self.expression(value))
+            Assign::Compound(place, _, value) => {
+                self.name_place(place);
+                self.name(value);
             }
-            Assign::Left(place, arrow, value) => {
-                let place = self.place(place);
-                Assign::Left(place, arrow, self.expression(value))
+            Assign::Left(place, _, value) => {
+                self.name_place(place);
+                self.name(value);
             }
-            Assign::Increment(place) => Assign::Increment(self.place(place)),
-            Assign::Decrement(place) => Assign::Decrement(self.place(place)),
+            Assign::Increment(place) => self.name_place(place),
+            Assign::Decrement(place) => self.name_place(place),
         }
     }
 
@@ -59,52 +60,52 @@ impl Scopes<'_> {
         }
     }
 
-    pub(crate) fn arguments(&self, arguments: Items<LogArgument>) -> Items<LogArgument>
-        ensures { map bare_argument result
-            ≡ map (named_argument (state_of self.now)) (map bare_argument arguments) }
+    pub(crate) fn arguments(&self, arguments: &mut Items<LogArgument>)
+        ensures { map bare_argument arguments.new
+            ≡ map (named_argument (state_of self.now)) (map bare_argument arguments.old) }
     {
-        let mut arguments = arguments.into_vec();
-        for i in 0..arguments.len() {
-            self.argument(&mut arguments[i]);
+        let mut all = mem::replace(arguments, Items::new(self.alloc)).into_vec();
+        for i in 0..all.len() {
+            self.argument(&mut all[i]);
         }
-        Items::of(arguments)
+        *arguments = Items::of(all);
     }
 
     fn slot(&self, slot: &mut Slot)
         ensures { bare_slot slot.new ≡ named_slot (state_of self.now) (bare_slot slot.old) }
     {
-        let unnamed = mem::replace(slot, Slot::Discard);
-        if let Slot::Place(place) = unnamed {
-            *slot = Slot::Place(self.place(place));
+        if let Slot::Place(place) = slot {
+            self.name_place(place);
         }
     }
 
-    fn slots(&self, slots: Items<Slot>) -> Items<Slot>
-        ensures { map bare_slot result
-            ≡ map (named_slot (state_of self.now)) (map bare_slot slots) }
+    fn slots(&self, slots: &mut Items<Slot>)
+        ensures { map bare_slot slots.new
+            ≡ map (named_slot (state_of self.now)) (map bare_slot slots.old) }
     {
-        let mut slots = slots.into_vec();
-        for i in 0..slots.len() {
-            self.slot(&mut slots[i]);
+        let mut all = mem::replace(slots, Items::new(self.alloc)).into_vec();
+        for i in 0..all.len() {
+            self.slot(&mut all[i]);
         }
-        Items::of(slots)
+        *slots = Items::of(all);
     }
 
-    pub(crate) fn target(&self, target: Target) -> Target
-        ensures { bare_target result ≡ named_target (state_of self.now) (bare_target target) }
+    pub(crate) fn target(&self, target: &mut Target)
+        ensures { bare_target target.new
+            ≡ named_target (state_of self.now) (bare_target target.old) }
     {
-        match target {
-            Target::Discard => Target::Discard,
-            Target::Tuple(slots) => Target::Tuple(self.slots(slots)),
+        if let Target::Tuple(slots) = target {
+            self.slots(slots);
         }
     }
 
-    pub(crate) fn source(&self, source: Source) -> Source
-        ensures { bare_source result ≡ named_source (state_of self.now) (bare_source source) }
+    pub(crate) fn source(&self, source: &mut Source)
+        ensures { bare_source source.new
+            ≡ named_source (state_of self.now) (bare_source source.old) }
     {
         match source {
-            Source::One(value) => Source::One(self.expression(value)),
-            Source::Tuple(values) => Source::Tuple(self.expressions(values)),
+            Source::One(value) => self.name(value),
+            Source::Tuple(values) => self.name_all(values),
         }
     }
 }

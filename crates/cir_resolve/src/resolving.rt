@@ -43,8 +43,10 @@ impl Scopes<'_> {
             (behind (in_turn (named_parameter spot) (state_of self.old) parameters.now)
             (λ names st. named_statements st (bare_block body))) }
     {
+        let mut body = body;
         self.parameters(spot, parameters)?;
-        self.body(body)
+        self.body(&mut body)?;
+        Ok(body)
     }
 }
 

@@ -2,7 +2,7 @@
 ghost use Rattle.std.specs.Prelude.{◌≡◌, IsTrue, OnOk};
 ghost use Rattle.cir_resolve.specs.Scope.{opening, in_scope, read_at, called_at, entered, left};
 ghost use Rattle.cir_resolve.specs.Scope.{counted, declared};
-ghost use Rattle.cir_resolve.specs.Answers.{names_in, state_of, IsInside, Gives};
+ghost use Rattle.cir_resolve.specs.Answers.{names_in, nested, state_of, IsInside, Gives};
 
 use crate::names::Names;
 use crate::stop::Stop;
@@ -22,6 +22,20 @@ pub(crate) struct Scopes<'d> {
     pub(crate) variables: u32,
     pub(crate) signals: u32,
     pub(crate) components: u32,
+}
+
+/// What a name means in nested blocks, the outermost first.
+fn nested(blocks: &[Names], name: &[u8]) -> Option<Meant>
+    ensures { result ≡ nested blocks.now name.now }
+{
+    let mut left = blocks;
+    while let Some((names, around)) = left.split_last() {
+        if let Some(meant) = names.get(name) {
+            return Some(meant);
+        }
+        left = around;
+    }
+    None
 }
 
 impl<'d> Scopes<'d> {
@@ -97,7 +111,7 @@ impl<'d> Scopes<'d> {
             return Err(Stop::OutOfMemory);
         }
         let name = Vec::from_slice(self.alloc, name)?;
-        self.inner.insert(name, meant)?;
+        self.inner.push(name, meant)?;
         Ok(())
     }
 
@@ -105,11 +119,10 @@ impl<'d> Scopes<'d> {
     fn declared(&self, name: &[u8]) -> Option<Meant>
         ensures { result ≡ in_scope (state_of self.now) name.now }
     {
-        let mut found = None;
-        for names in self.outer.as_slice() {
-            found = names.get(name).or(found);
+        match self.inner.get(name) {
+            Some(meant) => Some(meant),
+            None => nested(self.outer.as_slice(), name),
         }
-        self.inner.get(name).or(found)
     }
 
     /// What a place's name means.

@@ -1,34 +1,31 @@
 //! Simple statements, and what the head of a `for` begins with.
-ghost use Rattle.std.specs.Prelude.{◌≡◌, map, OnOk};
-ghost use Rattle.cir_ast.specs.Tree.{bare_variable, bare_first, bare_simple};
+ghost use Rattle.std.specs.Prelude.{◌≡◌, OnOk};
+ghost use Rattle.cir_ast.specs.Tree.{bare_first, bare_simple};
 ghost use Rattle.cir_ast.specs.declared.marked.Simple.TheVariants.{Components as SimpleComponents};
-ghost use Rattle.cir_resolve.specs.Steps.{in_turn};
-ghost use Rattle.cir_resolve.specs.Naming.{named_variable, named_first, named_simple};
+ghost use Rattle.cir_resolve.specs.Naming.{named_first, named_simple};
 ghost use Rattle.cir_resolve.specs.Answers.{state_of, Gives};
 
 use crate::scope::Scopes;
 use crate::stop::Stop;
-use cir_ast::program::{Components, FirstForm, Meant, Signals, Simple, Spot, Vars};
+use cir_ast::program::{Components, FirstForm, Meant, Simple, Spot};
+use items::Items;
+use std::mem;
 
 impl Scopes<'_> {
-    fn vars(&mut self, spot: Spot, vars: Vars) -> Result<Vars, Stop<Spot>>
-        ensures named { Gives (λ v. map bare_variable v.variables) result (state_of self.new)
-            (in_turn (named_variable spot) (state_of self.old) (map bare_variable vars.variables)) }
-        ensures outer { OnOk result (self.new.outer.items ≡ self.old.outer.items) }
-    {
-        let Vars { variables } = vars;
-        let variables = self.variables(spot, variables)?;
-        Ok(Vars { variables })
-    }
-
-    pub(crate) fn first(&mut self, spot: Spot, first: FirstForm) -> Result<FirstForm, Stop<Spot>>
-        ensures named { Gives bare_first result (state_of self.new)
-            (named_first spot (state_of self.old) (bare_first first)) }
+    pub(crate) fn first(&mut self, spot: Spot, first: &mut FirstForm) -> Result<(), Stop<Spot>>
+        ensures named { Gives (λ _. bare_first first.new) result (state_of self.new)
+            (named_first spot (state_of self.old) (bare_first first.old)) }
         ensures outer { OnOk result (self.new.outer.items ≡ self.old.outer.items) }
     {
         match first {
-            FirstForm::Vars(vars) => Ok(FirstForm::Vars(self.vars(spot, vars)?)),
-            FirstForm::Assign(assign) => Ok(FirstForm::Assign(self.assign(assign))),
+            FirstForm::Vars(vars) => {
+                self.variables(spot, &mut vars.variables)?;
+                Ok(())
+            }
+            FirstForm::Assign(assign) => {
+                self.assign(assign);
+                Ok(())
+            }
         }
     }
 
@@ -43,7 +40,8 @@ impl Scopes<'_> {
     {
         match components {
             Components::Declared(components) => {
-                let components = self.components(spot, components)?;
+                let mut components = components;
+                self.components(spot, &mut components)?;
                 Ok(Components::Declared(components))
             }
             Components::Created(name, _, value) => {
@@ -54,39 +52,54 @@ impl Scopes<'_> {
         }
     }
 
-    pub(crate) fn simple(&mut self, spot: Spot, simple: Simple) -> Result<Simple, Stop<Spot>>
-        ensures named { Gives bare_simple result (state_of self.new)
-            (named_simple spot (state_of self.old) (bare_simple simple)) }
+    pub(crate) fn simple(&mut self, spot: Spot, simple: &mut Simple) -> Result<(), Stop<Spot>>
+        ensures named { Gives (λ _. bare_simple simple.new) result (state_of self.new)
+            (named_simple spot (state_of self.old) (bare_simple simple.old)) }
         ensures outer { OnOk result (self.new.outer.items ≡ self.old.outer.items) }
     {
         match simple {
-            Simple::Vars(vars) => Ok(Simple::Vars(self.vars(spot, vars)?)),
-            Simple::Signals(Signals { direction, signals }) => {
-                let signals = self.signals(spot, direction, signals)?;
-                Ok(Simple::Signals(Signals { direction, signals }))
+            Simple::Vars(vars) => {
+                self.variables(spot, &mut vars.variables)?;
+                Ok(())
+            }
+            Simple::Signals(signals) => {
+                self.signals(spot, signals.direction, &mut signals.signals)?;
+                Ok(())
             }
             Simple::Components(components) => {
-                let components = self.declared_components(spot, components)?;
-                Ok(Simple::Components(components))
+                let none = Components::Declared(Items::new(self.alloc));
+                let unnamed = mem::replace(components, none);
+                *components = self.declared_components(spot, unnamed)?;
+                Ok(())
             }
-            Simple::Assign(assign) => Ok(Simple::Assign(self.assign(assign))),
+            Simple::Assign(assign) => {
+                self.assign(assign);
+                Ok(())
+            }
             Simple::Constrain(left, right) => {
-                let left = self.expression(left);
-                Ok(Simple::Constrain(left, self.expression(right)))
+                self.name(left);
+                self.name(right);
+                Ok(())
             }
-            Simple::Right(value, arrow, place) => {
-                let value = self.expression(value);
-                Ok(Simple::Right(value, arrow, self.place(place)))
+            Simple::Right(value, _, place) => {
+                self.name(value);
+                self.name_place(place);
+                Ok(())
             }
-            Simple::TargetLeft(target, arrow, source) => {
-                let target = self.target(target);
-                Ok(Simple::TargetLeft(target, arrow, self.source(source)))
+            Simple::TargetLeft(target, _, source) => {
+                self.target(target);
+                self.source(source);
+                Ok(())
             }
-            Simple::TargetRight(source, arrow, target) => {
-                let source = self.source(source);
-                Ok(Simple::TargetRight(source, arrow, self.target(target)))
+            Simple::TargetRight(source, _, target) => {
+                self.source(source);
+                self.target(target);
+                Ok(())
             }
-            Simple::Anonymous(anonymous) => Ok(Simple::Anonymous(self.anonymous(anonymous))),
+            Simple::Anonymous(anonymous) => {
+                self.name_anonymous(anonymous);
+                Ok(())
+            }
         }
     }
 }

@@ -1,12 +1,12 @@
-use Rattle.std.proofs.Common.{ap}
-use Rattle.std.specs.Ordering.{nat_cmp}
-use Rattle.std.specs.Cmp.Lexicographic.{slice_cmp}
-use Rattle.std.specs.BTreeMap.{is_at}
-use Rattle.std.specs.Map.{lookup}
-use Rattle.cir_resolve.specs.Answers.{names_in}
+use Rattle.std.proofs.Common.{ap, ◌∙◌}
+use Rattle.std.specs.Str.{bytes_eq}
+use Rattle.cir_resolve.specs.Answers.{newest_in, names_in}
+use Rattle.cir_resolve.proofs.Naming.{none_hide}
 use Rattle.cir_resolve.proofs.names.Names.new.Goals as goal
 
 pub returns : goal.returns
 unfolding names_in
 returns c =
-    λ i q. (ap (λ es. lookup (is_at (λ k. slice_cmp nat_cmp q k.items)) es) c.new.ensures.empty) i
+    λ i q. (none_hide (λ k. bytes_eq q k.items) c.new-2.result (newest_in c.new.result.items q)
+    c.new-2.ensures.len
+    ∙ ap (λ few. newest_in few q) c.new.ensures.items) i

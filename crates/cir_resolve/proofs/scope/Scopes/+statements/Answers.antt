@@ -1,26 +1,64 @@
-use Rattle.std.proofs.Common.{arith, ◌≡◌, refl, ap, sym, ◌∙◌, List, Ok}
+use Rattle.std.proofs.Common.{arith, ◌≡◌, ap, sym, ◌∙◌, List, Ok}
 use Rattle.std.specs.Prelude.{map}
 use Rattle.cir_ast.specs.declared.program.Spot.{Spot}
 use Rattle.cir_ast.specs.declared.program.Meant.{Meant}
 use Rattle.cir_ast.specs.declared.marked.Statement.{Statement}
-use Rattle.cir_ast.specs.Tree.{bare_statement, bare_block, as_statements}
+use Rattle.cir_ast.specs.Tree.{bare, bare_first, bare_assign, bare_form, bare_statement}
+use Rattle.cir_ast.specs.Tree.{as_statements, For}
 use Rattle.cir_ast.proofs.Rows.{block_is}
 use Rattle.cir_resolve.specs.Steps.{made}
 use Rattle.cir_resolve.specs.Naming.{named_statement, named_statements}
 use Rattle.cir_resolve.specs.Answers.{state_of}
-use Rattle.cir_resolve.proofs.InTurn.{given_more, given_stop, given_all, stopped}
-use Rattle.cir_resolve.proofs.Listing.{statements_in_turn}
+use Rattle.cir_resolve.proofs.InTurn.{given_stop, given_all, stopped}
+use Rattle.cir_resolve.proofs.Listing.{statements_in_turn, for_named}
 use Rattle.cir_resolve.proofs.scope.Scopes.+statements.Goals as goal
+
+pub statement-returns-in_err-for_loop-in-For-clause-named :
+    goal.statement-returns-in_err-for_loop-in-For-clause-named
+statement-returns-in_err-for_loop-in-For-clause-named t c =
+    let e = c.in-For in
+    let n = c.for_loop.new in
+    let body : c.deref_mut-in-For.result.now ≡ e.body.value =
+    cc (c.deref_mut-in-For.ensures.value, e.body-is) in
+    stopped
+    (λ (u : Unit {0}). For c.args.statement.now.spot n.first.spot (bare_first n.first.form)
+    (bare n.condition) n.step.spot (bare_assign n.step.assign) (bare_statement n.body))
+    _ _ _ _ _ _ _ c.from_residual-in_err-for_loop-in-For.ensures.1
+    c.in_err-for_loop-in-For.ensures.named
+    (λ p stops.
+    ap (λ f. named_statement (state_of c.args.self.now) (bare_form c.args.statement.now.spot f))
+    e.is
+    ∙ for_named (state_of c.args.self.now) c.args.statement.now.spot e.first _ e.condition _
+    e.step _ e.body.value c.deref_mut-in-For.result.now _ e.first-is e.condition-is e.step-is
+    body stops)
+
+pub statement-returns-in_ok-for_loop-in-For-clause-named :
+    goal.statement-returns-in_ok-for_loop-in-For-clause-named
+statement-returns-in_ok-for_loop-in-For-clause-named t c =
+    let e = c.in-For in
+    let body : c.deref_mut-in-For.result.now ≡ e.body.value =
+    cc (c.deref_mut-in-For.ensures.value, e.body-is) in
+    ap (λ f. named_statement (state_of c.args.self.now) (bare_form c.args.statement.now.spot f))
+    e.is
+    ∙ for_named (state_of c.args.self.now) c.args.statement.now.spot e.first _ e.condition _
+    e.step _ e.body.value c.deref_mut-in-For.result.now _ e.first-is e.condition-is e.step-is
+    body c.in_ok-for_loop-in-For.ensures.named
 
 pub body-returns-in_err-statements-clause-named : goal.body-returns-in_err-statements-clause-named
 body-returns-in_err-statements-clause-named t c =
     stopped (λ (ss : List (Statement Spot Meant)). as_statements (map bare_statement ss)) _ _ _ _ _
     _ _ c.from_residual.ensures.1 c.in_err-statements.ensures.named
-    (λ p e. ap (named_statements (state_of c.args.self.now)) (block_is _ _ c.args.block) ∙ e)
+    (λ p e. ap (named_statements (state_of c.args.self.now))
+    (block_is _ _ c.args.block.now
+    ∙ ap (λ (ss : List (Statement Spot Meant)). as_statements (map bare_statement ss))
+    (sym c.replace-statements.ensures.value)) ∙ e)
 
 pub body-returns-clause-named : goal.body-returns-clause-named
 body-returns-clause-named t c =
-    ap (named_statements (state_of c.args.self.now)) (block_is _ _ c.args.block)
+    ap (named_statements (state_of c.args.self.now))
+    (block_is _ _ c.args.block.now
+    ∙ ap (λ (ss : List (Statement Spot Meant)). as_statements (map bare_statement ss))
+    (sym c.replace-statements.ensures.value))
     ∙ c.in_ok-statements.ensures.named
     ∙ ap (λ b. Ok (b, state_of c.statements.new.self)) (sym c.of.ensures)
 

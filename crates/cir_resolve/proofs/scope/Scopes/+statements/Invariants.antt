@@ -5,12 +5,6 @@ use Rattle.cir_resolve.specs.Answers.{state_of}
 use Rattle.cir_resolve.proofs.InTurn.{IsGiven}
 use Rattle.cir_resolve.proofs.scope.Scopes.+statements.Given as goal
 
-abbrev pub decreases-form : goal.decreases-form
-decreases-form l = 8 * goal.size-form l
-
-abbrev pub decreases-named : goal.decreases-named
-decreases-named l = 8 * goal.size-named l + 1
-
 abbrev pub decreases-statement : goal.decreases-statement
 decreases-statement l = 8 * goal.size-statement l + 2
 

@@ -18,4 +18,4 @@ returns c =
     ap (map bare_argument) c.of.ensures
     ∙ changed_all (seen_list bare_argument) _ _ _ _ c.loop-i.invariant (omega arith) refl
     ∙ ap (λ list. map (named_argument (state_of c.args.self.now)) (map bare_argument list))
-    c.into_vec-arguments.ensures
+    (c.into_vec-all.ensures ∙ c.replace.ensures.value)

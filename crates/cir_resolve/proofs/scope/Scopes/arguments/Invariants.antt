@@ -8,4 +8,4 @@ use Rattle.cir_resolve.proofs.scope.Scopes.arguments.Given as goal
 abbrev pub invariant-loop-i : goal.invariant-loop-i
 invariant-loop-i l =
     IsChanged (seen_list bare_argument)
-    (map (named_argument (state_of l.self))) l.initial.arguments.items l.arguments.items l.i
+    (map (named_argument (state_of l.self))) l.initial.all.items l.all.items l.i

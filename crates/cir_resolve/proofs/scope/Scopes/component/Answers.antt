@@ -1,6 +1,5 @@
-use Rattle.std.proofs.Common.{ap, ◌∙◌, refl}
-use Rattle.cir_ast.specs.Tree.{bare_exprs, bare_component}
-use Rattle.cir_resolve.specs.Naming.{named_exprs}
+use Rattle.std.proofs.Common.{refl}
+use Rattle.cir_ast.specs.Tree.{bare_component}
 use Rattle.cir_resolve.specs.Answers.{state_of}
 use Rattle.cir_resolve.proofs.Declaring.{component_named}
 use Rattle.cir_resolve.proofs.scope.Scopes.component.Goals as goal
@@ -10,6 +9,4 @@ unfolding state_of
 returns-clause-named c =
     component_named _ _ _ (bare_component c.args.component.now) _ _ _ c.in_ok-declare.ensures.named
     c.as_slice.ensures refl
-    (c.expressions.ensures
-    ∙ ap (λ es. named_exprs (state_of c.args.self.now) (bare_exprs es))
-    c.replace-dimensions.ensures.value)
+    c.name_all.ensures

@@ -21,7 +21,7 @@ returns-clause-named c =
     (ap (λ st. with_name st c.args.name.now c.args.meant)
     (sym (c.count.ensures.counted (search rules)))
     ∙ with_name_is (state_of c.count.new.self) c.args.name.now c.args.meant
-    (names_in c.insert.new.self)
-    (c.in_ok-insert.ensures
+    (names_in c.push.new.self)
+    (c.in_ok-push.ensures
     ∙ ap (λ n. update bytes_eq (names_in c.count.new.self.inner) n (Some c.args.meant))
     c.in_ok-name.ensures.items))

@@ -1,6 +1,5 @@
-use Rattle.std.proofs.Common.{ap, ◌∙◌, refl}
-use Rattle.cir_ast.specs.Tree.{bare_exprs, bare_signal}
-use Rattle.cir_resolve.specs.Naming.{named_exprs}
+use Rattle.std.proofs.Common.{refl}
+use Rattle.cir_ast.specs.Tree.{bare_signal}
 use Rattle.cir_resolve.specs.Answers.{state_of}
 use Rattle.cir_resolve.proofs.Declaring.{signal_named}
 use Rattle.cir_resolve.proofs.scope.Scopes.signal.Goals as goal
@@ -10,6 +9,4 @@ unfolding state_of
 returns-clause-named c =
     signal_named _ _ _ _ (bare_signal c.args.signal.now) _ _ _ _ c.in_ok-declare.ensures.named
     c.as_slice.ensures refl
-    (c.expressions.ensures
-    ∙ ap (λ es. named_exprs (state_of c.args.self.now) (bare_exprs es))
-    c.replace-dimensions.ensures.value) c.signal_value.ensures
+    c.name_all.ensures c.signal_value.ensures

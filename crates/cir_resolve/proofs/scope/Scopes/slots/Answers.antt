@@ -17,4 +17,4 @@ returns c =
     ap (map bare_slot) c.of.ensures
     ∙ changed_all (seen_list bare_slot) _ _ _ _ c.loop-i.invariant (omega arith) refl
     ∙ ap (λ list. map (named_slot (state_of c.args.self.now)) (map bare_slot list))
-    c.into_vec-slots.ensures
+    (c.into_vec-all.ensures ∙ c.replace.ensures.value)

@@ -7,5 +7,5 @@ use Rattle.cir_resolve.proofs.scope.Scopes.slots.Given as goal
 
 abbrev pub invariant-loop-i : goal.invariant-loop-i
 invariant-loop-i l =
-    IsChanged (seen_list bare_slot) (map (named_slot (state_of l.self))) l.initial.slots.items
-    l.slots.items l.i
+    IsChanged (seen_list bare_slot) (map (named_slot (state_of l.self))) l.initial.all.items
+    l.all.items l.i

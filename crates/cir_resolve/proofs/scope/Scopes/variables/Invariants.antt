@@ -8,6 +8,6 @@ use Rattle.cir_resolve.proofs.scope.Scopes.variables.Given as goal
 abbrev pub invariant-loop-i : goal.invariant-loop-i
 invariant-loop-i l = record {
   given : IsGiven bare_variable (named_variable l.spot) (state_of l.fn.self)
-      (state_of l.self) l.initial.variables.items l.variables.items l.i;
+      (state_of l.self) l.initial.all.items l.all.items l.i;
   outer : l.self.outer.items ≡ l.fn.self.outer.items;
 }
