@@ -217,4 +217,5 @@ one_place ds is first e inside k small f =
 
 pub none_left : (ds : List ℕ) (is : List (Option ℕ)) → length is ≡ length ds
     → left_of ds is ≡ Some []
-none_left ds is e = left_few ds is (omega (arith, e)) ∙ ap (λ (xs : List ℕ). Some xs) (no_left ds is e)
+none_left ds is e =
+    left_few ds is (omega (arith, e)) ∙ ap (λ (xs : List ℕ). Some xs) (no_left ds is e)

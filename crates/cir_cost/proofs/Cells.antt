@@ -1,7 +1,8 @@
 -- The cells that are read.
 use Rattle.std.proofs.Common.{◌≡◌, ◌∙◌, ℕ, zero, suc, ◌+◌, List, [], ◌∷◌, ◌++◌, length, ap, sym}
 use Rattle.std.proofs.Common.{refl}
-use Rattle.std.specs.Prelude.{Bool, true, false, not, if◌then◌else◌, map, filter, Option, Some, Ok, Err}
+use Rattle.std.specs.Prelude.{Bool, true, false, not, if◌then◌else◌, map, filter, Option, Some, Ok}
+use Rattle.std.specs.Prelude.{Err}
 use Rattle.cir_ast.specs.declared.program.Meant.{Meant}
 use Rattle.cir_ast.specs.declared.program.Meant.TheVariants as meant
 use Rattle.cir_arrays.specs.declared.arrays.Datum.{Datum as CodeDatum}

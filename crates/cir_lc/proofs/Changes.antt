@@ -2,7 +2,7 @@
 use Rattle.std.proofs.Common.{◌≡◌, ℕ, zero, suc, ◌+◌, ◌-◌, ◌*◌, ◌%◌, ◌<◌, ◌↔◌, ◌/◌, List, [], ◌∷◌}
 use Rattle.std.proofs.Common.{◌++◌, length, get_or, take, sum_by, arith, refl, ap, sym, ◌∙◌, inl}
 use Rattle.std.proofs.Common.{inr, ◌⊎◌, Option, Some, None, mod-lt, lit<}
-use Rattle.std.proofs.Math.Nat.{mod-add-mod, add-mod-mod, add-mul-mod_self_right}
+use Rattle.std.proofs.Math.Nat.{mod-add-mod, add-mod-mod, add-mul-mod_self_right, add_comm}
 use Rattle.std.proofs.lemmas.Bool.{cases_lt}
 use Rattle.std.proofs.lemmas.List.Sums.{sum_by_more}
 use Rattle.std.proofs.lemmas.Nat.{mul-mod_first, mul-mod_second, div-add-mod'}
@@ -23,7 +23,7 @@ use Rattle.cir_lc.specs.Terms.{term_of}
 use Rattle.cir_lc.proofs.Totals.{total-nil, total-cons}
 use Rattle.cir_lc.proofs.Steps.{total-term}
 use Rattle.cir_lc.proofs.Known.{one_here, none_apart}
-use Rattle.cir_lc.proofs.Values.{value-total, small_value, scaled_at}
+use Rattle.cir_lc.proofs.Values.{value-total, small_value, scaled_at, scaled-one}
 use Rattle.cir_lc.proofs.Normals.{normal_means, scaled_minus}
 use Rattle.cir_lc.proofs.Forms.{IsNaming}
 
@@ -115,6 +115,15 @@ swap_parts b x v k l =
     ∙ sym (add-mul-mod_self_right (b + k * (v + (P - 1) * x)) x P) ∙ ap (λ (n : ℕ). n % P) same
     ∙ add-mul-mod_self_right (b + j * x + k * v) (k * x) P ∙ sym (parts_sum b x v k j)
     ∙ ap (λ (n : ℕ). (n + (k * v) % P) % P) (mod-add-mod b P ((((P - k) % P) * x) % P))
+
+pub swap_value : (x k : ℕ) (by out : List Term) → k ≡ (P - 1) % P
+    → value_of out ≡ added (scaled k (signal x)) (scaled 1 (value_of by))
+    → value_of out ≡ added (value_of by) (scaled (P - 1) (signal x))
+unfolding added
+swap_value x k by out e h =
+    h ∙ ap (λ (n : ℕ). added (scaled n (signal x)) (scaled 1 (value_of by))) e
+    ∙ ap (added (scaled (P - 1) (signal x))) (scaled-one by)
+    ∙ (λ i s. ap (λ (n : ℕ). n % P) (add_comm (scaled (P - 1) (signal x) s) (value_of by s)) i)
 
 pub changed_by : (x k : ℕ) (f by swap out : List Term) → 0 < x → k ≡ total (one_at x) f % P
     → value_of swap ≡ added (value_of by) (scaled (P - 1) (signal x))

@@ -10,8 +10,7 @@ use Rattle.gold_field.specs.declared.gold.TheConstants.{P}
 use Rattle.gold_field.specs.Rises.{RisesFrom}
 use Rattle.cir_lc.specs.Terms.{IsWithin, term_of}
 use Rattle.cir_lc.specs.Merge.{total, IsMerged}
-use Rattle.cir_lc.proofs.Rising.{other_rest, left_out, other_coef, rest_rises}
-use Rattle.cir_lc.proofs.Rising.{front_rises}
+use Rattle.cir_lc.proofs.Rising.{other_rest, left_out, other_coef, rest_rises, front_rises}
 use Rattle.cir_lc.proofs.Totals.{total-nil, total-cons, total-append}
 
 abbrev Small : ℕ → Term → Type 0
@@ -32,6 +31,12 @@ within_term : (n g c : ℕ) → g < n → c < P → IsWithin n (term_of g c)
 within_term n g zero h k = All-nil (Small n)
 within_term n g (suc c) h k =
     All-cons (Small n) (record { signal = g; coef = suc c }) [] (h, k) (All-nil (Small n))
+
+pub within_one : (n g c m : ℕ) → g < n → m ≡ c → m < P
+    → IsWithin n (record { signal = g; coef = c } ∷ [])
+within_one n g c m h e k =
+    All-cons (Small n) (record { signal = g; coef = c }) []
+    (h, subst (λ (i : ℕ). i < P) e k) (All-nil (Small n))
 
 -- the walk takes the lower signal: of a ..
 pub step_left : (k : ℕ) (a b out us vs : List Term) (x y : Term) → x.signal < y.signal

@@ -1,12 +1,12 @@
 -- The numbers of a sum and of a multiple.
-use Rattle.std.proofs.Common.{◌≡◌, ℕ, ◌+◌, ◌*◌, ◌%◌, List, [], arith, refl, ap, sym, ◌∙◌}
+use Rattle.std.proofs.Common.{◌≡◌, ℕ, ◌+◌, ◌*◌, ◌%◌, List, [], ◌∷◌, arith, refl, ap, sym, ◌∙◌}
 use Rattle.std.proofs.Math.Nat.{mod-add-mod, add-mod-mod, mod-mod}
 use Rattle.std.proofs.lemmas.Nat.{mul-mod_second}
 use Rattle.gold_field.specs.declared.form.Term.{Term}
 use Rattle.gold_field.specs.declared.gold.TheConstants.{P}
-use Rattle.cir_lc.specs.Number.{Assignment, value_of, added, scaled}
+use Rattle.cir_lc.specs.Number.{Assignment, value_of, signal, added, scaled}
 use Rattle.cir_lc.specs.Merge.{total, IsMerged}
-use Rattle.cir_lc.proofs.Totals.{total-nil}
+use Rattle.cir_lc.proofs.Totals.{total-nil, total-cons}
 
 pub value-total : (s : Assignment) (ts : List Term) → value_of ts s ≡ total s.at ts % P
 unfolding value_of total
@@ -65,6 +65,15 @@ value-multiple k a out m = λ i s. at s i
     at : (s : Assignment) → value_of out s ≡ scaled k (value_of a) s
     at s = value-total s out ∙ ap (λ (n : ℕ). n % P) (none s) ∙ m.value s.at
         ∙ ap (λ (n : ℕ). n % P) (alone s) ∙ scaled_at k a s
+
+pub value-single : (x j : ℕ) → value_of (record { signal = x; coef = j } ∷ []) ≡ scaled j (signal x)
+unfolding scaled signal
+value-single x j = λ i s. at s i
+  where
+    at : (s : Assignment) → value_of (record { signal = x; coef = j } ∷ []) s ≡ (j * s.at x) % P
+    at s = value-total s (record { signal = x; coef = j } ∷ [])
+        ∙ ap (λ (n : ℕ). n % P) (total-cons s.at (record { signal = x; coef = j }) []
+        ∙ omega (arith, total-nil s.at))
 
 pub scaled-one : (f : List Term) → scaled 1 (value_of f) ≡ value_of f
 unfolding scaled

@@ -3,8 +3,7 @@ ghost use Rattle.gold_field.specs.Form.{Holds};
 ghost use Rattle.gold_field.specs.declared.gold.TheConstants.{P};
 ghost use Rattle.gold_field.specs.declared.form.Term.{Term};
 ghost use Rattle.gold_field.specs.Rises.{RisesFrom};
-ghost use Rattle.cir_lc.specs.Number.{Assignment, value_of, signal as signal_number, added};
-ghost use Rattle.cir_lc.specs.Number.{scaled};
+ghost use Rattle.cir_lc.specs.Number.{Assignment, value_of, signal as signal_number, added, scaled};
 ghost use Rattle.cir_lc.specs.Coefficient.{one_at};
 ghost use Rattle.cir_lc.specs.Merge.{total};
 ghost use Rattle.cir_lc.specs.Terms.{IsWithin};
@@ -13,7 +12,7 @@ ghost use Rattle.cir_lc.specs.Sparse.{IsNormalForm, IsRising};
 ghost use Rattle.cir_lc.specs.Substitution.{with_number, substituted, substitute};
 
 use crate::quad::{copy_of, settled};
-use crate::sums::{add, add_multiple, push_term};
+use crate::sums::{add_multiple, push_term, signal_and};
 use gold_field::{Constraint, Gold, Lc};
 use std::alloc::{AllocError, Global};
 
@@ -46,8 +45,7 @@ fn swapped(alloc: Global, signal: u32, by: &Lc) -> Result<Lc, AllocError>
         ≡ added (value_of by.now) (scaled (P - 1) (signal_number signal))) }
     ensures within { IfOk result (λ f. (n : ℕ) → signal < n → IsWithin n by.now → IsWithin n f) }
 {
-    let one = multiple(alloc, signal, Gold::ONE.neg())?;
-    let f = add(alloc, by, &one)?;
+    let f = signal_and(alloc, signal, Gold::ONE.neg(), by, Gold::ONE)?;
     Ok(f)
 }
 

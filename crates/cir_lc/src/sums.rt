@@ -1,6 +1,6 @@
-ghost use Rattle.std.specs.Prelude.{◌≡◌, ◌++◌, [], ℕ, IfOk, OnOk};
+ghost use Rattle.std.specs.Prelude.{◌≡◌, ◌<◌, ◌++◌, [], ℕ, IfOk, OnOk};
 ghost use Rattle.gold_field.specs.Rises.{RisesFrom};
-ghost use Rattle.cir_lc.specs.Number.{value_of, added, scaled};
+ghost use Rattle.cir_lc.specs.Number.{value_of, added, scaled, signal as signal_number};
 ghost use Rattle.cir_lc.specs.Terms.{IsWithin, term_of};
 ghost use Rattle.cir_lc.specs.Merge.{IsMerged};
 
@@ -25,6 +25,19 @@ pub fn add_multiple(alloc: Global, a: &Lc, b: &Lc, k: Gold) -> Result<Lc, AllocE
         → IsWithin n f) }
 {
     let terms = merged(alloc, a.as_slice(), b.as_slice(), k)?;
+    Ok(Lc::of(terms))
+}
+
+/// `j * signal + k * f`.
+pub fn signal_and(alloc: Global, signal: u32, j: Gold, f: &Lc, k: Gold) -> Result<Lc, AllocError>
+    requires { 0 < j }
+    ensures value { IfOk result (λ g. value_of g
+        ≡ added (scaled j (signal_number signal)) (scaled k (value_of f.now))) }
+    ensures within { IfOk result (λ g. (n : ℕ) → signal < n → IsWithin n f.now → IsWithin n g) }
+{
+    let _number = j.get();
+    let first = [Term { signal, coef: j }];
+    let terms = merged(alloc, &first, f.as_slice(), k)?;
     Ok(Lc::of(terms))
 }
 

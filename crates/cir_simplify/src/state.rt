@@ -4,7 +4,7 @@ ghost use Rattle.cir_lc.specs.Terms.{IsWithin};
 ghost use Rattle.cir_lc.specs.Substitution.{substitute};
 ghost use Rattle.cir_simplify.specs.Shape.{names, terms_in};
 ghost use Rattle.cir_simplify.specs.Index.{row, held, IsGood, IsIndexed, NotesForm, Notes, Queues};
-ghost use Rattle.cir_simplify.specs.Index.{IsPartly, empty};
+ghost use Rattle.cir_simplify.specs.Index.{empty};
 ghost use Rattle.gold_field.specs.Form.{SignalsBelow};
 ghost use Rattle.std.specs.List.{Contains};
 ghost use Rattle.std.specs.List.Sorted.{IsStrictlyIncreasing};

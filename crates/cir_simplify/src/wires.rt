@@ -1,5 +1,5 @@
-ghost use Rattle.std.specs.Prelude.{◌≡◌, ◌<◌, ◌≤◌, ◌||◌, ◌^◌, ℕ, Bool, false, nat_le, length, All};
-ghost use Rattle.std.specs.Prelude.{map, slice_index, slice_index_or, IfOk};
+ghost use Rattle.std.specs.Prelude.{◌≡◌, ◌<◌, ◌≤◌, ◌||◌, ◌^◌, ℕ, false, nat_le, length, All, map};
+ghost use Rattle.std.specs.Prelude.{slice_index, slice_index_or, IfOk};
 ghost use Rattle.gold_field.specs.Rises.{RisesFrom};
 ghost use Rattle.gold_field.specs.declared.form.Term.{Term};
 ghost use Rattle.cir_lc.specs.Normal.{IsConstraintWithin};

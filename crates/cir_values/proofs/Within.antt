@@ -1,14 +1,13 @@
 -- The signals of a value's parts.
-use Rattle.std.proofs.Common.{◌≡◌, ℕ, ◌+◌, ◌-◌, ◌*◌, ◌%◌, ◌<◌, List, [], ◌∷◌, ap, sym, subst}
-use Rattle.std.proofs.Common.{◌∙◌, length, refl, arith}
-use Rattle.std.proofs.Common.{mod-eq_of_lt, mod-lt, lit<}
+use Rattle.std.proofs.Common.{◌≡◌, ℕ, ◌+◌, ◌-◌, ◌*◌, ◌%◌, ◌<◌, List, [], ◌∷◌, ap, sym, subst, ◌∙◌}
+use Rattle.std.proofs.Common.{length, refl, arith, mod-eq_of_lt, mod-lt, lit<}
 use Rattle.gold_field.specs.declared.form.Term.{Term}
 use Rattle.gold_field.specs.declared.gold.TheConstants.{P}
 use Rattle.cir_lc.specs.declared.quad.Quad.{Quad}
 use Rattle.cir_lc.specs.Terms.{IsWithin}
 use Rattle.cir_lc.specs.Normal.{IsQuadWithin}
-use Rattle.cir_lc.specs.Number.{Assignment, Number, value_of, constant, signal, added}
-use Rattle.cir_lc.specs.Number.{scaled, negated}
+use Rattle.cir_lc.specs.Number.{Assignment, Number, value_of, constant, signal, added, scaled}
+use Rattle.cir_lc.specs.Number.{negated}
 use Rattle.cir_lc.specs.Merge.{total}
 use Rattle.cir_lc.proofs.Totals.{total-nil, total-cons}
 use Rattle.cir_lc.proofs.Values.{value-total, small_value}

@@ -1,5 +1,5 @@
-use Rattle.std.proofs.Common.{◌≡◌, ℕ, ◌+◌, ◌-◌, ◌*◌, ◌/◌, ◌%◌, ◌<◌, arith, ap, sym, refl, ◌∙◌, mod-lt}
-use Rattle.std.proofs.Common.{mod-eq_of_lt, lit<}
+use Rattle.std.proofs.Common.{◌≡◌, ℕ, ◌+◌, ◌-◌, ◌*◌, ◌/◌, ◌%◌, ◌<◌, arith, ap, sym, refl, ◌∙◌}
+use Rattle.std.proofs.Common.{mod-lt, mod-eq_of_lt, lit<}
 use Rattle.std.proofs.lemmas.Nat.{div-add-mod'}
 use Rattle.gold_field.specs.declared.gold.TheConstants.{P}
 use Rattle.gold_field.specs.Operators.{inverse_of}
