@@ -13,12 +13,13 @@ use Rattle.cir_arrays.specs.declared.reach.Part.{Part}
 use Rattle.cir_arrays.specs.Stopped.{IsRefusal, Refuses}
 use Rattle.std.proofs.Math.Nat.{mul-le-mul_left, mul_comm}
 use Rattle.std.proofs.lemmas.Bool.{ltb-true, ltb-false}
+use Rattle.std.proofs.lemmas.List.{drop_all}
 use Rattle.cir_meaning.proofs.Reaching.{and_true}
 use Rattle.cir_meaning.specs.Limits.{standing, size_of, is_too_large}
 use Rattle.cir_meaning.specs.Places.{elements, is_inside, left_of, all_known, followed, places_of}
 use Rattle.cir_meaning.specs.Places.{numbers_from}
 use Rattle.cir_arrays.specs.declared.reach.Part.TheVariants.{Known, Unknown, Outside}
-use Rattle.cir_arrays.specs.Reached.{IsPart, Reaches, first_of, reached}
+use Rattle.cir_arrays.specs.Reached.{IsPart, Reaches, first_of, places_within, reached}
 use Rattle.cir_arrays.proofs.Runs.{shifted, length_numbers}
 
 pub left_many : (ds : List ℕ) (is : List (Option ℕ)) → length ds < length is
@@ -38,7 +39,7 @@ known_rest i None h = h
 known_rest i (Some is) h = refl
 
 -- known indices mean a run of places
-known_run : (ds : List ℕ) (is : List (Option ℕ)) → length is ≤ length ds
+pub known_run : (ds : List ℕ) (is : List (Option ℕ)) → length is ≤ length ds
     → is_some (all_known is) ≡ true
     → places_of ds is ≡ numbers_from (first_of ds is) (elements (drop (length is) ds))
 known_run ds [] h k = refl
@@ -57,7 +58,7 @@ one_row i d e x h k =
     omega arith
 
 -- which ends within the array
-run_within : (ds : List ℕ) (is : List (Option ℕ)) → length is ≤ length ds
+pub run_within : (ds : List ℕ) (is : List (Option ℕ)) → length is ≤ length ds
     → is_inside ds is ≡ true → is_some (all_known is) ≡ true
     → first_of ds is + elements (drop (length is) ds) ≤ elements ds
 run_within ds [] h inside k = omega arith
@@ -183,3 +184,38 @@ reaches w shaded want ds left is v p h o l fit items part =
 pub scalar_left : (left : List ℕ) → fits Scalar left ≡ true → left ≡ []
 scalar_left [] h = refl
 scalar_left (d ∷ ds) h = absurd (cc)
+
+-- the places of a run within an array that isn't too large
+pub run_places : (ds : List ℕ) (is : List (Option ℕ)) (first count : ℕ) (places : List ℕ)
+    → length is ≤ length ds → is_inside ds is ≡ true → is_some (all_known is) ≡ true
+    → elements ds ≤ 67108864 → first ≡ standing (first_of ds is)
+    → count ≡ standing (elements (drop (length is) ds)) → places ≡ numbers_from first count
+    → places ≡ places_of ds is
+run_places ds is first count places h inside k small f e p =
+    let bound = run_within ds is h inside k in
+    let first' : first ≡ first_of ds is = omega (arith, f) in
+    let count' : count ≡ elements (drop (length is) ds) = omega (arith, e) in
+    p ∙ ap (λ (n : ℕ). numbers_from n count) first'
+    ∙ ap (numbers_from (first_of ds is)) count' ∙ sym (known_run ds is h k)
+
+pub within_inside : (ds : List ℕ) (is : List (Option ℕ)) → is_inside ds is ≡ true
+    → places_within ds is ≡ places_of ds is
+within_inside ds is inside = rw inside refl
+
+no_left : (ds : List ℕ) (is : List (Option ℕ)) → length is ≡ length ds
+    → drop (length is) ds ≡ []
+no_left ds is e = drop_all (length is) ds (omega (arith, e))
+
+-- one place, where there is an index for each dimension
+pub one_place : (ds : List ℕ) (is : List (Option ℕ)) (first : ℕ) → length is ≡ length ds
+    → is_inside ds is ≡ true → is_some (all_known is) ≡ true → elements ds ≤ 67108864
+    → first ≡ standing (first_of ds is) → places_within ds is ≡ first ∷ []
+one_place ds is first e inside k small f =
+    within_inside ds is inside
+    ∙ sym (run_places ds is first 1 (first ∷ []) (omega (arith, e)) inside k small f
+    (ap (λ (xs : List ℕ). standing (elements xs)) (sym (no_left ds is e))) refl)
+
+pub none_left : (ds : List ℕ) (is : List (Option ℕ)) → length is ≡ length ds
+    → left_of ds is ≡ Some []
+none_left ds is e =
+    left_few ds is (omega (arith, e)) ∙ ap (λ (xs : List ℕ). Some xs) (no_left ds is e)

@@ -184,7 +184,7 @@ impl Datum {
         ensures { IfOk result (λ items. map meant items.items
             ≡ map (A.item_at (datum_of self.now).items) (numbers_from first count)) }
     {
-        let mut items = Vec::new(alloc);
+        let mut items = Vec::with_capacity(alloc, count as usize)?;
         for k in 0..count {
             let v = self.item_at(alloc, first.saturating_add(k))?;
             items.push(v)?;

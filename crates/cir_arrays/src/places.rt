@@ -1,8 +1,10 @@
 //! Places of an array's elements in row order, and which of them indices mean.
-ghost use Rattle.std.specs.Prelude.{◌≡◌, ◌+◌, ◌*◌, ◌++◌, is_some, map, flat_map, IfOk, OnOk};
+ghost use Rattle.std.specs.Prelude.{◌≡◌, ◌+◌, ◌*◌, ◌++◌, ◌≤◌, [], ◌∷◌, true, is_some, map};
+ghost use Rattle.std.specs.Prelude.{flat_map, length, IfOk, OnOk, IfSome, OnSome, Some};
 ghost use Rattle.cir_meaning.specs.Limits.{standing};
 ghost use Rattle.cir_meaning.specs.Places.{is_inside as are_inside, all_known as known_ones};
-ghost use Rattle.cir_meaning.specs.Places.{numbers_from};
+ghost use Rattle.cir_meaning.specs.Places.{numbers_from, left_of, elements as element_count};
+ghost use Rattle.cir_meaning.specs.Places.{places_of as places_in};
 ghost use Rattle.cir_meaning.specs.Arrays.{same_dims as are_same};
 ghost use Rattle.cir_arrays.specs.Reached.{items_of, first_of, is_under, parts_at, places_within};
 
@@ -95,6 +97,10 @@ pub fn places_of(
     if count == 0 {
         return Ok(Vec::new(alloc));
     }
+    if is_all_known(indices) {
+        let run = run_of(alloc, dims, indices)?;
+        return Ok(run);
+    }
     // the first places of the parts that the indices so far mean
     let mut firsts = Vec::new(alloc);
     firsts.push(0u64)?;
@@ -105,6 +111,36 @@ pub fn places_of(
     let rest = elements(&dims[indices.len()..]);
     let places = spread(alloc, firsts.as_slice(), rest)?;
     Ok(places)
+}
+
+/// The places that known indices mean.
+fn run_of(alloc: Global, dims: &[u64], indices: &[Option<u64>]) -> Result<Vec<u64>, AllocError>
+    requires few { length indices.now ≤ length dims.now }
+    requires inside { are_inside dims.now indices.now ≡ true }
+    requires known { is_some (known_ones indices.now) ≡ true }
+    requires small { element_count dims.now ≤ 67108864 }
+    ensures { IfOk result (λ places. places.items ≡ places_in dims.now indices.now) }
+{
+    let count = elements(&dims[indices.len()..]);
+    let mut places = Vec::with_capacity(alloc, count as usize)?;
+    push_run(&mut places, first_place(dims, indices), count, 1)?;
+    Ok(places)
+}
+
+/// The place that known indices mean, one for each dimension. None where they mean no place, or
+/// where the array is too large.
+pub fn place_of(dims: &[u64], indices: &[Option<u64>]) -> Option<u64>
+    ensures place { IfSome result (λ place. places_within dims.now indices.now ≡ place ∷ []) }
+    ensures inside { OnSome result (are_inside dims.now indices.now ≡ true) }
+    ensures whole { OnSome result (left_of dims.now indices.now ≡ Some []) }
+{
+    if indices.len() != dims.len() || elements(dims) > MOST_PLACES {
+        return None;
+    }
+    if !is_all_known(indices) || !is_inside(dims, indices) {
+        return None;
+    }
+    Some(first_place(dims, indices))
 }
 
 fn parts_in(

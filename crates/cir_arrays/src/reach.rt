@@ -1,4 +1,4 @@
-ghost use Rattle.std.specs.Prelude.{◌≡◌, ◌≤◌, true, length, drop, IfOk};
+ghost use Rattle.std.specs.Prelude.{◌≡◌, ◌≤◌, true, length, drop, vec_len, IfOk};
 ghost use Rattle.cir_meaning.specs.Places.{is_inside as are_inside};
 ghost use Rattle.cir_meaning.specs.Arrays.{reach, fits};
 ghost use Rattle.cir_arrays.specs.Stopped.{where_of};
@@ -8,7 +8,7 @@ use crate::counts::elements;
 use crate::places::{first_place, is_all_known, is_inside};
 use crate::stop::{Fault, Site};
 use cir_ast::Kind;
-use std::alloc::Global;
+use std::alloc::{AllocError, Global};
 
 /// Whether a number is wanted, or an array will do.
 #[derive(Clone, Copy, PartialEq, Eq)]
@@ -73,8 +73,19 @@ pub fn reach_of(
         return Err(site.refused(alloc, Kind::ShapeDiffers));
     }
     let part = part_of(dims, indices, inside);
-    let left = Vec::from_slice(alloc, left)?;
+    let left = dims_copy(alloc, left)?;
     Ok(Reach { left, part })
+}
+
+/// A copy of dimensions; of none, as a number has, it is made at once.
+fn dims_copy(alloc: Global, dims: &[u64]) -> Result<Vec<u64>, AllocError>
+    ensures items { IfOk result (λ copy. copy.items ≡ dims.now) }
+    ensures len { IfOk result (λ copy. vec_len copy ≡ length dims.now) }
+{
+    if dims.is_empty() {
+        return Ok(Vec::new(alloc));
+    }
+    Vec::from_slice(alloc, dims)
 }
 
 fn part_of(dims: &[u64], indices: &[Option<u64>], inside: bool) -> Part

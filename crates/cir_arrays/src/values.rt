@@ -49,7 +49,7 @@ pub fn unknown_among(values: &[Value]) -> u64
 pub fn fillings(alloc: Global, count: u64, with: Filling) -> Result<Vec<Value>, AllocError>
     ensures { IfOk result (λ all. map meant all.items ≡ replicate count (filling_of with)) }
 {
-    let mut all = Vec::new(alloc);
+    let mut all = Vec::with_capacity(alloc, count as usize)?;
     for _k in 0..count {
         all.push(with.value())?;
     }

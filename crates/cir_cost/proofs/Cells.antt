@@ -1,7 +1,8 @@
 -- The cells that are read.
 use Rattle.std.proofs.Common.{◌≡◌, ◌∙◌, ℕ, zero, suc, ◌+◌, List, [], ◌∷◌, ◌++◌, length, ap, sym}
 use Rattle.std.proofs.Common.{refl}
-use Rattle.std.specs.Prelude.{Bool, true, false, not, if◌then◌else◌, map, filter, Option, Ok, Err}
+use Rattle.std.specs.Prelude.{Bool, true, false, not, if◌then◌else◌, map, filter, Option, Some, Ok}
+use Rattle.std.specs.Prelude.{Err}
 use Rattle.cir_ast.specs.declared.program.Meant.{Meant}
 use Rattle.cir_ast.specs.declared.program.Meant.TheVariants as meant
 use Rattle.cir_arrays.specs.declared.arrays.Datum.{Datum as CodeDatum}
@@ -11,7 +12,8 @@ use Rattle.cir_meaning.specs.Tried.{Where, Refused}
 use Rattle.cir_meaning.specs.Arrays.{Datum, Whole, is_known, item_at, reach, single}
 use Rattle.cir_meaning.specs.Values.{Known}
 use Rattle.cir_meaning.specs.Limits.{is_too_large}
-use Rattle.cir_meaning.specs.Places.{elements, numbers_from}
+use Rattle.cir_meaning.specs.Places.{elements, is_inside, left_of, numbers_from, places_of}
+use Rattle.cir_arrays.specs.Reached.{places_within}
 use Rattle.cir_meaning.specs.Frame.{SignalEntry}
 use Rattle.cir_meaning.specs.Reading.{Lost, Stored, Wired}
 use Rattle.cir_meaning.specs.Costs as M
@@ -114,3 +116,11 @@ reads_wired w (meant.Signal direction n) indices may_read e = refl
 reads_wired w (meant.Component n) indices may_read e = refl
 reads_wired w (meant.Template n) indices may_read e = refl
 reads_wired w (meant.Function n) indices may_read e = refl
+
+-- indices that mean one place
+pub one_read : (w : Where) (dims : List ℕ) (indices : List (Option ℕ)) (place : ℕ)
+    → left_of dims indices ≡ Some [] → is_inside dims indices ≡ true
+    → places_within dims indices ≡ place ∷ []
+    → M.places_in (reach w true Whole dims indices) ≡ place ∷ []
+one_read w dims indices place l i e =
+    let inside : places_of dims indices ≡ place ∷ [] = rw i at e in rw (l, i) inside

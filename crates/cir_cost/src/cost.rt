@@ -23,7 +23,7 @@ ghost use Rattle.cir_cost.specs.Adds.{Adds, IsCost, called_alone, read_alone};
 use crate::nodes::nodes_of;
 use crate::reads::{Cell, add_all_unknown, add_unknown, add_wires, places_in, source_or_lost};
 use crate::seen::{index_seen, right_look_in, seen, side_looks_in};
-use cir_arrays::{Datum, Fault};
+use cir_arrays::{Datum, Fault, place_of};
 use cir_ast::program::{Accessor, Expr, LogArgument, Meant, Place, Spot};
 use cir_evaluate::{Here, Look, reading};
 use cir_frame::{Frame, Root, SignalEntry, Source, World, inner_source, source_of};
@@ -300,7 +300,11 @@ impl Cost {
     {
         match meant {
             Meant::Variable(n) => {
-                let places = places_in(here, d.dims(), indices)?;
+                let dims = d.dims();
+                if let Some(place) = place_of(dims, indices) {
+                    return add_unknown(&mut self.reads, n, d, &[place]);
+                }
+                let places = places_in(here, dims, indices)?;
                 add_unknown(&mut self.reads, n, d, places.as_slice())
             }
             Meant::Other
@@ -322,7 +326,11 @@ impl Cost {
             (M.origin_reads (where_at here.now) meant indices.now
             (Ok (Wired may_read (signal_of entry.now)))))) }
     {
-        let places = places_in(here, entry.dims.as_slice(), indices)?;
+        let dims = entry.dims.as_slice();
+        if let Some(place) = place_of(dims, indices) {
+            return add_wires(&mut self.reads, entry, &[place]);
+        }
+        let places = places_in(here, dims, indices)?;
         add_wires(&mut self.reads, entry, places.as_slice())
     }
 

@@ -23,7 +23,7 @@ pub fn put_entry<T: Drop>(
 pub fn undeclared<T: Drop>(alloc: Global, count: u32) -> Result<Vec<Option<T>>, AllocError>
     ensures { IfOk result (λ entries. entries.items ≡ replicate count None) }
 {
-    let mut entries = Vec::new(alloc);
+    let mut entries = Vec::with_capacity(alloc, count as usize)?;
     for _n in 0..count {
         entries.push(None)?;
     }

@@ -285,7 +285,7 @@ fn items_from(
     ensures { IfOk result (λ items. map meant items.items
         ≡ map (M.signal_item (signal_of entry.now)) (numbers_from first count)) }
 {
-    let mut items = Vec::new(alloc);
+    let mut items = Vec::with_capacity(alloc, count as usize)?;
     for k in 0..count {
         let v = signal_item(alloc, entry, first.saturating_add(k))?;
         items.push(v)?;

@@ -2,10 +2,11 @@
 use Rattle.std.proofs.Common.{◌≡◌, ℕ, zero, suc, ◌+◌, ◌-◌, ◌*◌, ◌%◌, ◌<◌, ◌↔◌, ◌/◌, List, [], ◌∷◌}
 use Rattle.std.proofs.Common.{◌++◌, length, get_or, take, sum_by, arith, refl, ap, sym, ◌∙◌, inl}
 use Rattle.std.proofs.Common.{inr, ◌⊎◌, Option, Some, None, mod-lt, lit<}
-use Rattle.std.proofs.Math.Nat.{mod-add-mod, add-mod-mod, mod-mod, add-mul-mod_self_right}
+use Rattle.std.proofs.Math.Nat.{mod-add-mod, add-mod-mod, add-mul-mod_self_right, add_comm}
 use Rattle.std.proofs.lemmas.Bool.{cases_lt}
 use Rattle.std.proofs.lemmas.List.Sums.{sum_by_more}
-use Rattle.std.proofs.lemmas.Nat.{mul-mod_first, div-add-mod'}
+use Rattle.std.proofs.lemmas.Nat.{mul-mod_first, mul-mod_second, div-add-mod'}
+use Rattle.std.proofs.lemmas.List.Elements.{All-nil, All-cons, All-head, All-tail}
 use Rattle.gold_field.specs.declared.form.Term.{Term}
 use Rattle.gold_field.specs.declared.form.Constraint.{Constraint}
 use Rattle.gold_field.specs.declared.gold.TheConstants.{P}
@@ -22,8 +23,9 @@ use Rattle.cir_lc.specs.Terms.{term_of}
 use Rattle.cir_lc.proofs.Totals.{total-nil, total-cons}
 use Rattle.cir_lc.proofs.Steps.{total-term}
 use Rattle.cir_lc.proofs.Known.{one_here, none_apart}
-use Rattle.cir_lc.proofs.Values.{value-total}
-use Rattle.cir_lc.proofs.Normals.{normal_means}
+use Rattle.cir_lc.proofs.Values.{value-total, small_value, scaled_at, scaled-one}
+use Rattle.cir_lc.proofs.Normals.{normal_means, scaled_minus}
+use Rattle.cir_lc.proofs.Forms.{IsNaming}
 
 -- one number put in
 pub put_change : (k v : ℕ) (s : ℕ → ℕ) (j : ℕ)
@@ -77,10 +79,6 @@ parts_sum : (b x v k j : ℕ) → ((b % P + ((j % P) * x) % P) % P + (k * v) % P
     ≡ (b + j * x + k * v) % P
 parts_sum b x v k j = simp (mod-add-mod, add-mod-mod, mul-mod_first) refl
 
-small_value : (ts : List Term) (s : Assignment) → value_of ts s % P ≡ value_of ts s
-unfolding value_of
-small_value ts s = mod-mod _ P
-
 pub substituted_at : (x k : ℕ) (f by : List Term) (s : Assignment) → 0 < x
     → k ≡ total (one_at x) f % P
     → added (added (value_of f) (scaled ((P - k) % P) (signal x))) (scaled k (value_of by)) s
@@ -102,18 +100,64 @@ substituted_at (suc x) k f by s h e =
     ∙ ap (λ (n : ℕ). ((value_of f s + (((P - k) % P) * s.at (suc x)) % P) % P + (k * n) % P) % P)
     small)
 
-pub substituted-sum : (x k j : ℕ) (f by gone rest put' out : List Term) → 0 < x
-    → k ≡ total (one_at x) f % P → j ≡ (P - k) % P → value_of gone ≡ scaled j (signal x)
-    → value_of rest ≡ added (value_of f) (value_of gone) → value_of put' ≡ scaled k (value_of by)
-    → value_of out ≡ added (value_of rest) (value_of put')
+-- what is added for each time that the form has the signal
+swap_parts : (b x v k : ℕ) → k < P
+    → (b + (k * ((v + ((P - 1) * x) % P) % P)) % P) % P
+    ≡ ((b + (((P - k) % P) * x) % P) % P + (k * v) % P) % P
+swap_parts b x v k l =
+    let j : ℕ = P - k in
+    let all : j + k ≡ P = omega arith in
+    let px : (j + k) * x ≡ P * x = ap (λ (n : ℕ). n * x) all in
+    let same : b + k * (v + (P - 1) * x) + x * P ≡ b + j * x + k * v + (k * x) * P = omega arith in
+    ap (λ (n : ℕ). (b + n) % P) (ap (λ (n : ℕ). (k * n) % P) (add-mod-mod v ((P - 1) * x) P)
+    ∙ mul-mod_second k (v + (P - 1) * x) P)
+    ∙ add-mod-mod b (k * (v + (P - 1) * x)) P
+    ∙ sym (add-mul-mod_self_right (b + k * (v + (P - 1) * x)) x P) ∙ ap (λ (n : ℕ). n % P) same
+    ∙ add-mul-mod_self_right (b + j * x + k * v) (k * x) P ∙ sym (parts_sum b x v k j)
+    ∙ ap (λ (n : ℕ). (n + (k * v) % P) % P) (mod-add-mod b P ((((P - k) % P) * x) % P))
+
+pub swap_value : (x k : ℕ) (by out : List Term) → k ≡ (P - 1) % P
+    → value_of out ≡ added (scaled k (signal x)) (scaled 1 (value_of by))
+    → value_of out ≡ added (value_of by) (scaled (P - 1) (signal x))
+unfolding added
+swap_value x k by out e h =
+    h ∙ ap (λ (n : ℕ). added (scaled n (signal x)) (scaled 1 (value_of by))) e
+    ∙ ap (added (scaled (P - 1) (signal x))) (scaled-one by)
+    ∙ (λ i s. ap (λ (n : ℕ). n % P) (add_comm (scaled (P - 1) (signal x) s) (value_of by s)) i)
+
+pub changed_by : (x k : ℕ) (f by swap out : List Term) → 0 < x → k ≡ total (one_at x) f % P
+    → value_of swap ≡ added (value_of by) (scaled (P - 1) (signal x))
+    → value_of out ≡ added (value_of f) (scaled k (value_of swap))
     → value_of out ≡ substituted x (value_of by) (value_of f)
-substituted-sum x k j f by gone rest put' out h e ej eg er ep eo =
-    let all : value_of out
-    ≡ added (added (value_of f) (scaled ((P - k) % P) (signal x))) (scaled k (value_of by)) =
-    eo ∙ ap (λ (g : Number). added g (value_of put'))
-    (er ∙ ap (added (value_of f)) (eg ∙ ap (λ (i : ℕ). scaled i (signal x)) ej))
-    ∙ ap (added (added (value_of f) (scaled ((P - k) % P) (signal x)))) ep in
-    all ∙ (λ i s. substituted_at x k f by s h e i)
+unfolding added scaled signal
+changed_by x k f by swap out h e es eo =
+    eo ∙ ap (λ (g : Number). added (value_of f) (scaled k g)) es ∙ (λ i s. at s i)
+  where
+    below : k < P
+    below = omega (arith, mod-lt (total (one_at x) f) {m = P} (lit< tt))
+
+    at : (s : Assignment)
+        → added (value_of f) (scaled k (added (value_of by) (scaled (P - 1) (signal x)))) s
+        ≡ substituted x (value_of by) (value_of f) s
+    at s = swap_parts (value_of f s) (s.at x) (value_of by s) k below
+        ∙ substituted_at x k f by s h e
+
+-- a form that hasn't the signal stays as it is
+pub none_changed : (k : ℕ) (f swap out : List Term) → k ≡ 0 → out ≡ f
+    → value_of out ≡ added (value_of f) (scaled k (value_of swap))
+unfolding added scaled
+none_changed k f swap out e g = ap value_of g ∙ (λ i s. sym (at s) i)
+  where
+    none : (v : ℕ) → (k * v) % P ≡ 0
+    none v =
+        let z : 0 * v ≡ 0 = omega arith in
+        ap (λ (n : ℕ). (n * v) % P) e ∙ ap (λ (n : ℕ). n % P) z
+
+    at : (s : Assignment) → (value_of f s + (k * value_of swap s) % P) % P ≡ value_of f s
+    at s =
+        let z : value_of f s + 0 ≡ value_of f s = omega arith in
+        ap (λ (n : ℕ). (value_of f s + n) % P) (none (value_of swap s)) ∙ ap (λ (n : ℕ). n % P) z
+        ∙ small_value f s
 
 -- the number of one term
 pub multiple_value : (x k : ℕ) (ts : List Term) → ts ≡ [] ++ term_of x k
@@ -158,6 +202,35 @@ coef_more x ts i sum new t l g e w =
             ap (λ (n : ℕ). t.coef * n) (none_apart x t.signal (apart x t.signal a)),
           ))
     ]
+
+-- minus the numbers of a list
+abbrev pub negative : List Term → List Term
+negative [] = []
+negative (t ∷ ts) = record { signal = t.signal; coef = (P - 1) * t.coef } ∷ negative ts
+
+negative-total : (s : ℕ → ℕ) (ts : List Term) → total s (negative ts) ≡ (P - 1) * total s ts
+negative-total s [] = omega (arith, total-nil s)
+negative-total s (t ∷ ts) =
+    omega (
+      arith,
+      total-cons s (record { signal = t.signal; coef = (P - 1) * t.coef }) (negative ts),
+      total-cons s t ts,
+      negative-total s ts,
+    )
+
+pub negative-value : (ts : List Term) → value_of (negative ts) ≡ negated (value_of ts)
+negative-value ts = (λ i s. at s i) ∙ scaled_minus (P - 1) (value_of ts) refl
+  where
+    at : (s : Assignment) → value_of (negative ts) s ≡ scaled (P - 1) (value_of ts) s
+    at s = value-total s (negative ts) ∙ ap (λ (n : ℕ). n % P) (negative-total s.at ts)
+        ∙ scaled_at (P - 1) ts s
+
+pub negative-naming : (n : ℕ) (ts : List Term) → IsNaming n ts → IsNaming n (negative ts)
+negative-naming n [] h = All-nil (λ (t : Term). t.signal < n)
+negative-naming n (t ∷ ts) h =
+    All-cons (λ (t : Term). t.signal < n) (record { signal = t.signal; coef = (P - 1) * t.coef })
+    (negative ts) (All-head (λ (t : Term). t.signal < n) t ts h)
+    (negative-naming n ts (All-tail (λ (t : Term). t.signal < n) t ts h))
 
 -- the constraint after a substitution holds where the one before it holds with the number put in
 opposite : (m c : ℕ) → m < P → c < P → (m ≡ c) ↔ ((m + ((P - 1) * c) % P) % P ≡ 0)

@@ -2,8 +2,9 @@
 use Rattle.std.proofs.Common.{◌≡◌, ℕ, ◌+◌, ◌-◌, ◌*◌, ◌%◌, ◌<◌, ◌==◌, ◌↔◌, List, [], ◌∷◌, Bool, true}
 use Rattle.std.proofs.Common.{false, cond, Option, Some, None, arith, refl, ap, sym, ◌∙◌, mod-lt}
 use Rattle.std.proofs.Common.{lit<}
-use Rattle.std.proofs.Math.Nat.{mod-add-mod, mul-mod_right, add_comm, mul_comm, mod-mod}
-use Rattle.std.proofs.lemmas.Nat.{mul-mod_first}
+use Rattle.std.proofs.Math.Nat.{mod-add-mod, add-mod-mod, mul-mod_right, add_comm, mul_comm}
+use Rattle.std.proofs.Math.Nat.{mod-mod, add-mul-mod_self_right}
+use Rattle.std.proofs.lemmas.Nat.{mul-mod_first, mul-mod_second}
 use Rattle.std.proofs.lemmas.Bool.{eqb-true}
 use Rattle.std.proofs.lemmas.List.Elements.{All-nil, All-same}
 use Rattle.cir_lc.specs.Terms.{IsWithin}
@@ -14,9 +15,10 @@ use Rattle.gold_field.specs.Form.{Holds, value_at}
 use Rattle.cir_lc.specs.declared.quad.Quad.{Quad}
 use Rattle.cir_lc.specs.Number.{Assignment, Number, value_of, added, scaled, multiplied, negated}
 use Rattle.cir_lc.specs.Normal.{constant_of, kept_of, rest_of, value_of_quad, IsNormal, IsLinear}
+use Rattle.cir_lc.specs.Normal.{IsConstraintWithin}
 use Rattle.cir_lc.specs.Merge.{total}
 use Rattle.cir_lc.proofs.Totals.{total-nil, total-cons}
-use Rattle.cir_lc.proofs.Values.{value-total}
+use Rattle.cir_lc.proofs.Values.{value-total, small_value}
 
 -- the first factor is a constant
 pub normal_left : (q : Quad) (n : Constraint) (k : ℕ) → Some k ≡ constant_of q.a
@@ -177,3 +179,76 @@ none_within m ts e =
 
 pub same_within : (m : ℕ) (ts us : List Term) → ts ≡ us → IsWithin m us → IsWithin m ts
 same_within m ts us e h = All-same (λ (t : Term). (t.signal < m) × (t.coef < P)) ts us e h
+
+-- r - k * f, where r is minus c
+less_number : (r c f k : ℕ) → r ≡ ((P - 1) * c) % P
+    → (r + (((k * (P - 1)) % P) * f) % P) % P ≡ ((P - 1) * ((c + (k * f) % P) % P)) % P
+less_number r c f k e =
+    let all : (P - 1) * c + k * (P - 1) * f ≡ (P - 1) * (c + k * f) = omega arith in
+    ap (λ (n : ℕ). (n + (((k * (P - 1)) % P) * f) % P) % P) e
+    ∙ mod-add-mod ((P - 1) * c) P ((((k * (P - 1)) % P) * f) % P)
+    ∙ ap (λ (n : ℕ). ((P - 1) * c + n) % P) (mul-mod_first (k * (P - 1)) f P)
+    ∙ add-mod-mod ((P - 1) * c) (k * (P - 1) * f) P ∙ ap (λ (n : ℕ). n % P) all
+    ∙ sym (mul-mod_second (P - 1) (c + k * f) P)
+    ∙ ap (λ (n : ℕ). ((P - 1) * n) % P) (sym (add-mod-mod c (k * f) P))
+
+less_means : (k : ℕ) (r c f : List Term) → value_of r ≡ negated (value_of c)
+    → added (value_of r) (scaled ((k * (P - 1)) % P) (value_of f))
+    ≡ negated (added (value_of c) (scaled k (value_of f)))
+unfolding added scaled negated
+less_means k r c f e =
+    λ i s. less_number (value_of r s) (value_of c s) (value_of f s) k (ap (λ (g : Number). g s) e) i
+
+zeroed : (v : ℕ) → 0 * v ≡ 0
+zeroed v = omega arith
+
+-- nothing is taken away
+pub less_none : (k : ℕ) (r f : List Term) → k ≡ 0
+    → value_of r ≡ added (value_of r) (scaled ((k * (P - 1)) % P) (value_of f))
+unfolding added scaled
+less_none k r f e = λ i s. sym (at s) i
+  where
+    none : (v : ℕ) → (((k * (P - 1)) % P) * v) % P ≡ 0
+    none v = ap (λ (n : ℕ). (((n * (P - 1)) % P) * v) % P) e ∙ ap (λ (n : ℕ). n % P) (zeroed v)
+
+    at : (s : Assignment) → (value_of r s + (((k * (P - 1)) % P) * value_of f s) % P) % P
+        ≡ value_of r s
+    at s =
+        let z : value_of r s + 0 ≡ value_of r s = omega arith in
+        ap (λ (n : ℕ). (value_of r s + n) % P) (none (value_of f s)) ∙ ap (λ (n : ℕ). n % P) z
+        ∙ small_value r s
+
+-- minus minus r is r
+twice_minus : (n : ℕ) → ((P - 1) * (((P - 1) * n) % P)) % P ≡ n % P
+twice_minus n =
+    let all : (P - 1) * ((P - 1) * n) ≡ n + ((P - 2) * n) * P = omega arith in
+    mul-mod_second (P - 1) ((P - 1) * n) P ∙ ap (λ (m : ℕ). m % P) all
+    ∙ add-mul-mod_self_right n ((P - 2) * n) P
+
+pub negated_back : (c r : List Term) → value_of c ≡ negated (value_of r)
+    → value_of r ≡ negated (value_of c)
+unfolding negated
+negated_back c r e = λ i s. at s i
+  where
+    at : (s : Assignment) → value_of r s ≡ ((P - 1) * value_of c s) % P
+    at s = sym (small_value r s) ∙ sym (twice_minus (value_of r s))
+        ∙ ap (λ (f : Number). ((P - 1) * f s) % P) (sym e)
+
+-- the constraint of k * factor + c = 0, where r is minus c
+pub linear_of : (k : ℕ) (factor r c f : List Term) (n : Constraint)
+    → n ≡ record { a = []; b = []; c = f }
+    → value_of f ≡ added (value_of r) (scaled ((k * (P - 1)) % P) (value_of factor))
+    → value_of r ≡ negated (value_of c) → IsLinear k factor c n
+linear_of k factor r c f n e g h = record {
+  left = ap (λ (m : Constraint). m.a) e;
+  right = ap (λ (m : Constraint). m.b) e;
+  rest = ap (λ (m : Constraint). value_of m.c) e ∙ g ∙ less_means k r c factor h;
+}
+
+pub linear_within : (m : ℕ) (f : List Term) (n : Constraint)
+    → n ≡ record { a = []; b = []; c = f } → IsWithin m f → IsConstraintWithin m n
+linear_within m f n e w = (
+  none_within m n.a (ap (λ (k : Constraint). k.a) e),
+  none_within m n.b (ap (λ (k : Constraint). k.b) e),
+  same_within m n.c f (ap (λ (k : Constraint). k.c) e) w,
+)

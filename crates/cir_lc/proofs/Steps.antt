@@ -1,7 +1,7 @@
--- One more term of a sum or of a multiple.
+-- One more term of a sum.
 use Rattle.std.proofs.Common.{◌≡◌, ℕ, zero, suc, ◌+◌, ◌*◌, ◌%◌, ◌<◌, List, [], ◌∷◌, ◌++◌, arith}
 use Rattle.std.proofs.Common.{refl, ap, sym, subst, ◌∙◌, mod-lt, lit<}
-use Rattle.std.proofs.Math.Nat.{mod-add-mod, mod-mod, add_comm}
+use Rattle.std.proofs.Math.Nat.{mod-add-mod, add-mod-mod, mod-mod}
 use Rattle.std.proofs.lemmas.Nat.{mul-mod_first}
 use Rattle.std.proofs.lemmas.List.{append_assoc, append-nil}
 use Rattle.std.proofs.lemmas.List.Elements.{All-append, All-head, All-tail, All-cons, All-nil}
@@ -9,8 +9,8 @@ use Rattle.gold_field.specs.declared.form.Term.{Term}
 use Rattle.gold_field.specs.declared.gold.TheConstants.{P}
 use Rattle.gold_field.specs.Rises.{RisesFrom}
 use Rattle.cir_lc.specs.Terms.{IsWithin, term_of}
-use Rattle.cir_lc.specs.Merge.{total, IsMerged, IsScaled}
-use Rattle.cir_lc.proofs.Rising.{other_rest, left_out, other_coef, rest_rises}
+use Rattle.cir_lc.specs.Merge.{total, IsMerged}
+use Rattle.cir_lc.proofs.Rising.{other_rest, left_out, other_coef, rest_rises, front_rises}
 use Rattle.cir_lc.proofs.Totals.{total-nil, total-cons, total-append}
 
 abbrev Small : ℕ → Term → Type 0
@@ -32,10 +32,16 @@ within_term n g zero h k = All-nil (Small n)
 within_term n g (suc c) h k =
     All-cons (Small n) (record { signal = g; coef = suc c }) [] (h, k) (All-nil (Small n))
 
+pub within_one : (n g c m : ℕ) → g < n → m ≡ c → m < P
+    → IsWithin n (record { signal = g; coef = c } ∷ [])
+within_one n g c m h e k =
+    All-cons (Small n) (record { signal = g; coef = c }) []
+    (h, subst (λ (i : ℕ). i < P) e k) (All-nil (Small n))
+
 -- the walk takes the lower signal: of a ..
-pub step_left : (a b out us vs : List Term) (x y : Term) → x.signal < y.signal
-    → IsMerged a b out (x ∷ us) (y ∷ vs) → IsMerged a b (out ++ x ∷ []) us (y ∷ vs)
-step_left a b out us vs x y l m = record {
+pub step_left : (k : ℕ) (a b out us vs : List Term) (x y : Term) → x.signal < y.signal
+    → IsMerged k a b out (x ∷ us) (y ∷ vs) → IsMerged k a b (out ++ x ∷ []) us (y ∷ vs)
+step_left k a b out us vs x y l m = record {
   rises_left = rw append_assoc m.rises_left;
   rises_right =
       rw append_assoc (other_rest 0 out x us (y ∷ vs) m.rises_left (omega arith, above.1, above.2));
@@ -52,8 +58,8 @@ step_left a b out us vs x y l m = record {
     above : RisesFrom 0 (y ∷ vs)
     above = rest_rises 0 out (y ∷ vs) m.rises_right
 
-    moved : (s : ℕ → ℕ) → total s (out ++ x ∷ []) + (total s us + total s (y ∷ vs))
-        ≡ total s out + (total s (x ∷ us) + total s (y ∷ vs))
+    moved : (s : ℕ → ℕ) → total s (out ++ x ∷ []) + (total s us + k * total s (y ∷ vs))
+        ≡ total s out + (total s (x ∷ us) + k * total s (y ∷ vs))
     moved s =
         omega (
           arith,
@@ -63,23 +69,6 @@ step_left a b out us vs x y l m = record {
           total-cons s x us,
         )
 
--- .. and what stands in a and in b may change places
-pub turned : (a b out us vs : List Term) → IsMerged a b out us vs → IsMerged b a out vs us
-turned a b out us vs m = record {
-  rises_left = m.rises_right;
-  rises_right = m.rises_left;
-  value = λ s.
-      ap (λ (n : ℕ). (total s out + n) % P) (add_comm (total s vs) (total s us)) ∙ m.value s
-      ∙ ap (λ (n : ℕ). n % P) (add_comm (total s a) (total s b));
-  within = λ n p q. let w = m.within n q p in (w.0, w.2, w.1);
-}
-
-pub step_right : (a b out us vs : List Term) (x y : Term) → y.signal < x.signal
-    → IsMerged a b out (x ∷ us) (y ∷ vs) → IsMerged a b (out ++ y ∷ []) (x ∷ us) vs
-step_right a b out us vs x y l m =
-    turned b a (out ++ y ∷ []) vs (x ∷ us)
-    (step_left b a out vs us y x l (turned a b out (x ∷ us) (y ∷ vs) m))
-
 -- the remainder of a sum of remainders
 reduced_first : (c k d e m : ℕ) → c % m ≡ d % m → (c * k + e) % m ≡ (d * k + e) % m
 reduced_first c k d e m h =
@@ -87,11 +76,54 @@ reduced_first c k d e m h =
     ∙ ap (λ (n : ℕ). (n + e) % m) (sym (mul-mod_first c k m) ∙ ap (λ (n : ℕ). (n * k) % m) h
     ∙ mul-mod_first d k m) ∙ mod-add-mod (d * k) m e
 
+-- a term with the coefficient c stands for one with a coefficient that has the same remainder
+term_stands : (s : ℕ → ℕ) (out : List Term) (g c d r : ℕ) → c ≡ d % P
+    → (total s (out ++ term_of g c) + r) % P ≡ (total s out + d * s g + r) % P
+term_stands s out g c d r h =
+    let before : total s (out ++ term_of g c) + r ≡ c * s g + (total s out + r) =
+    omega (arith, total-append s out (term_of g c), total-term s g c) in
+    let after : d * s g + (total s out + r) ≡ total s out + d * s g + r = omega arith in
+    ap (λ (n : ℕ). n % P) before
+    ∙ reduced_first c (s g) d (total s out + r) P (ap (λ (n : ℕ). n % P) h ∙ mod-mod d P)
+    ∙ ap (λ (n : ℕ). n % P) after
+
+-- .. or of b, whose multiple fits in front of what is left of a
+pub step_right : (k : ℕ) (a b out us vs : List Term) (y : Term) (c : ℕ) → c ≡ (y.coef * k) % P
+    → RisesFrom 0 (out ++ y ∷ us) → IsMerged k a b out us (y ∷ vs)
+    → IsMerged k a b (out ++ term_of y.signal c) us vs
+step_right k a b out us vs y c h r m = record {
+  rises_left = rises_term out us y y.signal c refl r;
+  rises_right = rises_term out vs y y.signal c refl m.rises_right;
+  value = λ s. moved s ∙ m.value s;
+  within = λ n p q.
+      let w = m.within n p q in
+      let t : IsWithin n (term_of y.signal c) =
+      within_term n y.signal c (All-head (Small n) y vs w.2).0
+      (subst (λ (k : ℕ). k < P) (sym h) (mod-lt (y.coef * k) (lit< tt))) in (
+        All-append (Small n) out (term_of y.signal c) w.0 t,
+        w.1,
+        All-tail (Small n) y vs w.2,
+      );
+}
+  where
+    moved : (s : ℕ → ℕ) → (total s (out ++ term_of y.signal c) + (total s us + k * total s vs)) % P
+        ≡ (total s out + (total s us + k * total s (y ∷ vs))) % P
+    moved s =
+        term_stands s out y.signal c (y.coef * k) (total s us + k * total s vs) h
+        ∙ ap (λ (n : ℕ). n % P) (omega (arith, ap (λ (n : ℕ). k * n) (total-cons s y vs)))
+
+-- the term of b stands in front of the greater one of a
+pub before : (out us vs : List Term) (x y : Term) → y.signal < x.signal
+    → RisesFrom 0 (out ++ x ∷ us) → RisesFrom 0 (out ++ y ∷ vs) → RisesFrom 0 (out ++ y ∷ (x ∷ us))
+before out us vs x y l p q =
+    let above : RisesFrom 0 (x ∷ us) = rest_rises 0 out (x ∷ us) p in
+    other_rest 0 out y vs (x ∷ us) q (omega arith, above.1, above.2)
+
 -- or the signal of both
-pub step_both : (a b out us vs : List Term) (x y : Term) (c : ℕ) → x.signal ≡ y.signal
-    → c ≡ (x.coef + y.coef) % P → IsMerged a b out (x ∷ us) (y ∷ vs)
-    → IsMerged a b (out ++ term_of x.signal c) us vs
-step_both a b out us vs x y c e h m = record {
+pub step_both : (k : ℕ) (a b out us vs : List Term) (x y : Term) (c d : ℕ) → x.signal ≡ y.signal
+    → d ≡ (y.coef * k) % P → c ≡ (x.coef + d) % P → IsMerged k a b out (x ∷ us) (y ∷ vs)
+    → IsMerged k a b (out ++ term_of x.signal c) us vs
+step_both k a b out us vs x y c d e g h m = record {
   rises_left = rises_term out us x x.signal c refl m.rises_left;
   rises_right = rises_term out vs y x.signal c e m.rises_right;
   value = λ s. moved s ∙ m.value s;
@@ -99,90 +131,77 @@ step_both a b out us vs x y c e h m = record {
       let w = m.within n p q in
       let t : IsWithin n (term_of x.signal c) =
       within_term n x.signal c (All-head (Small n) x us w.1).0
-      (subst (λ (k : ℕ). k < P) (sym h) (mod-lt (x.coef + y.coef) (lit< tt))) in (
+      (subst (λ (k : ℕ). k < P) (sym h) (mod-lt (x.coef + d) (lit< tt))) in (
         All-append (Small n) out (term_of x.signal c) w.0 t,
         All-tail (Small n) x us w.1,
         All-tail (Small n) y vs w.2,
       );
 }
   where
-    moved : (s : ℕ → ℕ) → (total s (out ++ term_of x.signal c) + (total s us + total s vs)) % P
-        ≡ (total s out + (total s (x ∷ us) + total s (y ∷ vs))) % P
-    moved s =
-        let k : ℕ = s x.signal in
-        let r : ℕ = total s out + (total s us + total s vs) in
-        let before : total s (out ++ term_of x.signal c) + (total s us + total s vs) ≡ c * k + r =
-        omega (arith, total-append s out (term_of x.signal c), total-term s x.signal c) in
-        let after : (x.coef + y.coef) * k + r
-        ≡ total s out + (total s (x ∷ us) + total s (y ∷ vs)) =
-        omega (arith, total-cons s x us, total-cons s y vs, ap (λ (n : ℕ). y.coef * s n) e) in
-        ap (λ (n : ℕ). n % P) before
-        ∙ reduced_first c k (x.coef + y.coef) r P (ap (λ (n : ℕ). n % P) h
-        ∙ mod-mod (x.coef + y.coef) P)
-        ∙ ap (λ (n : ℕ). n % P) after
+    both : c ≡ (x.coef + y.coef * k) % P
+    both = h ∙ ap (λ (n : ℕ). (x.coef + n) % P) g ∙ add-mod-mod x.coef (y.coef * k) P
 
--- nothing is left of a: what is left of b ends the sum
-pub last_right : (a b out vs : List Term) → IsMerged a b out [] vs → IsMerged a b (out ++ vs) [] []
-last_right a b out vs m = record {
-  rises_left = rw append-nil m.rises_right;
-  rises_right = rw append-nil m.rises_right;
+    moved : (s : ℕ → ℕ) → (total s (out ++ term_of x.signal c) + (total s us + k * total s vs)) % P
+        ≡ (total s out + (total s (x ∷ us) + k * total s (y ∷ vs))) % P
+    moved s =
+        term_stands s out x.signal c (x.coef + y.coef * k) (total s us + k * total s vs) both
+        ∙ ap (λ (n : ℕ). n % P)
+        (omega (
+          arith,
+          total-cons s x us,
+          ap (λ (n : ℕ). k * n) (total-cons s y vs),
+          ap (λ (n : ℕ). y.coef * k * s n) e,
+        ))
+
+-- nothing is left of b: what is left of a ends the sum
+pub last_left : (k : ℕ) (a b out us : List Term) → IsMerged k a b out us []
+    → IsMerged k a b (out ++ us) [] []
+last_left k a b out us m = record {
+  rises_left = rw append-nil m.rises_left;
+  rises_right = rw append-nil m.rises_left;
   value = λ s. ap (λ (n : ℕ). n % P) (moved s) ∙ m.value s;
   within = λ n p q. let w = m.within n p q
-      in (All-append (Small n) out vs w.0 w.2, All-nil (Small n), All-nil (Small n));
+      in (All-append (Small n) out us w.0 w.1, All-nil (Small n), All-nil (Small n));
 }
   where
-    moved : (s : ℕ → ℕ) → total s (out ++ vs) + (total s [] + total s [])
-        ≡ total s out + (total s [] + total s vs)
-    moved s = omega (arith, total-append s out vs, total-nil s)
+    moved : (s : ℕ → ℕ) → total s (out ++ us) + (total s [] + k * total s [])
+        ≡ total s out + (total s us + k * total s [])
+    moved s = omega (arith, total-append s out us, total-nil s)
 
-pub last_left : (a b out us : List Term) → IsMerged a b out us [] → IsMerged a b (out ++ us) [] []
-last_left a b out us m =
-    turned b a (out ++ us) [] [] (last_right b a out us (turned a b out us [] m))
-
-pub none_merged : (a b : List Term) → RisesFrom 0 a → RisesFrom 0 b → IsMerged a b [] a b
-none_merged a b p q = record {
+pub none_merged : (k : ℕ) (a b : List Term) → RisesFrom 0 a → RisesFrom 0 b
+    → IsMerged k a b [] a b
+none_merged k a b p q = record {
   rises_left = p;
   rises_right = q;
   value = λ s. ap (λ (n : ℕ). n % P) (none s);
   within = λ n v w. (All-nil (Small n), v, w);
 }
   where
-    none : (s : ℕ → ℕ) → total s [] + (total s a + total s b) ≡ total s a + total s b
+    none : (s : ℕ → ℕ) → total s [] + (total s a + k * total s b) ≡ total s a + k * total s b
     none s = omega (arith, total-nil s)
 
--- one term more of a multiple
-pub step_scaled : (k : ℕ) (a out us : List Term) (x : Term) (c : ℕ) → c ≡ (x.coef * k) % P
-    → IsScaled k a out (x ∷ us) → IsScaled k a (out ++ term_of x.signal c) us
-step_scaled k a out us x c h m = record {
-  rises = rises_term out us x x.signal c refl m.rises;
-  value = λ s. moved s ∙ m.value s;
-  within = λ n p.
-      let w = m.within n p in
-      let t : IsWithin n (term_of x.signal c) =
-      within_term n x.signal c (All-head (Small n) x us w.1).0
-      (subst (λ (k : ℕ). k < P) (sym h) (mod-lt (x.coef * k) (lit< tt))) in
-      (All-append (Small n) out (term_of x.signal c) w.0 t, All-tail (Small n) x us w.1);
-}
-  where
-    moved : (s : ℕ → ℕ) → (total s (out ++ term_of x.signal c) + k * total s us) % P
-        ≡ (total s out + k * total s (x ∷ us)) % P
-    moved s =
-        let j : ℕ = s x.signal in
-        let r : ℕ = total s out + k * total s us in
-        let before : total s (out ++ term_of x.signal c) + k * total s us ≡ c * j + r =
-        omega (arith, total-append s out (term_of x.signal c), total-term s x.signal c) in
-        let after : x.coef * k * j + r ≡ total s out + k * total s (x ∷ us) =
-        omega (arith, ap (λ (n : ℕ). k * n) (total-cons s x us)) in
-        ap (λ (n : ℕ). n % P) before
-        ∙ reduced_first c j (x.coef * k) r P (ap (λ (n : ℕ). n % P) h ∙ mod-mod (x.coef * k) P)
-        ∙ ap (λ (n : ℕ). n % P) after
-
-pub none_scaled : (k : ℕ) (a : List Term) → RisesFrom 0 a → IsScaled k a [] a
-none_scaled k a p = record {
-  rises = p;
+-- nothing of b stands behind a yet
+pub none_behind : (k : ℕ) (a b : List Term) → RisesFrom 0 (a ++ b) → IsMerged k a b a [] b
+none_behind k a b p = record {
+  rises_left = rw append-nil (front_rises 0 a b p);
+  rises_right = p;
   value = λ s. ap (λ (n : ℕ). n % P) (none s);
-  within = λ n v. (All-nil (Small n), v);
+  within = λ n v w. (v, All-nil (Small n), w);
 }
   where
-    none : (s : ℕ → ℕ) → total s [] + k * total s a ≡ k * total s a
+    none : (s : ℕ → ℕ) → total s a + (total s [] + k * total s b) ≡ total s a + k * total s b
     none s = omega (arith, total-nil s)
+
+-- what is left of b ends the sum
+pub joined : (k : ℕ) (a b mid vs out : List Term) → IsMerged k a b mid [] vs
+    → IsMerged k mid vs out [] [] → IsMerged k a b out [] []
+joined k a b mid vs out m n = record {
+  rises_left = n.rises_left;
+  rises_right = n.rises_right;
+  value = λ s. n.value s ∙ ap (λ (n : ℕ). n % P) (moved s) ∙ m.value s;
+  within = λ i p q. let w = m.within i p q in n.within i w.0 w.2;
+}
+  where
+    moved : (s : ℕ → ℕ) → total s mid + k * total s vs
+        ≡ total s mid + (total s [] + k * total s vs)
+    moved s = omega (arith, total-nil s)

@@ -1,8 +1,9 @@
-ghost use Rattle.std.specs.Prelude.{◌≡◌, ◌<◌, ◌%◌, ℕ, IfOk, ◌↔◌};
+ghost use Rattle.std.specs.Prelude.{◌≡◌, ◌-◌, ◌<◌, ◌%◌, ℕ, List, IfOk, ◌↔◌};
 ghost use Rattle.gold_field.specs.Form.{Holds};
 ghost use Rattle.gold_field.specs.declared.gold.TheConstants.{P};
+ghost use Rattle.gold_field.specs.declared.form.Term.{Term};
 ghost use Rattle.gold_field.specs.Rises.{RisesFrom};
-ghost use Rattle.cir_lc.specs.Number.{Assignment, value_of, signal as signal_number, scaled};
+ghost use Rattle.cir_lc.specs.Number.{Assignment, value_of, signal as signal_number, added, scaled};
 ghost use Rattle.cir_lc.specs.Coefficient.{one_at};
 ghost use Rattle.cir_lc.specs.Merge.{total};
 ghost use Rattle.cir_lc.specs.Terms.{IsWithin};
@@ -10,8 +11,8 @@ ghost use Rattle.cir_lc.specs.Normal.{IsConstraintWithin};
 ghost use Rattle.cir_lc.specs.Sparse.{IsNormalForm, IsRising};
 ghost use Rattle.cir_lc.specs.Substitution.{with_number, substituted, substitute};
 
-use crate::quad::{Quad, minus, normal};
-use crate::sums::{add, push_term, scale};
+use crate::quad::{copy_of, settled};
+use crate::sums::{add_multiple, push_term, signal_and};
 use gold_field::{Constraint, Gold, Lc};
 use std::alloc::{AllocError, Global};
 
@@ -29,30 +30,42 @@ pub fn subst(alloc: Global, c: &Constraint, signal: u32, by: &Lc) -> Result<Cons
     ensures normal { IfOk result (λ r. IsNormalForm r) }
     ensures rises { IfOk result (λ r. IsRising r) }
 {
-    let a = changed(alloc, &c.a, signal, by)?;
-    let b = changed(alloc, &c.b, signal, by)?;
-    let rest = changed(alloc, &c.c, signal, by)?;
-    let c = minus(alloc, &rest)?;
-    rises(&c);
-    let n = normal(alloc, &Quad { a, b, c })?;
+    let swap = swapped(alloc, signal, by)?;
+    let a = changed(alloc, &c.a, signal, &swap)?;
+    let b = changed(alloc, &c.b, signal, &swap)?;
+    let rest = changed(alloc, &c.c, signal, &swap)?;
+    let n = settled(alloc, a, b, rest)?;
     in_order(&n);
     Ok(n)
 }
 
-// `f` with `by` in place of the signal.
-fn changed(alloc: Global, f: &Lc, signal: u32, by: &Lc) -> Result<Lc, AllocError>
+// `by` less the signal: what is added for each time that a form has the signal.
+fn swapped(alloc: Global, signal: u32, by: &Lc) -> Result<Lc, AllocError>
+    ensures value { IfOk result (λ f. value_of f
+        ≡ added (value_of by.now) (scaled (P - 1) (signal_number signal))) }
+    ensures within { IfOk result (λ f. (n : ℕ) → signal < n → IsWithin n by.now → IsWithin n f) }
+{
+    let f = signal_and(alloc, signal, Gold::ONE.neg(), by, Gold::ONE)?;
+    Ok(f)
+}
+
+// `f` with the number `by` in place of the signal, where `swap` is that number less the signal.
+fn changed(alloc: Global, f: &Lc, signal: u32, swap: &Lc) -> Result<Lc, AllocError>
     requires { 0 < signal }
-    ensures value { IfOk result
-        (λ g. value_of g ≡ substituted signal (value_of by.now) (value_of f.now)) }
-    ensures within { IfOk result (λ g. (n : ℕ) → signal < n → IsWithin n f.now → IsWithin n by.now
+    ensures value { IfOk result (λ g. (by : List Term) → value_of swap.now
+        ≡ added (value_of by) (scaled (P - 1) (signal_number signal))
+        → value_of g ≡ substituted signal (value_of by) (value_of f.now)) }
+    ensures within { IfOk result (λ g. (n : ℕ) → IsWithin n f.now → IsWithin n swap.now
         → IsWithin n g) }
     ensures rises { IfOk result (λ g. RisesFrom 0 g) }
 {
     let k = coef(f, signal);
-    let gone = multiple(alloc, signal, k.neg())?;
-    let rest = add(alloc, f, &gone)?;
-    let put = scale(alloc, by, k)?;
-    let g = add(alloc, &rest, &put)?;
+    if k.get() == 0 {
+        let g = copy_of(alloc, f)?;
+        rises(&g);
+        return Ok(g);
+    }
+    let g = add_multiple(alloc, f, swap, k)?;
     rises(&g);
     Ok(g)
 }

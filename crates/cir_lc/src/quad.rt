@@ -1,12 +1,14 @@
-ghost use Rattle.std.specs.Prelude.{◌≡◌, ℕ, [], IfOk, ◌↔◌};
+ghost use Rattle.std.specs.Prelude.{◌≡◌, ◌-◌, ◌*◌, ◌%◌, ℕ, List, [], IfOk, ◌↔◌};
 ghost use Rattle.gold_field.specs.Form.{Holds};
-ghost use Rattle.cir_lc.specs.Number.{Assignment, value_of, multiplied, negated};
+ghost use Rattle.gold_field.specs.declared.form.Term.{Term};
+ghost use Rattle.gold_field.specs.declared.gold.TheConstants.{P};
+ghost use Rattle.cir_lc.specs.Number.{Assignment, value_of, added, scaled, multiplied, negated};
 ghost use Rattle.cir_lc.specs.Terms.{IsWithin};
 ghost use Rattle.cir_lc.specs.Sparse.{IsNormalForm};
 ghost use Rattle.cir_lc.specs.Normal.{IsNormal, IsLinear, IsConstraintWithin, IsQuadWithin};
 ghost use Rattle.cir_lc.specs.Normal.{constant_of, value_of_quad};
 
-use crate::sums::{add, scale};
+use crate::sums::{add_multiple, scale};
 use gold_field::{Constraint, Gold, Lc};
 use std::alloc::{AllocError, Global};
 
@@ -83,14 +85,52 @@ fn linear(alloc: Global, c: &Lc, factor: &Lc, k: Gold) -> Result<Constraint, All
     ensures within { IfOk result (λ n. (m : ℕ) → IsWithin m factor.now → IsWithin m c.now
         → IsConstraintWithin m n) }
 {
-    let product = scale(alloc, factor, k)?;
-    let sum = add(alloc, c, &product)?;
-    let c = minus(alloc, &sum)?;
-    Ok(Constraint {
+    let rest = minus(alloc, c)?;
+    let c = less(alloc, rest, factor, k)?;
+    Ok(without_factors(alloc, c))
+}
+
+fn without_factors(alloc: Global, c: Lc) -> Constraint
+    ensures { result ≡ record { a = []; b = []; c = c } }
+{
+    Constraint {
         a: Lc::of(Vec::new(alloc)),
         b: Lc::of(Vec::new(alloc)),
         c,
-    })
+    }
+}
+
+/// The normal constraint of `a * b = rest`.
+pub(crate) fn settled(alloc: Global, a: Lc, b: Lc, rest: Lc) -> Result<Constraint, AllocError>
+    ensures shape { IfOk result (λ n. (c : List Term) → value_of c ≡ negated (value_of rest)
+        → IsNormal record { a = a; b = b; c = c } n) }
+    ensures within { IfOk result (λ n. (m : ℕ) → IsWithin m a → IsWithin m b → IsWithin m rest
+        → IsConstraintWithin m n) }
+{
+    if let Some(k) = constant(&a) {
+        let c = less(alloc, rest, &b, k)?;
+        Ok(without_factors(alloc, c))
+    } else if let Some(k) = constant(&b) {
+        let c = less(alloc, rest, &a, k)?;
+        Ok(without_factors(alloc, c))
+    } else {
+        Ok(Constraint { a, b, c: rest })
+    }
+}
+
+// `rest - k * factor`.
+fn less(alloc: Global, rest: Lc, factor: &Lc, k: Gold) -> Result<Lc, AllocError>
+    ensures value { IfOk result
+        (λ f. value_of f
+        ≡ added (value_of rest) (scaled ((k * (P - 1)) % P) (value_of factor.now))) }
+    ensures within { IfOk result (λ f. (n : ℕ) → IsWithin n rest → IsWithin n factor.now
+        → IsWithin n f) }
+{
+    if k.get() == 0 {
+        return Ok(rest);
+    }
+    let f = add_multiple(alloc, &rest, factor, k.mul(Gold::ONE.neg()))?;
+    Ok(f)
 }
 
 pub(crate) fn minus(alloc: Global, a: &Lc) -> Result<Lc, AllocError>
@@ -101,7 +141,7 @@ pub(crate) fn minus(alloc: Global, a: &Lc) -> Result<Lc, AllocError>
     Ok(f)
 }
 
-fn copy_of(alloc: Global, a: &Lc) -> Result<Lc, AllocError>
+pub(crate) fn copy_of(alloc: Global, a: &Lc) -> Result<Lc, AllocError>
     ensures { IfOk result (λ f. f ≡ a.now) }
 {
     let terms = Vec::from_slice(alloc, a.as_slice())?;

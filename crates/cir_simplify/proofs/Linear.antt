@@ -108,13 +108,14 @@ pub linear_signal : (n x : ℕ) → x < n → IsLinear n (signal x)
 linear_signal n x l =
     (term_of x 1, naming_term n x 1 l, multiple_value x 1 (term_of x 1) refl ∙ scaled_once x)
 
-pub solution_known : (n : ℕ) (t : Term) (c f x y : List Term) (m : ℕ)
-    → m ≡ (P - inverse_of t.coef) % P → value_of x ≡ scaled 1 (signal t.signal)
-    → value_of y ≡ scaled m (value_of c) → value_of f ≡ added (value_of x) (value_of y)
-    → RisesFrom 0 f → IsWithin n f → f ≡ solution n (record { term = t; form = c })
-solution_known n t c f x y m em ex ey ef h w =
-    form_known n f _ h w (ef ∙ ap (λ (g : Number). added g (value_of y)) (ex ∙ scaled_once t.signal)
-    ∙ ap (added (signal t.signal)) (ey ∙ ap (λ (k : ℕ). scaled k (value_of c)) em))
+pub solution_known : (n : ℕ) (t : Term) (c f : List Term) (m : ℕ)
+    → m ≡ (P - inverse_of t.coef) % P
+    → value_of f ≡ added (scaled 1 (signal t.signal)) (scaled m (value_of c)) → RisesFrom 0 f
+    → IsWithin n f → f ≡ solution n (record { term = t; form = c })
+solution_known n t c f m em ef h w =
+    form_known n f _ h w
+    (ef ∙ ap (λ (g : Number). added g (scaled m (value_of c))) (scaled_once t.signal)
+    ∙ ap (λ (k : ℕ). added (signal t.signal) (scaled k (value_of c))) em)
 
 -- a number put in at one place
 pub put_apart : (k v : ℕ) (s : ℕ → ℕ) (j : ℕ) → (j ≡ k → ⊥) → put k v s j ≡ s j

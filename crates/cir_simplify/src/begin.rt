@@ -48,14 +48,15 @@ fn no_rows(alloc: Global, count: usize) -> Result<Vec<Constraint>, AllocError>
     ensures len { IfOk result (λ v. length v.items ≡ count) }
     ensures empty { IfOk result (λ v. (i : ℕ) → row v.items i ≡ empty) }
 {
-    let mut rows = Vec::new(alloc);
+    let mut rows = Vec::with_capacity(alloc, count)?;
     for k in 0..count {
         rows.push(nothing(alloc))?;
     }
     Ok(rows)
 }
 
-fn nothing(alloc: Global) -> Constraint
+/// The constraint without terms.
+pub(crate) fn nothing(alloc: Global) -> Constraint
     ensures { result ≡ empty }
 {
     Constraint {
@@ -68,7 +69,7 @@ fn nothing(alloc: Global) -> Constraint
 fn no_lists(alloc: Global, count: usize) -> Result<Vec<Items<usize>>, AllocError>
     ensures { IfOk result (λ v. length v.items ≡ count) }
 {
-    let mut lists = Vec::new(alloc);
+    let mut lists = Vec::with_capacity(alloc, count)?;
     for k in 0..count {
         lists.push(Items::new(alloc))?;
     }

@@ -1,12 +1,11 @@
 ghost use Rattle.std.specs.Prelude.{◌≡◌, ◌<◌, ◌+◌, ◌-◌, ◌%◌, ℕ, IfOk};
-ghost use Rattle.gold_field.specs.Rises.{RisesFrom};
 ghost use Rattle.gold_field.specs.declared.gold.TheConstants.{P};
 ghost use Rattle.gold_field.specs.Operators.{inverse_of};
 ghost use Rattle.cir_lc.specs.Terms.{IsWithin};
 ghost use Rattle.cir_simplify.specs.Shape.{terms_in};
 ghost use Rattle.cir_simplify.specs.Turn.{solution as solution_of};
 
-use cir_lc::{add, multiple, scale};
+use cir_lc::signal_and;
 use gold_field::{Constraint, Gold, Lc, Term};
 use std::alloc::{AllocError, Global};
 
@@ -18,9 +17,7 @@ pub(crate) fn solution(alloc: Global, term: Term, c: &Lc) -> Result<Lc, AllocErr
     ensures within { IfOk result (λ f. (n : ℕ) → term.signal < n → IsWithin n c.now
         → IsWithin n f) }
 {
-    let signal = multiple(alloc, term.signal, Gold::ONE)?;
-    let quotient = scale(alloc, c, minus_inverse(term.coef))?;
-    let f = add(alloc, &signal, &quotient)?;
+    let f = signal_and(alloc, term.signal, Gold::ONE, c, minus_inverse(term.coef))?;
     let _terms = f.as_slice();
     Ok(f)
 }
@@ -29,6 +26,13 @@ fn minus_inverse(coef: Gold) -> Gold
     requires { 0 < coef }
     ensures { result ≡ (P - inverse_of coef) % P }
 {
+    let minus_one = Gold::ONE.neg();
+    if coef.get() == 1 {
+        return minus_one;
+    }
+    if coef.get() == minus_one.get() {
+        return Gold::ONE;
+    }
     match coef.inv() {
         Some(inverse) => inverse.neg(),
         None => Gold::ZERO,

@@ -4,11 +4,12 @@ ghost use Rattle.cir_lc.specs.Terms.{IsWithin};
 ghost use Rattle.cir_lc.specs.Substitution.{substitute};
 ghost use Rattle.cir_simplify.specs.Shape.{names, terms_in};
 ghost use Rattle.cir_simplify.specs.Index.{row, held, IsGood, IsIndexed, NotesForm, Notes, Queues};
-ghost use Rattle.cir_simplify.specs.Index.{IsPartly};
+ghost use Rattle.cir_simplify.specs.Index.{empty};
 ghost use Rattle.gold_field.specs.Form.{SignalsBelow};
 ghost use Rattle.std.specs.List.{Contains};
 ghost use Rattle.std.specs.List.Sorted.{IsStrictlyIncreasing};
 
+use crate::begin::nothing;
 use crate::pick::pivot;
 use crate::row::{sum, terms};
 use crate::types::Rules;
@@ -172,6 +173,36 @@ fn replace_one(
     Ok(())
 }
 
+// The same, where the constraint at the place `own` is the one that was solved: it becomes empty.
+fn replace_at(
+    alloc: Global,
+    s: &mut Rows,
+    rules: Rules,
+    x: u32,
+    by: &Lc,
+    own: usize,
+    i: usize,
+) -> Result<(), AllocError>
+    requires place { i < length s.old.rows.items }
+    requires signal { 0 < x }
+    requires below { x < rules.bound }
+    requires by { IsWithin rules.bound by.now }
+    requires own { i ≡ own → substitute rules.bound x by.now (row s.old.rows.items i) ≡ empty }
+    requires indexed { IsIndexed rules s.old.rows.items s.old.holders.items s.old.ready
+        s.old.terms }
+    ensures rows { OnOk result (s.new.rows.items
+        ≡ slice_set s.old.rows.items i (substitute rules.bound x by.now (row s.old.rows.items i))) }
+    ensures indexed { OnOk result
+        (IsIndexed rules s.new.rows.items s.new.holders.items s.new.ready s.new.terms) }
+{
+    if i == own {
+        set(s, rules, i, nothing(alloc))?;
+        return Ok(());
+    }
+    replace_one(alloc, s, rules, x, by, i)?;
+    Ok(())
+}
+
 // The places of the constraints that name the signal, and perhaps others, each once.
 fn places(alloc: Global, s: &Rows, x: u32) -> Result<Vec<usize>, AllocError>
     requires { x < length s.now.holders.items }
@@ -185,17 +216,19 @@ fn places(alloc: Global, s: &Rows, x: u32) -> Result<Vec<usize>, AllocError>
     Ok(places)
 }
 
-/// Puts `by` in place of the signal in every constraint.
+/// Puts `by` in place of the signal in every constraint. The one at `own` becomes empty by it.
 pub(crate) fn replace_all(
     alloc: Global,
     s: &mut Rows,
     rules: Rules,
     x: u32,
     by: &Lc,
+    own: usize,
 ) -> Result<(), AllocError>
     requires signal { 0 < x }
     requires below { x < rules.bound }
     requires by { IsWithin rules.bound by.now }
+    requires own { substitute rules.bound x by.now (row s.old.rows.items own) ≡ empty }
     requires indexed { IsIndexed rules s.old.rows.items s.old.holders.items s.old.ready
         s.old.terms }
     ensures rows { OnOk result
@@ -206,7 +239,7 @@ pub(crate) fn replace_all(
     let places = places(alloc, s, x)?;
     for i in places.as_slice() {
         if *i < s.rows.len() {
-            replace_one(alloc, s, rules, x, by, *i)?;
+            replace_at(alloc, s, rules, x, by, own, *i)?;
         }
     }
     Ok(())

@@ -91,9 +91,10 @@ fn solve(alloc: Global, s: &mut Rows, rules: Rules, found: Found) -> Result<Solv
     ensures indexed { OnOk result
         (IsIndexed rules s.new.rows.items s.new.holders.items s.new.ready s.new.terms) }
 {
+    let place = found.place;
     let signal = found.term.signal;
     let value = solved_at(alloc, &s.rows, found)?;
-    replace_all(alloc, s, rules, signal, &value)?;
+    replace_all(alloc, s, rules, signal, &value, place)?;
     Ok(Solved { signal, value })
 }
 

@@ -1,5 +1,5 @@
-ghost use Rattle.std.specs.Prelude.{◌≡◌, ◌<◌, ◌≤◌, ◌||◌, ◌^◌, ℕ, Bool, false, nat_le, length, All};
-ghost use Rattle.std.specs.Prelude.{map, slice_index, slice_index_or, IfOk};
+ghost use Rattle.std.specs.Prelude.{◌≡◌, ◌<◌, ◌≤◌, ◌||◌, ◌^◌, ℕ, false, nat_le, length, All, map};
+ghost use Rattle.std.specs.Prelude.{slice_index, slice_index_or, IfOk};
 ghost use Rattle.gold_field.specs.Rises.{RisesFrom};
 ghost use Rattle.gold_field.specs.declared.form.Term.{Term};
 ghost use Rattle.cir_lc.specs.Normal.{IsConstraintWithin};
@@ -36,7 +36,7 @@ fn first_marks(alloc: Global, rules: Rules) -> Result<Vec<bool>, AllocError>
         → slice_index_or v.items x false ≡ (keeps_all rules.level || nat_le x rules.kept)) }
 {
     let all = is_all(rules.level);
-    let mut marks = Vec::new(alloc);
+    let mut marks = Vec::with_capacity(alloc, rules.bound)?;
     for x in 0..rules.bound {
         marks.push(all || x <= rules.kept as usize)?;
     }
@@ -94,7 +94,7 @@ pub(crate) fn numbering(alloc: Global, marks: &[bool]) -> Result<Numbers, AllocE
         → slice_index n.places.items x ≡ wire_of (λ x. slice_index_or marks.now x false) x) }
 {
     let mut wires = Vec::new(alloc);
-    let mut places = Vec::new(alloc);
+    let mut places = Vec::with_capacity(alloc, marks.len())?;
     for x in 0..marks.len() {
         places.push(wires.len() as u32)?;
         if marks[x] {
@@ -110,8 +110,9 @@ pub(crate) fn rename(alloc: Global, f: &Lc, places: &[u32]) -> Result<Lc, AllocE
     requires rises { RisesFrom 0 (map (renamed (slice_index places.now)) f.now) }
     ensures { IfOk result (λ g. g ≡ map (renamed (slice_index places.now)) f.now) }
 {
-    let mut terms = Vec::new(alloc);
-    for t in f.as_slice() {
+    let old = f.as_slice();
+    let mut terms = Vec::with_capacity(alloc, old.len())?;
+    for t in old {
         terms.push(Term {
             signal: places[t.signal as usize],
             coef: t.coef,

@@ -1,15 +1,18 @@
 -- The signals of a value's parts.
-use Rattle.std.proofs.Common.{◌≡◌, ℕ, ◌*◌, ◌%◌, ◌<◌, List, [], ◌∷◌, ap, subst, ◌∙◌, arith}
-use Rattle.std.proofs.Common.{mod-eq_of_lt, mod-lt, lit<}
+use Rattle.std.proofs.Common.{◌≡◌, ℕ, ◌+◌, ◌-◌, ◌*◌, ◌%◌, ◌<◌, List, [], ◌∷◌, ap, sym, subst, ◌∙◌}
+use Rattle.std.proofs.Common.{length, refl, arith, mod-eq_of_lt, mod-lt, lit<}
 use Rattle.gold_field.specs.declared.form.Term.{Term}
 use Rattle.gold_field.specs.declared.gold.TheConstants.{P}
 use Rattle.cir_lc.specs.declared.quad.Quad.{Quad}
 use Rattle.cir_lc.specs.Terms.{IsWithin}
 use Rattle.cir_lc.specs.Normal.{IsQuadWithin}
-use Rattle.cir_lc.specs.Number.{Assignment, value_of, constant, signal}
+use Rattle.cir_lc.specs.Number.{Assignment, Number, value_of, constant, signal, added, scaled}
+use Rattle.cir_lc.specs.Number.{negated}
 use Rattle.cir_lc.specs.Merge.{total}
 use Rattle.cir_lc.proofs.Totals.{total-nil, total-cons}
-use Rattle.cir_lc.proofs.Values.{value-total}
+use Rattle.cir_lc.proofs.Values.{value-total, small_value}
+use Rattle.cir_lc.proofs.Normals.{scaled_minus}
+use Rattle.std.proofs.Math.Nat.{add_comm}
 use Rattle.cir_values.specs.declared.value.Value.{Value}
 use Rattle.cir_values.specs.declared.value.Value.TheVariants.{Known, Linear, Quadratic, Opaque}
 use Rattle.cir_meaning.specs.Values.{IsValue}
@@ -66,3 +69,38 @@ signal_at k s =
 pub signal_value : (k : ℕ) (f : List Term) → f ≡ record { signal = k; coef = 1 } ∷ []
     → value_of f ≡ signal k
 signal_value k f e = ap value_of e ∙ (λ i s. signal_at k s i)
+
+pub none_of : (ts : List Term) → length ts < 1 → ts ≡ []
+none_of [] h = refl
+none_of (t ∷ ts) h = absurd (omega arith)
+
+-- a sum with no term, and a difference
+no_number : (g : List Term) (s : Assignment) → g ≡ [] → value_of g s ≡ 0
+no_number g s e = ap (λ (h : List Term). value_of h s) e ∙ value-total s []
+    ∙ ap (λ (n : ℕ). n % P) (total-nil s.at)
+
+as_before : (f : List Term) (s : Assignment) → (value_of f s + 0) % P ≡ value_of f s
+as_before f s =
+    let z : value_of f s + 0 ≡ value_of f s = omega arith in
+    ap (λ (n : ℕ). n % P) z ∙ small_value f s
+
+pub nothing_added : (f g : List Term) → g ≡ [] → value_of f ≡ added (value_of f) (value_of g)
+unfolding added
+nothing_added f g e =
+    λ i s. sym (ap (λ (n : ℕ). (value_of f s + n) % P) (no_number g s e) ∙ as_before f s) i
+
+pub nothing_less : (f g : List Term) → g ≡ []
+    → value_of f ≡ added (value_of f) (negated (value_of g))
+unfolding added negated
+nothing_less f g e =
+    λ i s. sym (ap (λ (n : ℕ). (value_of f s + ((P - 1) * n) % P) % P) (no_number g s e)
+    ∙ as_before f s) i
+
+pub less_known : (k : ℕ) (f g h : List Term) → k ≡ (P - 1) % P
+    → value_of h ≡ added (value_of f) (scaled k (value_of g))
+    → value_of h ≡ added (value_of f) (negated (value_of g))
+less_known k f g h e is = is ∙ ap (added (value_of f)) (scaled_minus k (value_of g) e)
+
+pub added_turned : (f g : Number) → added f g ≡ added g f
+unfolding added
+added_turned f g = λ i s. ap (λ (n : ℕ). n % P) (add_comm (f s) (g s)) i

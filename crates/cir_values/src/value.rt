@@ -1,6 +1,6 @@
 ghost use Rattle.std.specs.Prelude.{◌≡◌, ◌<◌, [], ◌∷◌, ℕ, IfOk, IfSome};
 ghost use Rattle.gold_field.specs.declared.gold.TheConstants.{P};
-ghost use Rattle.cir_lc.specs.Number.{value_of, constant, signal, scaled, negated};
+ghost use Rattle.cir_lc.specs.Number.{value_of, constant, signal, added, scaled, negated};
 ghost use Rattle.cir_lc.specs.Terms.{IsWithin};
 ghost use Rattle.cir_lc.specs.Normal.{IsQuadWithin};
 ghost use Rattle.cir_meaning.specs.Values.{sum_of, negative_of, product_of, parts_of};
@@ -8,7 +8,7 @@ ghost use Rattle.cir_meaning.specs.Values.{Known as KnownValue, Linear as Linear
 ghost use Rattle.cir_meaning.specs.Values.{Quadratic as QuadraticValue};
 ghost use Rattle.cir_values.specs.Meant.{meant, meant_parts, IsValueWithin};
 
-use cir_lc::{Quad, add, scale};
+use cir_lc::{Quad, add, add_multiple, scale};
 use gold_field::{Gold, Lc, Term};
 use std::alloc::{AllocError, Global};
 
@@ -157,7 +157,7 @@ fn linear_sum(alloc: Global, f: Lc, y: Value) -> Result<Value, AllocError>
         }
         Value::Quadratic(q) => {
             let Quad { a, b, c } = q;
-            let c = add(alloc, &f, &c)?;
+            let c = add_to(alloc, f, &c)?;
             Ok(Value::Quadratic(Quad { a, b, c }))
         }
         Value::Opaque => Ok(Value::Opaque),
@@ -179,7 +179,7 @@ fn quadratic_sum(alloc: Global, q: Quad, y: Value) -> Result<Value, AllocError>
             Ok(Value::Quadratic(Quad { a, b, c }))
         }
         Value::Linear(g) => {
-            let c = add(alloc, &c, &g)?;
+            let c = add_to(alloc, g, &c)?;
             Ok(Value::Quadratic(Quad { a, b, c }))
         }
         Value::Quadratic(_) | Value::Opaque => Ok(Value::Opaque),
@@ -212,9 +212,73 @@ pub fn difference(alloc: Global, x: Value, y: Value) -> Result<Value, AllocError
     ensures within { IfOk result (λ v. (n : ℕ) → 0 < n → IsValueWithin n x → IsValueWithin n y
         → IsValueWithin n v) }
 {
-    let minus_y = negative(alloc, y)?;
-    let v = sum(alloc, x, minus_y)?;
-    Ok(v)
+    match x {
+        Value::Linear(f) => linear_difference(alloc, f, y),
+        Value::Known(j) => {
+            let minus_y = negative(alloc, y)?;
+            let v = known_sum(alloc, j, minus_y)?;
+            Ok(v)
+        }
+        Value::Quadratic(q) => {
+            let minus_y = negative(alloc, y)?;
+            let v = quadratic_sum(alloc, q, minus_y)?;
+            Ok(v)
+        }
+        Value::Opaque => Ok(Value::Opaque),
+    }
+}
+
+fn linear_difference(alloc: Global, f: Lc, y: Value) -> Result<Value, AllocError>
+    ensures value { IfOk result
+        (λ v. meant v ≡ sum_of (LinearValue (value_of f)) (negative_of (meant y))) }
+    ensures within { IfOk result (λ v. (n : ℕ) → 0 < n → IsWithin n f → IsValueWithin n y
+        → IsValueWithin n v) }
+{
+    match y {
+        Value::Known(k) => linear_sum(alloc, f, Value::Known(k.neg())),
+        Value::Linear(g) => {
+            let h = less(alloc, f, &g)?;
+            Ok(Value::Linear(h))
+        }
+        Value::Quadratic(q) => {
+            let Quad { a, b, c } = q;
+            let a = minus(alloc, &a)?;
+            let c = less(alloc, f, &c)?;
+            Ok(Value::Quadratic(Quad { a, b, c }))
+        }
+        Value::Opaque => Ok(Value::Opaque),
+    }
+}
+
+/// `f - g`.
+fn less(alloc: Global, f: Lc, g: &Lc) -> Result<Lc, AllocError>
+    ensures value { IfOk result
+        (λ h. value_of h ≡ added (value_of f) (negated (value_of g.now))) }
+    ensures within { IfOk result (λ h. (n : ℕ) → IsWithin n f → IsWithin n g.now
+        → IsWithin n h) }
+{
+    match g.as_slice() {
+        [] => Ok(f),
+        _ => {
+            let h = add_multiple(alloc, &f, g, Gold::ONE.neg())?;
+            Ok(h)
+        }
+    }
+}
+
+/// `f + g`.
+fn add_to(alloc: Global, f: Lc, g: &Lc) -> Result<Lc, AllocError>
+    ensures value { IfOk result (λ h. value_of h ≡ added (value_of f) (value_of g.now)) }
+    ensures within { IfOk result (λ h. (n : ℕ) → IsWithin n f → IsWithin n g.now
+        → IsWithin n h) }
+{
+    match g.as_slice() {
+        [] => Ok(f),
+        _ => {
+            let h = add(alloc, &f, g)?;
+            Ok(h)
+        }
+    }
 }
 
 pub fn product(alloc: Global, x: Value, y: Value) -> Result<Value, AllocError>
@@ -348,7 +412,7 @@ fn single(alloc: Global, signal: u32, coef: Gold) -> Result<Lc, AllocError>
     requires { 0 < coef }
     ensures { IfOk result (λ f. f ≡ record { signal = signal; coef = coef } ∷ []) }
 {
-    let mut terms = Vec::new(alloc);
+    let mut terms = Vec::with_capacity(alloc, 1)?;
     terms.push(Term { signal, coef })?;
     Ok(Lc::of(terms))
 }

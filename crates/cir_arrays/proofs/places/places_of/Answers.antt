@@ -3,6 +3,7 @@ use Rattle.std.proofs.Common.{sym, ap, ◌∙◌, refl, arith}
 use Rattle.std.proofs.lemmas.List.{at_drop_more}
 use Rattle.cir_meaning.specs.Places.{elements, places_of}
 use Rattle.cir_arrays.proofs.Products.{factor_below}
+use Rattle.cir_arrays.proofs.Reaching.{within_inside}
 use Rattle.cir_arrays.proofs.Indices.{spread_by, parts_begin, parts_more, too_many, none_within}
 use Rattle.cir_arrays.proofs.Indices.{within_none, rest_is, places_done}
 use Rattle.cir_arrays.proofs.places.places_of.Goals as goal
@@ -26,6 +27,12 @@ returns-then-count-eq0 c =
     let zero : elements ds ≡ 0 = omega (arith, c.elements-count.ensures) in
     c.new-then-count-eq0.ensures.items
     ∙ sym (within_none ds c.args.indices.now (λ t. none_within ds c.args.indices.now t zero))
+
+pub returns-then-is_all_known : goal.returns-then-is_all_known
+returns-then-is_all_known c =
+    c.in_ok-run.ensures
+    ∙ sym (within_inside c.args.dims.now c.args.indices.now
+    (sym c.is_inside.ensures ∙ c.if-not-is_inside.false))
 
 pub loop-at-init : goal.loop-at-init
 loop-at-init c = record {

@@ -1,13 +1,13 @@
-use Rattle.cir_lc.proofs.Changes.{substituted-sum}
+use Rattle.std.proofs.Common.{sym, ◌∙◌}
+use Rattle.cir_lc.proofs.Changes.{changed_by, none_changed}
 use Rattle.cir_lc.proofs.change.changed.Goals as goal
 
-pub returns-clause-value : goal.returns-clause-value
-returns-clause-value c =
-    substituted-sum _ _ _ _ _ _ _ _ _ c.requires c.coef-k.ensures c.neg.ensures
-    c.in_ok-gone.ensures.value c.in_ok-rest.ensures.value c.in_ok-put.ensures.value
-    c.in_ok-g.ensures.value
+pub returns-then-get-eq0-clause-value : goal.returns-then-get-eq0-clause-value
+returns-then-get-eq0-clause-value c = λ by h.
+    changed_by _ _ _ by _ _ c.requires c.coef-k.ensures h
+    (none_changed _ _ c.args.swap.now _ (sym c.get.ensures.value ∙ c.if-get-eq0.true)
+    c.in_ok-g.ensures)
 
-pub returns-clause-within : goal.returns-clause-within
-returns-clause-within c = λ n l f b.
-    c.in_ok-g.ensures.within n (c.in_ok-rest.ensures.within n f (c.in_ok-gone.ensures.within n l))
-    (c.in_ok-put.ensures.within n b)
+pub returns-clause-value : goal.returns-clause-value
+returns-clause-value c = λ by h.
+    changed_by _ _ _ by _ _ c.requires c.coef-k.ensures h c.in_ok-g-2.ensures.value

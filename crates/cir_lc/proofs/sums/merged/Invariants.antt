@@ -6,7 +6,7 @@ abbrev pub invariant-loop-i : goal.invariant-loop-i
 invariant-loop-i l = record {
   left : l.i ≤ length l.a;
   right : l.j ≤ length l.b;
-  merged : IsMerged l.a l.b l.sum.items (drop l.i l.a) (drop l.j l.b);
+  merged : IsMerged l.k l.a l.b l.sum.items (drop l.i l.a) (drop l.j l.b);
 }
 
 abbrev pub decreases-loop-i : goal.decreases-loop-i
