@@ -4,6 +4,10 @@
 #[cfg(test)]
 mod checks;
 #[cfg(test)]
+mod circuits;
+#[cfg(test)]
 mod flow;
+#[cfg(test)]
+mod gates;
 #[cfg(test)]
 mod many;

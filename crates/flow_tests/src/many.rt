@@ -4,10 +4,10 @@ use crate::checks::same;
 use crate::flow::{
     MINUS_ONE, add, assert_at, chain_flow, flow_of, has, in_order, number, wide_flow,
 };
+use crate::gates::{Counts, Meeting};
 use flow_engine::{Gate, OpenGate, run_many};
 use std::process::Abort;
 use std::sync::Wait;
-use std::sync::atomic::{AtomicU64, Ordering};
 use std::thread::Threads;
 use wit_flow::{Flow, Outcome};
 
@@ -92,40 +92,6 @@ fn a_step_stops_within_a_strand(rt: HostRuntime) {
     has(&rt, &outcome, &[(299, Some(16)), (300, None)]);
 }
 
-const LOOKS: u32 = 100_000_000;
-
-/// Holds the strands 1 and 2, each until the other has entered.
-#[derive(Drop)]
-struct Meeting {
-    first: AtomicU64,
-    second: AtomicU64,
-    alone: AtomicU64,
-}
-
-// Whether the word is more than 0 at one of the looks.
-fn is_seen(word: &AtomicU64) -> bool {
-    for _ in 0..LOOKS {
-        if word.load(Ordering::SeqCst) > 0 {
-            return true;
-        }
-    }
-    false
-}
-
-impl Gate for Meeting {
-    fn enter(&self, strand: u32) {
-        let (own, other) = match strand {
-            1 => (&self.first, &self.second),
-            2 => (&self.second, &self.first),
-            _ => return,
-        };
-        own.fetch_add(1, Ordering::SeqCst);
-        if !is_seen(other) {
-            self.alone.fetch_add(1, Ordering::SeqCst);
-        }
-    }
-}
-
 // Two steps that stop, between one before them and one behind that.
 fn two_stops<R: AllocGlobal + Abort>(rt: &R) -> Flow
     ensures { result.starts ≡ 0 ∷ [] }
@@ -138,55 +104,16 @@ fn two_stops<R: AllocGlobal + Abort>(rt: &R) -> Flow
     flow_of(rt, links.as_slice())
 }
 
-impl Meeting {
-    fn new() -> Meeting {
-        Meeting {
-            first: AtomicU64::new(0),
-            second: AtomicU64::new(0),
-            alone: AtomicU64::new(0),
-        }
-    }
-
-    // How often each of the two has entered, and how often without the other.
-    fn entered(&self) -> (u64, u64, u64) {
-        (
-            self.first.load(Ordering::SeqCst),
-            self.second.load(Ordering::SeqCst),
-            self.alone.load(Ordering::SeqCst),
-        )
-    }
-}
-
 // Both strands refuse, and the lesser is the answer. Neither an order of the strands on one thread
 // nor the caller's own run gets them past the gate.
 #[test]
 fn two_strands_run_at_once(rt: HostRuntime) {
     let flow = two_stops(&rt);
-    let gate = Meeting::new();
+    let gate = Meeting::of(1, 2);
     let outcome = on_workers(&rt, &flow, 16, 8, &gate);
     same(&rt, gate.entered(), (1, 1, 0));
     same(&rt, assert_at(&outcome), Some(1));
     has(&rt, &outcome, &[(1, Some(32)), (2, None)]);
-}
-
-/// Counts how often each strand enters.
-#[derive(Drop)]
-struct Counts(Vec<AtomicU64>);
-
-impl Gate for Counts {
-    fn enter(&self, strand: u32) {
-        if let Some(count) = self.0.get(strand as usize) {
-            count.fetch_add(1, Ordering::SeqCst);
-        }
-    }
-}
-
-fn no_counts<R: AllocGlobal + Abort>(rt: &R, strands: u32) -> Counts {
-    let mut counts = Vec::new(rt.alloc());
-    for made in 0..strands {
-        counts.push(AtomicU64::new(0)).expect(rt, "memory");
-    }
-    Counts(counts)
 }
 
 /// A tree: each step reads what the step at half its place wrote, and is a strand of its own.
@@ -200,22 +127,12 @@ fn tree<R: AllocGlobal + Abort>(rt: &R, steps: u32) -> Flow
     flow_of(rt, links.as_slice())
 }
 
-// Whether each strand has entered just once.
-fn are_all_once(gate: &Counts) -> bool {
-    for count in gate.0.as_slice() {
-        if count.load(Ordering::SeqCst) != 1 {
-            return false;
-        }
-    }
-    true
-}
-
 #[test]
 fn each_strand_is_run_by_a_worker(rt: HostRuntime) {
     let flow = tree(&rt, 100);
     same(&rt, strands_of(&flow), 100);
-    let gate = no_counts(&rt, 100);
+    let gate = Counts::of(&rt, 100);
     let many = on_workers(&rt, &flow, 5, 8, &gate);
     assert!(rt; are_same(&in_order(&rt, &flow, 5), &many));
-    assert!(rt; are_all_once(&gate));
+    assert!(rt; gate.are_all_once());
 }
