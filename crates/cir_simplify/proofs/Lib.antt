@@ -9,3 +9,4 @@ pub mod Wiring
 pub mod Law
 pub mod Ends
 pub mod Over
+pub mod Renaming

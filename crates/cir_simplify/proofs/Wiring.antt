@@ -4,10 +4,10 @@ use Rattle.std.proofs.Common.{slice_index, Bool, true, false, cond, List, [], �
 use Rattle.std.proofs.Common.{length, get_or, set, take, All, arith, refl, ap, sym, subst, ◌∙◌, inl}
 use Rattle.std.proofs.Common.{inr, add-one, length-append}
 use Rattle.std.proofs.lemmas.Bool.{cases_lt, cases_eq, eq-eqb, eqb-true}
-use Rattle.std.proofs.lemmas.List.{get_or-set_same, get_or-set_other, append-nil, take_more}
+use Rattle.std.proofs.lemmas.List.{get_or-set_same, get_or-set_other}
 use Rattle.std.proofs.lemmas.List.Folds.{list_any_more, list_any_at}
 use Rattle.std.proofs.lemmas.List.Elements.{All-nil, All-cons, All-head, All-tail, All-filter}
-use Rattle.std.proofs.lemmas.List.Elements.{All-from_get_or, filter_more}
+use Rattle.std.proofs.lemmas.List.Elements.{All-from_get_or}
 use Rattle.std.specs.List.{filter, list_any}
 use Rattle.gold_field.specs.declared.form.Term.{Term}
 use Rattle.gold_field.specs.declared.form.Constraint.{Constraint}
@@ -290,50 +290,6 @@ nameable l main n rows places i p g e h =
         (naming_within n ts v)))
         (rises_renamed (is_kept l main rows) 0 ts r
         (all_named (is_kept l main rows) ts (λ x q. kept_here x (d x q))))
-
--- one constraint more of those that stay
-pub dropped_more : (l : Level) (rows : List Constraint) (i : ℕ) (q : Constraint) → i < length rows
-    → q ≡ get_or rows i q → dropped l (take (i + 1) rows) ≡ dropped l (take i rows)
-    ++ cond (keeps_all l || not (is_empty q)) (q ∷ []) []
-dropped_more O0 rows i q l e =
-    take_more rows i q l ∙ ap (λ (k : Constraint). take i rows ++ k ∷ []) (sym e)
-dropped_more O1 rows i q l e =
-    filter_more (λ k. not (is_empty k)) rows i q l
-    ∙ ap (λ (k : Constraint). filter (λ k. not (is_empty k)) (take i rows)
-    ++ cond (not (is_empty k)) (k ∷ []) []) (sym e)
-dropped_more O2 rows i q l e =
-    filter_more (λ k. not (is_empty k)) rows i q l
-    ∙ ap (λ (k : Constraint). filter (λ k. not (is_empty k)) (take i rows)
-    ++ cond (not (is_empty k)) (k ∷ []) []) (sym e)
-
-map_push : (f : Constraint → Constraint) (ks : List Constraint) (k : Constraint)
-    → map f (ks ++ k ∷ []) ≡ map f ks ++ f k ∷ []
-map_push f [] k = refl
-map_push f (j ∷ ks) k = ap (λ (v : List Constraint). f j ∷ v) (map_push f ks k)
-
-pub listed_push : (f : Constraint → Constraint) (l : Level) (rows : List Constraint) (i : ℕ)
-    (q k : Constraint) (out new : List Constraint) (b : Bool) → i < length rows
-    → q ≡ get_or rows i q → b ≡ true → b ≡ (keeps_all l || not (is_empty q)) → k ≡ f q
-    → new ≡ out ++ k ∷ [] → out ≡ map f (dropped l (take i rows))
-    → new ≡ map f (dropped l (take (i + 1) rows))
-listed_push f l rows i q k out new b p e t g h n o =
-    let more : dropped l (take (i + 1) rows) ≡ dropped l (take i rows) ++ q ∷ [] =
-    dropped_more l rows i q p e
-    ∙ ap (λ (v : Bool). dropped l (take i rows) ++ cond v (q ∷ []) []) (sym g ∙ t) in
-    n ∙ ap (λ (v : List Constraint). v ++ k ∷ []) o
-    ∙ ap (λ (z : Constraint). map f (dropped l (take i rows)) ++ z ∷ []) h
-    ∙ sym (ap (map f) more ∙ map_push f (dropped l (take i rows)) q)
-
-pub listed_skip : (f : Constraint → Constraint) (l : Level) (rows : List Constraint) (i : ℕ)
-    (q : Constraint) (out : List Constraint) (b : Bool) → i < length rows → q ≡ get_or rows i q
-    → b ≡ false → b ≡ (keeps_all l || not (is_empty q)) → out ≡ map f (dropped l (take i rows))
-    → out ≡ map f (dropped l (take (i + 1) rows))
-listed_skip f l rows i q out b p e t g o =
-    let more : dropped l (take (i + 1) rows) ≡ dropped l (take i rows) =
-    dropped_more l rows i q p e
-    ∙ ap (λ (v : Bool). dropped l (take i rows) ++ cond v (q ∷ []) []) (sym g ∙ t)
-    ∙ append-nil (dropped l (take i rows)) in
-    o ∙ sym (ap (map f) more)
 
 pub all_within : (n : ℕ) (rows : List Constraint) → ((i : ℕ) → IsGood n (row rows i))
     → All (λ k. IsConstraintWithin n k) rows

@@ -1,4 +1,4 @@
-ghost use Rattle.std.specs.Prelude.{◌≡◌, ◌<◌, ◌≤◌, ◌+◌, ◌^◌, ◌||◌, not, ℕ, Ok, All, length, map};
+ghost use Rattle.std.specs.Prelude.{◌≡◌, ◌<◌, ◌≤◌, ◌+◌, ◌^◌, ◌||◌, not, ℕ, Ok, All, map};
 ghost use Rattle.std.specs.Prelude.{slice_index, IfOk, MatchResult};
 ghost use Rattle.cir_lc.specs.Normal.{IsConstraintWithin};
 ghost use Rattle.cir_lc.specs.Sparse.{IsNormalForm};
@@ -96,7 +96,7 @@ fn over_wires(
     let kept = marks(alloc, rows.as_slice(), rules)?;
     let numbers = numbering(alloc, kept.as_slice())?;
     let places = numbers.places.as_slice();
-    let constraints = renumbered(alloc, rules.level, rows.as_slice(), places)?;
+    let constraints = renumbered(alloc, rules.level, rows, places)?;
     Ok(Simple {
         constraints,
         wires: Items::of(numbers.wires),
@@ -107,18 +107,17 @@ fn over_wires(
 fn renumbered(
     alloc: Global,
     level: Level,
-    rows: &[Constraint],
+    rows: Vec<Constraint>,
     places: &[u32],
 ) -> Result<Items<Constraint>, AllocError>
-    requires { All (IsNameable places.now) rows.now }
+    requires { All (IsNameable places.now) rows.items }
     ensures { IfOk result
-        (λ v. v ≡ map (renamed_in (slice_index places.now)) (dropped level rows.now)) }
+        (λ v. v ≡ map (renamed_in (slice_index places.now)) (dropped level rows.items)) }
 {
     let mut list = Items::new(alloc);
     for q in rows {
-        if stays(level, q) {
-            let k = renamed(alloc, q, places)?;
-            list.push(k)?;
+        if stays(level, &q) {
+            list.push(renamed(q, places))?;
         }
     }
     Ok(list)
@@ -136,12 +135,14 @@ fn is_empty(q: &Constraint) -> bool
     is_linear(&q.a) && is_linear(&q.b) && is_linear(&q.c)
 }
 
-fn renamed(alloc: Global, q: &Constraint, places: &[u32]) -> Result<Constraint, AllocError>
-    requires { IsNameable places.now q.now }
-    ensures { IfOk result (λ k. k ≡ renamed_in (slice_index places.now) q.now) }
+fn renamed(q: Constraint, places: &[u32]) -> Constraint
+    requires { IsNameable places.now q }
+    ensures { result ≡ renamed_in (slice_index places.now) q }
 {
-    let a = rename(alloc, &q.a, places)?;
-    let b = rename(alloc, &q.b, places)?;
-    let c = rename(alloc, &q.c, places)?;
-    Ok(Constraint { a, b, c })
+    let Constraint { a, b, c } = q;
+    Constraint {
+        a: rename(a, places),
+        b: rename(b, places),
+        c: rename(c, places),
+    }
 }

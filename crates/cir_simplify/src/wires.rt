@@ -104,19 +104,19 @@ pub(crate) fn numbering(alloc: Global, marks: &[bool]) -> Result<Numbers, AllocE
     Ok(Numbers { wires, places })
 }
 
-/// The terms with the places of their signals as signals.
-pub(crate) fn rename(alloc: Global, f: &Lc, places: &[u32]) -> Result<Lc, AllocError>
-    requires below { SignalsBelow (length places.now) f.now }
-    requires rises { RisesFrom 0 (map (renamed (slice_index places.now)) f.now) }
-    ensures { IfOk result (λ g. g ≡ map (renamed (slice_index places.now)) f.now) }
+/// The terms with the places of their signals as signals. Takes no memory.
+pub(crate) fn rename(f: Lc, places: &[u32]) -> Lc
+    requires below { SignalsBelow (length places.now) f }
+    requires rises { RisesFrom 0 (map (renamed (slice_index places.now)) f) }
+    ensures { result ≡ map (renamed (slice_index places.now)) f }
 {
-    let old = f.as_slice();
-    let mut terms = Vec::with_capacity(alloc, old.len())?;
-    for t in old {
-        terms.push(Term {
-            signal: places[t.signal as usize],
-            coef: t.coef,
-        })?;
+    let mut terms = f.into_vec();
+    for k in 0..terms.len() {
+        let Term { signal, coef } = terms[k];
+        terms[k] = Term {
+            signal: places[signal as usize],
+            coef,
+        };
     }
-    Ok(Lc::of(terms))
+    Lc::of(terms)
 }

@@ -32,10 +32,8 @@ renumbered-requires c =
     all_nameable c.args.rules c.args.rows.items c.in_ok-kept.kept.items
     c.in_ok-numbers.numbers.places.items c.requires.good c.in_ok-kept.ensures.len kept
     (c.in_ok-numbers.ensures.len ∙ same) places in
-    subst (λ (v : List ℕ). All (λ k. IsNameable v k) c.as_slice-3.result.now)
-    (sym c.as_slice-places.ensures.value)
-    (subst (λ (v : List Constraint). All (λ k. IsNameable c.in_ok-numbers.numbers.places.items k) v)
-    (sym c.as_slice-3.ensures.value) all)
+    subst (λ (v : List ℕ). All (λ k. IsNameable v k) c.args.rows.items)
+    (sym c.as_slice-places.ensures.value) all
 
 pub returns : goal.returns
 returns c =
@@ -58,9 +56,9 @@ returns c =
     λ x l. c.in_ok-numbers.ensures.places x (omega arith)
     ∙ ap (λ (v : List Bool). wire_of (λ y. get_or v y false) x) c.as_slice-2.ensures.value in
     let first = c.as_slice-places.ensures.value in
-    let second = c.as_slice-3.ensures.value in
     wired c.args.rules c.args.rows.items c.args.solved c.in_ok-kept.kept.items c.of.result
     c.in_ok-numbers.numbers.places.items c.in_ok-constraints.constraints c.requires.good
     c.in_ok-kept.ensures.len kept wires places
     (c.in_ok-constraints.ensures
-    ∙ (λ i. map (renamed_in (slice_index (first i))) (dropped c.args.rules.level (second i))))
+    ∙ (λ i. map (renamed_in (slice_index (first i)))
+    (dropped c.args.rules.level c.args.rows.items)))
