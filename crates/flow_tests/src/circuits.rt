@@ -26,8 +26,10 @@ fn program_of<R: AllocGlobal + Abort>(rt: &R, text: &str) -> Program
     let mut store = MemStore::new(rt.alloc());
     let written = store.write(rt.alloc(), "t.circom", text.as_bytes());
     written.expect(rt, "no fault");
-    let loaded = load(rt.alloc(), &mut store, "t.circom", None).ok();
-    loaded.expect(rt, "a program")
+    match load(rt.alloc(), &mut store, "t.circom", None) {
+        Ok(program) => program,
+        Err(_) => panic!(rt; "a program"),
+    }
 }
 
 /// A program's circuit, cut into strands.
