@@ -1,9 +1,12 @@
 -- Lists inside a tree, as the lists that they are.
-use Rattle.std.proofs.Common.{◌≡◌, ◌∙◌, ap, refl, sym, List, []}
-use Rattle.std.specs.Prelude.{Bool, map, ℕ}
+use Rattle.std.proofs.Common.{◌≡◌, ◌∙◌, ap, refl, sym, List, Box}
+use Rattle.std.specs.Global.{Global}
+use Rattle.std.specs.Prelude.{map}
 use mathlib.Core.Former.{Count}
 use Rattle.cir_ast.specs.declared.marked.Expr.{Expr as CodeExpr, Row_of-Expr, end_of-Expr}
 use Rattle.cir_ast.specs.declared.marked.Expr.{more_of-Expr}
+use Rattle.cir_ast.specs.declared.marked.Expr.TheVariants as expr
+use Rattle.cir_ast.specs.declared.marked.Anonymous.{Anonymous as CodeAnonymous}
 use Rattle.cir_ast.specs.declared.marked.Accessor.{Accessor as CodeAccessor}
 use Rattle.cir_ast.specs.declared.marked.Accessor.TheVariants.{Index, Member}
 use Rattle.cir_ast.specs.declared.marked.Accessor.TheBlock as block
@@ -18,6 +21,7 @@ use Rattle.cir_ast.specs.declared.marked.Block.{items_shown-the_row-Statement-0}
 use Rattle.cir_ast.specs.declared.marked.Statement.{Statement as CodeStatement}
 use Rattle.cir_ast.specs.declared.marked.StatementForm.TheViews.{roll-Block, out-roll-Block}
 use Rattle.cir_ast.specs.Tree.{bare, bare_row, bare_exprs, bare_accessors, as_accessors, bare_named}
+use Rattle.cir_ast.specs.Tree.{Anonymous as AnonymousTree, bare_anonymous, bare_inputs}
 use Rattle.cir_ast.specs.Tree.{as_named, bare_form, bare_statement, bare_statement_row, bare_block}
 use Rattle.cir_ast.specs.Tree.{as_statements, more, index, member, named, then_more}
 
@@ -30,6 +34,12 @@ pub exprs_are : (N : Type 0) (es : List (CodeExpr N))
     → bare_row (block.hidden-the_row-Expr-1 N es) ≡ bare_exprs es
 exprs_are N es = row_is _ (block.hidden-the_row-Expr-1 N es)
     ∙ ap bare_exprs (block.items_hidden-the_row-Expr-1 N es)
+
+pub anonymous_is : (N : Type 0) (component : Box (CodeAnonymous N) Global)
+    → bare (expr.Anonymous component) ≡ bare_anonymous component.value
+anonymous_is N component =
+    ap (λ es. AnonymousTree component.value.parallel component.value.name component.value.meant es
+    (bare_inputs component.value.inputs)) (exprs_are N component.value.arguments)
 
 accessor_row_is : {N : Type 0} (n : Count) (row : Row_of-Accessor N n)
     → bare_accessors row ≡ as_accessors (block.items-the_row-Accessor N n row)

@@ -184,7 +184,7 @@ abbrev mutual
   bare (expr.Number n) = Number n
   bare (expr.Place' name meant _ row) = Place name meant (bare_accessors row)
   bare (expr.Call' parallel name meant _ row) = Call parallel name meant (bare_row row)
-  bare (expr.Anonymous' parallel name meant _ row given) =
+  bare (expr.Anonymous' _ parallel name meant _ row given) =
       Anonymous parallel name meant (bare_row row) (bare_inputs given)
   bare (expr.Parentheses' _ e) = Parentheses (bare e)
   bare (expr.Array' _ row) = Array (bare_row row)
@@ -240,11 +240,8 @@ place_accessors p = accessors_of (bare_place p)
 
 -- an anonymous component, as an expression
 abbrev pub bare_anonymous : {N : Type 0} → CodeAnonymous N → Expr N
-bare_anonymous a = bare (expr.Anonymous a)
-
-abbrev pub arguments_of : {N : Type 0} → Expr N → Exprs N
-arguments_of (Anonymous parallel name meant arguments given) = arguments
-arguments_of _ = none
+bare_anonymous a =
+    Anonymous a.parallel a.name a.meant (bare_exprs a.arguments) (bare_inputs a.inputs)
 
 abbrev pub bare_value : {N : Type 0} → Option (CodeExpr N) → Option (Expr N)
 bare_value None = None
@@ -304,7 +301,7 @@ bare_source (source.Tuple es) = Values (map bare es)
 
 abbrev pub bare_alone : {N : Type 0} → CodeAnonymous N → Simple N
 bare_alone a =
-    Alone a.parallel a.name a.meant (arguments_of (bare_anonymous a)) (bare_inputs a.inputs)
+    Alone a.parallel a.name a.meant (bare_exprs a.arguments) (bare_inputs a.inputs)
 
 abbrev pub bare_simple : {N : Type 0} → CodeSimple N → Simple N
 bare_simple (simple.Vars v) = Vars (map bare_variable v.variables)
@@ -316,7 +313,7 @@ bare_simple (simple.Constrain a b) = Constrain (bare a) (bare b)
 bare_simple (simple.Right e arrow p) = Right (bare e) arrow p.name p.meant (place_accessors p)
 bare_simple (simple.TargetLeft t arrow s) = TargetLeft (bare_target t) arrow (bare_source s)
 bare_simple (simple.TargetRight s arrow t) = TargetRight (bare_source s) arrow (bare_target t)
-bare_simple (simple.Anonymous a) = bare_alone a
+bare_simple (simple.Anonymous a) = bare_alone a.value
 
 abbrev mutual
   pub bare_form : {S N : Type 0} → S → CodeForm S N → Statement S N
@@ -326,7 +323,8 @@ abbrev mutual
       IfElse spot (bare c) (bare_form at s) (bare_form after t)
   bare_form spot (statement.While' c _ at s) = While spot (bare c) (bare_form at s)
   bare_form spot (statement.For' f c a _ at s) =
-      For spot f.spot (bare_first f.form) (bare c) a.spot (bare_assign a.assign) (bare_form at s)
+      For spot f.value.spot (bare_first f.value.form) (bare c) a.value.spot
+      (bare_assign a.value.assign) (bare_form at s)
   bare_form spot (statement.Return e) = Return spot (bare e)
   bare_form spot (statement.Assert e) = Assert spot (bare e)
   bare_form spot (statement.Log arguments) = Log spot (map bare_argument arguments)

@@ -1,8 +1,8 @@
-//! Trees of lists. They take no memory.
-ghost use Rattle.std.specs.Prelude.{◌≡◌, map};
+//! Trees of lists, which take no memory, and components without a name.
+ghost use Rattle.std.specs.Prelude.{◌≡◌, map, IfOk};
 ghost use Rattle.cir_ast.specs.Tree.{bare, bare_exprs, bare_inputs, bare_place, as_accessors};
 ghost use Rattle.cir_ast.specs.Tree.{as_named, Call, Array, Listed, Named};
-ghost use Rattle.cir_ast.specs.Tree.{Anonymous as AnonymousTree, Place as PlaceTree};
+ghost use Rattle.cir_ast.specs.Tree.{Place as PlaceTree};
 ghost use Rattle.cir_ast.specs.Tree.{bare_anonymous, bare_statement, Block as BlockTree};
 ghost use Rattle.cir_ast.specs.Tree.{as_statements, bare_block};
 
@@ -11,6 +11,7 @@ use crate::marked::{
 };
 use cir_token::Text;
 use items::Items;
+use std::alloc::{AllocError, Global};
 
 impl<N> Place<N> {
     pub fn of(name: Text, meant: N, accessors: Items<Accessor<N>>) -> Place<N>
@@ -38,27 +39,6 @@ impl<N> Inputs<N> {
     }
 }
 
-impl<N> Anonymous<N> {
-    pub fn of(
-        parallel: bool,
-        name: Text,
-        meant: N,
-        arguments: Items<Expr<N>>,
-        inputs: Inputs<N>,
-    ) -> Anonymous<N>
-        ensures { bare_anonymous result
-            ≡ AnonymousTree parallel name meant (bare_exprs arguments) (bare_inputs inputs) }
-    {
-        Anonymous {
-            parallel,
-            name,
-            meant,
-            arguments,
-            inputs,
-        }
-    }
-}
-
 impl<N> Expr<N> {
     pub fn call(parallel: bool, name: Text, meant: N, arguments: Items<Expr<N>>) -> Expr<N>
         ensures { bare result ≡ Call parallel name meant (bare_exprs arguments) }
@@ -70,6 +50,15 @@ impl<N> Expr<N> {
         ensures { bare result ≡ Array (bare_exprs elements) }
     {
         Expr::Array(elements)
+    }
+}
+
+impl<N: Drop> Expr<N> {
+    pub fn anonymous(alloc: Global, component: Anonymous<N>) -> Result<Expr<N>, AllocError>
+        ensures { IfOk result (λ e. bare e ≡ bare_anonymous component) }
+    {
+        let component = Box::new(alloc, component)?;
+        Ok(Expr::Anonymous(component))
     }
 }
 

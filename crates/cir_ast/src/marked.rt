@@ -105,7 +105,7 @@ pub enum StatementForm<S, N> {
     /// `while (condition) body`
     While(Expr<N>, Box<Statement<S, N>>),
     /// `for (first; condition; step) body`
-    For(First<S, N>, Expr<N>, Step<S, N>, Box<Statement<S, N>>),
+    For(Box<First<S, N>>, Expr<N>, Box<Step<S, N>>, Box<Statement<S, N>>),
     /// `return value;`
     Return(Expr<N>),
     /// `assert(condition);`
@@ -158,7 +158,7 @@ pub enum Simple<N> {
     /// `source --> target` or `source ==> target`
     TargetRight(Source<N>, Arrow, Target<N>),
     /// An anonymous component alone.
-    Anonymous(Anonymous<N>),
+    Anonymous(Box<Anonymous<N>>),
 }
 
 /// `var` and one or more variables.
@@ -310,7 +310,7 @@ pub enum Expr<N> {
     Place(Place<N>),
     /// `name(arguments)`, and whether the word `parallel` stands before it.
     Call(bool, Text, N, Items<Expr<N>>),
-    Anonymous(Anonymous<N>),
+    Anonymous(Box<Anonymous<N>>),
     /// `(inner)`
     Parentheses(Box<Expr<N>>),
     /// `[elements]`, one or more.

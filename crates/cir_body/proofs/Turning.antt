@@ -7,23 +7,24 @@ use Rattle.cir_ast.specs.declared.program.Meant.{Meant}
 use Rattle.cir_ast.specs.declared.refusal.Kind.TheVariants.{Limit}
 use Rattle.cir_ast.specs.declared.refusal.Which.TheVariants.{Statements as StatementCount}
 use Rattle.cir_meaning.specs.Costs.{Made as Key}
-use Rattle.cir_ast.specs.Tree.{Expr}
+use Rattle.cir_ast.specs.Tree.{Assign, Expr, Statement}
 use Rattle.cir_values.specs.declared.operators.Side.{Side as CodeSide}
 use Rattle.cir_values.specs.Meant.{meant_side}
 use Rattle.cir_meaning.specs.Tried.{Tried}
 use Rattle.cir_meaning.specs.Frame.{State, at}
-use Rattle.cir_meaning.specs.Statement.{condition, most_turns}
+use Rattle.cir_meaning.specs.Statement.{condition, loop_of, most_turns}
 use Rattle.cir_arrays.specs.declared.stop.Fault.{Fault}
 use Rattle.cir_arrays.specs.Stopped.{IsRefusal, Refuses}
 use Rattle.cir_arrays.proofs.Exits.{exits}
 use Rattle.cir_frame.specs.declared.world.World.{World}
 use Rattle.cir_frame.specs.Shown.{state_of}
+use Rattle.cir_execute.specs.Rests.{loop_fault}
 use Rattle.cir_execute.proofs.Going.{refusal}
 use Rattle.cir_execute.proofs.Branching.{Told, pick, most_is}
 use Rattle.cir_steps.specs.Emission.{Emission, Emitted, quiet, then_emit, known_in}
 use Rattle.cir_steps.specs.Making.{Emitting}
 use Rattle.cir_steps.specs.Emit.{emit_counted}
-use Rattle.cir_steps.specs.Statements.{emit_turns}
+use Rattle.cir_steps.specs.Statements.{emit_turns, emit_undecided}
 use Rattle.cir_make.specs.declared.whole.Inside.{Inside}
 use Rattle.cir_make.specs.declared.whole.Whole.{Whole}
 use Rattle.cir_make.specs.Emits.{Emits, go_on}
@@ -31,7 +32,16 @@ use Rattle.cir_make.specs.Shows.{Shows, equations_in}
 use Rattle.cir_make.proofs.Going.{Rests, Emitted_by, seen, with_world, emits_as, emits_refused}
 use Rattle.cir_make.proofs.Going.{emits_exit, rests_emit, rests_more, rests_then, shows_world}
 use Rattle.cir_make.proofs.Going.{then_then}
+use Rattle.cir_body.specs.Turns.{loop_turn}
 use Rattle.cir_body.proofs.Branching.{decides}
+
+-- the loop of a `for`
+abbrev pub looped : Emitting → Spot → Expr Meant → Statement Spot Meant → Spot → Assign Meant
+    → Emission → Tried Emitted
+looped q spot condition body step_spot step =
+    emit_turns most_turns q spot condition (loop_turn q spot body step_spot step)
+    (emit_undecided q spot (loop_fault body step_spot step)
+    (loop_of spot condition body step_spot step))
 
 -- ---- turns
 module _ (q : Emitting) (spot : Spot) (c : Expr Meant) (body unknown : Emission → Tried Emitted)

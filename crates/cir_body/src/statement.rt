@@ -101,6 +101,8 @@ where
             turns(body, spot, repeated, condition, None, &rest, inside, whole)
         }
         StatementForm::For(first, condition, step, repeated) => {
+            let step: &Step = step;
+            let repeated: &Statement = repeated;
             body.context.counted(spot, &mut whole.world)?;
             begin(body, first, inside, whole)?;
             body.context.counted(spot, &mut whole.world)?;

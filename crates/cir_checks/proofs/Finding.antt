@@ -1,5 +1,5 @@
 -- Faults of parts, and of the whole.
-use Rattle.std.proofs.Common.{◌≡◌, ◌∙◌, Option, Some, None, Result, Ok, Err, IsErrAnd, refl, ap}
+use Rattle.std.proofs.Common.{◌≡◌, ◌∙◌, Option, None, Result, Ok, Err, IsErrAnd, ap}
 use Rattle.std.proofs.Common.{sym, subst}
 use Rattle.cir_checks.specs.declared.stop.Stop.{Stop}
 use Rattle.cir_checks.specs.declared.stop.Stop.TheVariants.{At, OutOfMemory}

@@ -1,6 +1,7 @@
 -- What the definitions say of an expression that holds a list.
-use Rattle.std.proofs.Common.{◌≡◌, ◌∙◌, ℕ, ◌+◌, List, [], ◌∷◌, length, Bool, false, Option, Some}
-use Rattle.std.proofs.Common.{None, refl, ap, sym, arith}
+use Rattle.std.proofs.Common.{◌≡◌, ◌∙◌, ℕ, ◌+◌, List, [], ◌∷◌, length, Bool}
+use Rattle.std.proofs.Common.{refl, ap, arith, Box}
+use Rattle.std.specs.Global.{Global}
 use Rattle.cir_ast.specs.declared.marked.Expr.{Expr as CodeExpr}
 use Rattle.cir_ast.specs.declared.marked.Expr.TheVariants as expr
 use Rattle.cir_ast.specs.declared.marked.Place.{Place as CodePlace}
@@ -8,10 +9,10 @@ use Rattle.cir_ast.specs.declared.marked.Anonymous.{Anonymous as CodeAnonymous}
 use Rattle.cir_ast.specs.declared.marked.Inputs.TheVariants as inputs
 use Rattle.cir_ast.specs.declared.marked.NamedInput.{NamedInput as CodeInput}
 use Rattle.cir_ast.specs.declared.program.Meant.{Meant}
-use Rattle.cir_ast.specs.Tree.{Place, Call, Array, Inputs, Listed, Named, bare, bare_exprs}
-use Rattle.cir_ast.specs.Tree.{bare_anonymous, bare_inputs, as_accessors, as_named, arguments_of}
+use Rattle.cir_ast.specs.Tree.{Place, Call, Array, bare, bare_exprs}
+use Rattle.cir_ast.specs.Tree.{bare_anonymous, bare_inputs, as_accessors, as_named}
 use Rattle.cir_ast.specs.Tree.{place_accessors}
-use Rattle.cir_ast.proofs.Rows.{exprs_are, accessors_are, named_are}
+use Rattle.cir_ast.proofs.Rows.{exprs_are, accessors_are, named_are, anonymous_is}
 use Rattle.cir_checks.specs.declared.positions.Room.{Room}
 use Rattle.cir_checks.specs.Faults.{first_of, no_names}
 use Rattle.cir_checks.specs.Heads.{Table, Callee, callee}
@@ -19,6 +20,7 @@ use Rattle.cir_checks.specs.Uses.{inward, members, count, named_count, inputs_co
 use Rattle.cir_checks.specs.Uses.{value_call_fault, component_call_fault, anonymous_fault}
 use Rattle.cir_checks.specs.Uses.{inputs_in, value_fault, values_fault, accessors_fault}
 use Rattle.cir_checks.specs.Uses.{inputs_fault, named_fault, nameless_fault, component_fault}
+use Rattle.cir_checks.specs.Uses.{whole_fault}
 
 pub count_is : (es : List (CodeExpr Meant)) → count (bare_exprs es) ≡ length es
 count_is [] = refl
@@ -68,19 +70,32 @@ component_fault_call t room parallel name m es =
     (values_fault t (inward room) (bare_exprs es))) (count_is es)
 
 pub nameless_fault_is : (t : Table) (room : Room) (whole : Bool) (a : CodeAnonymous Meant)
-    → nameless_fault t room whole a.meant (arguments_of (bare_anonymous a)) (bare_inputs a.inputs)
+    → nameless_fault t room whole a.meant (bare_exprs a.arguments) (bare_inputs a.inputs)
     ≡ first_of
     (anonymous_fault (callee t a.meant) room whole (length a.arguments)
     (inputs_count (bare_inputs a.inputs)))
     (first_of (values_fault t (inward room) (bare_exprs a.arguments))
     (inputs_fault t (callee t a.meant) room (bare_inputs a.inputs)))
 nameless_fault_is t room whole a =
-    ap (λ es. nameless_fault t room whole a.meant es (bare_inputs a.inputs))
-    (exprs_are Meant a.arguments)
-    ∙ ap (λ n. first_of
+    ap (λ n. first_of
     (anonymous_fault (callee t a.meant) room whole n (inputs_count (bare_inputs a.inputs)))
     (first_of (values_fault t (inward room) (bare_exprs a.arguments))
     (inputs_fault t (callee t a.meant) room (bare_inputs a.inputs)))) (count_is a.arguments)
+
+pub value_fault_anonymous : (t : Table) (room : Room) (a : Box (CodeAnonymous Meant) Global)
+    → value_fault t room (bare (expr.Anonymous a))
+    ≡ value_fault t room (bare_anonymous a.value)
+value_fault_anonymous t room a = ap (value_fault t room) (anonymous_is Meant a)
+
+pub whole_fault_anonymous : (t : Table) (room : Room) (a : Box (CodeAnonymous Meant) Global)
+    → whole_fault t room (bare (expr.Anonymous a))
+    ≡ whole_fault t room (bare_anonymous a.value)
+whole_fault_anonymous t room a = ap (whole_fault t room) (anonymous_is Meant a)
+
+pub component_fault_anonymous : (t : Table) (room : Room) (a : Box (CodeAnonymous Meant) Global)
+    → component_fault t room (bare (expr.Anonymous a))
+    ≡ component_fault t room (bare_anonymous a.value)
+component_fault_anonymous t room a = ap (component_fault t room) (anonymous_is Meant a)
 
 pub inputs_fault_listed : (t : Table) (c : Callee) (room : Room) (es : List (CodeExpr Meant))
     → inputs_fault t c room (bare_inputs (inputs.Listed es)) ≡ values_fault t room (bare_exprs es)
@@ -97,6 +112,9 @@ pub ruleset seen_lists = (
   value_fault_array,
   component_fault_call,
   nameless_fault_is,
+  value_fault_anonymous,
+  whole_fault_anonymous,
+  component_fault_anonymous,
   inputs_fault_listed,
   inputs_fault_named,
 )

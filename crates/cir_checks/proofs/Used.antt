@@ -1,11 +1,8 @@
 -- Where the checks find no fault, names are used as they may be.
-use Rattle.std.proofs.Common.{◌≡◌, ◌≢◌, ◌∙◌, ℕ, ◌+◌, ◌⊎◌, inl, inr, Bool, true, false, List, []}
-use Rattle.std.proofs.Common.{◌∷◌, length, Option, Some, None, refl, ap, sym, subst, eqb}
-use Rattle.std.specs.Prelude.{◌==◌, ◌&&◌, ◌||◌, not, IsTrue, IsFalse, slice_get, ⊤}
+use Rattle.std.proofs.Common.{◌≡◌, ◌≢◌, ◌∙◌, ℕ, ◌⊎◌, inl, inr, Bool, true, false}
+use Rattle.std.proofs.Common.{Option, Some, None, refl, ap, sym}
+use Rattle.std.specs.Prelude.{◌==◌, ◌||◌, not, IsTrue, IsFalse, slice_get}
 use Rattle.std.proofs.lemmas.Bool.{eqb-true}
-use Rattle.cir_ast.specs.declared.operators.Binary.{Binary as BinaryOp}
-use Rattle.cir_ast.specs.declared.operators.Direction.{Direction}
-use Rattle.cir_ast.specs.declared.operators.Direction.TheVariants as direction
 use Rattle.cir_ast.specs.declared.program.Spot.{Spot}
 use Rattle.cir_ast.specs.declared.program.Meant.{Meant}
 use Rattle.cir_ast.specs.declared.program.Meant.TheVariants as meant
@@ -16,16 +13,15 @@ use Rattle.cir_ast.specs.Tree.{Binary, Choice, Exprs, none, more, Accessors, don
 use Rattle.cir_ast.specs.Tree.{Inputs, Listed, Named, NamedInputs, unnamed, named}
 use Rattle.cir_checks.specs.declared.positions.Room.{Room}
 use Rattle.cir_checks.specs.declared.positions.Room.TheVariants.{Allowed, Misplaced, Barred}
-use Rattle.cir_checks.specs.declared.stop.Fault.{Fault}
 use Rattle.cir_checks.specs.Faults.{first_of, unless, at, Names, no_names, and_name}
-use Rattle.cir_checks.specs.Heads.{Head, Table, Callee, TemplateOf, FunctionOf, Undefined, Unknown}
+use Rattle.cir_checks.specs.Heads.{Head, Table, Callee, TemplateOf}
 use Rattle.cir_checks.specs.Heads.{callee, template_callee, function_callee}
 use Rattle.cir_checks.specs.Uses.{inward, room_fault, on_the_right, members, count, inputs_count}
 use Rattle.cir_checks.specs.Uses.{read_fault, value_call_fault, component_call_fault}
 use Rattle.cir_checks.specs.Uses.{anonymous_fault, inputs_in, value_fault, values_fault}
 use Rattle.cir_checks.specs.Uses.{accessors_fault, inputs_fault, named_fault, nameless_fault}
 use Rattle.cir_checks.specs.Uses.{whole_fault, component_fault}
-use Rattle.cir_checks.specs.Checked.{IsRead, IsCall, IsTemplateOf, IsCreated, IsAnonymous, IsValue}
+use Rattle.cir_checks.specs.Checked.{IsRead, IsCall, IsCreated, IsAnonymous, IsValue}
 use Rattle.cir_checks.specs.Checked.{AreValues, AreIndices, AreInputs, AreNamed, IsNameless}
 use Rattle.cir_checks.specs.Checked.{IsWhole, Creates}
 

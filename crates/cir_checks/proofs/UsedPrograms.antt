@@ -1,29 +1,23 @@
 -- The same of tuples, statements, definitions and programs.
-use Rattle.std.proofs.Common.{◌≡◌, ◌≢◌, ◌∙◌, ℕ, Bool, true, false, List, [], ◌∷◌, length, Option}
+use Rattle.std.proofs.Common.{◌≡◌, ◌∙◌, ℕ, true, false, List, [], ◌∷◌, length, Option}
 use Rattle.std.proofs.Common.{Some, None, refl, ap, sym, subst}
 use Rattle.std.specs.Prelude.{IsTrue}
-use Rattle.cir_ast.specs.declared.operators.Direction.{Direction}
-use Rattle.cir_ast.specs.declared.operators.Direction.TheVariants as direction
 use Rattle.cir_ast.specs.declared.program.Spot.{Spot}
 use Rattle.cir_ast.specs.declared.program.Meant.{Meant}
-use Rattle.cir_ast.specs.declared.program.Meant.TheVariants as meant
-use Rattle.cir_ast.specs.declared.refusal.Kind.{Kind}
 use Rattle.cir_ast.specs.declared.refusal.Kind.TheVariants.{UnknownName, Arity, NotInProfile}
 use Rattle.cir_ast.specs.declared.refusal.Form.TheVariants.{NoReturn}
 use Rattle.cir_ast.specs.Tree.{Expr, Number, Place, Call, Anonymous, Parentheses, Array, Unary}
-use Rattle.cir_ast.specs.Tree.{Binary, Choice, Exprs, Accessors, Variable, SignalValue, Nothing}
-use Rattle.cir_ast.specs.Tree.{Given, Signal, Component, Assign, Set, Compound, Left, Increment}
-use Rattle.cir_ast.specs.Tree.{Decrement, First, FirstVars, FirstAssign, LogArgument, Words}
-use Rattle.cir_ast.specs.Tree.{LogValue, Slot, SlotPlace, SlotDiscard, Target, Discard, Slots}
+use Rattle.cir_ast.specs.Tree.{Binary, Choice}
+use Rattle.cir_ast.specs.Tree.{First, FirstVars, FirstAssign}
+use Rattle.cir_ast.specs.Tree.{Slot, SlotPlace, SlotDiscard, Target, Discard, Slots}
 use Rattle.cir_ast.specs.Tree.{Source, One, Values, Simple, Vars, Signals, Declared, Created}
 use Rattle.cir_ast.specs.Tree.{Assigned, Constrain, Right, TargetLeft, TargetRight, Alone}
 use Rattle.cir_ast.specs.Tree.{Statement, Block, If, IfElse, While, For, Return, Assert, Log, Ended}
 use Rattle.cir_ast.specs.Tree.{Statements, empty, then_more}
-use Rattle.cir_checks.specs.declared.positions.Room.TheVariants.{Allowed, Misplaced, Barred}
+use Rattle.cir_checks.specs.declared.positions.Room.TheVariants.{Barred}
 use Rattle.cir_checks.specs.declared.positions.Position.{Position}
-use Rattle.cir_checks.specs.declared.positions.Position.TheVariants.{InFunction, Outermost, Inner}
-use Rattle.cir_checks.specs.declared.positions.Position.TheVariants.{Looped}
-use Rattle.cir_ast.specs.Program.{Template, Function, Main}
+use Rattle.cir_checks.specs.declared.positions.Position.TheVariants.{InFunction, Outermost}
+use Rattle.cir_ast.specs.Program.{Function, Main}
 use Rattle.cir_resolve.specs.Definitions.{Definition}
 use Rattle.cir_resolve.specs.Definitions as defined
 use Rattle.cir_checks.specs.declared.stop.Fault.{Fault}
@@ -34,9 +28,9 @@ use Rattle.cir_checks.specs.Uses.{count, value_fault, values_fault, whole_fault,
 use Rattle.cir_checks.specs.Uses.{component_call_fault, nameless_fault}
 use Rattle.cir_checks.specs.Statements.{inside, in_loop, value_room, other_room, only_in_template}
 use Rattle.cir_checks.specs.Statements.{only_in_function, log_fault, declaration_fault}
-use Rattle.cir_checks.specs.Statements.{signal_place_fault, optional_fault, variables_fault}
-use Rattle.cir_checks.specs.Statements.{signal_value_fault, signals_fault, components_fault}
-use Rattle.cir_checks.specs.Statements.{written_fault, arrow_place_fault, given_fault, assign_fault}
+use Rattle.cir_checks.specs.Statements.{signal_place_fault}
+use Rattle.cir_checks.specs.Statements.{signals_fault, components_fault}
+use Rattle.cir_checks.specs.Statements.{arrow_place_fault, assign_fault}
 use Rattle.cir_checks.specs.Statements.{arguments_fault, outputs_fault, one_fault, tuple_fault}
 use Rattle.cir_checks.specs.Statements.{slots_fault, target_fault, slot_value_fault, first_slot}
 use Rattle.cir_checks.specs.Statements.{other_slots, slot_values_fault, slots_of, source_fault}
@@ -45,10 +39,8 @@ use Rattle.cir_checks.specs.Statements.{last_returns, function_fault, public_fau
 use Rattle.cir_checks.specs.Statements.{main_fault}
 use Rattle.cir_checks.specs.Checks.{second_main, mains_fault, use_fault, first_use_fault}
 use Rattle.cir_checks.specs.Checks.{table_among, first_fault, mains_among, program_with}
-use Rattle.cir_checks.specs.Checked.{Each, IsTemplateOf, IsWritten, IsDriven, IsDrivenPlace}
-use Rattle.cir_checks.specs.Checked.{IsWrittenPlace, IsGiven, IsAssign, IsOptional, IsVariable}
-use Rattle.cir_checks.specs.Checked.{IsSignalValue, IsSignal, InTemplate, MayDeclare}
-use Rattle.cir_checks.specs.Checked.{MayDeclareSignal, IsArgument, Fills, Matches, IsSlot, IsTarget}
+use Rattle.cir_checks.specs.Checked.{Each, IsTemplateOf}
+use Rattle.cir_checks.specs.Checked.{Fills, Matches, IsSlot, IsTarget}
 use Rattle.cir_checks.specs.Checked.{IsSlotValue, AreSlotValues, IsSource, IsSimple, IsHead}
 use Rattle.cir_checks.specs.Checked.{IsStatement, AreStatements, IsTemplate, IsFunction, IsMain}
 use Rattle.cir_checks.specs.Checked.{IsUsed}

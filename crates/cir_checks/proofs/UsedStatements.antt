@@ -1,50 +1,39 @@
 -- The same of statements and of definitions.
-use Rattle.std.proofs.Common.{◌≡◌, ◌≢◌, ◌∙◌, ℕ, Bool, true, false, List, [], ◌∷◌, length, Option}
-use Rattle.std.proofs.Common.{Some, None, refl, ap, sym, eqb}
-use Rattle.std.specs.Prelude.{◌==◌, ◌&&◌, map, IsTrue, ⊤}
+use Rattle.std.proofs.Common.{◌≡◌, ◌≢◌, ℕ, Bool, true, false, List, [], ◌∷◌, Option}
+use Rattle.std.proofs.Common.{Some, None, refl}
+use Rattle.std.specs.Prelude.{◌==◌, ◌&&◌}
 use Rattle.std.proofs.lemmas.Bool.{eqb-true}
 use Rattle.cir_ast.specs.declared.operators.Direction.{Direction}
 use Rattle.cir_ast.specs.declared.operators.Direction.TheVariants as direction
-use Rattle.cir_ast.specs.declared.program.Spot.{Spot}
 use Rattle.cir_ast.specs.declared.program.Meant.{Meant}
 use Rattle.cir_ast.specs.declared.program.Meant.TheVariants as meant
-use Rattle.cir_ast.specs.declared.refusal.Kind.{Kind}
-use Rattle.cir_ast.specs.declared.refusal.Kind.TheVariants.{Arity, WrongKind}
-use Rattle.cir_ast.specs.Tree.{Expr, Number, Place, Call, Anonymous, Parentheses, Array, Unary}
-use Rattle.cir_ast.specs.Tree.{Binary, Choice, Exprs, Accessors, Variable, SignalValue, Nothing}
+use Rattle.cir_ast.specs.declared.refusal.Kind.TheVariants.{WrongKind}
+use Rattle.cir_ast.specs.Tree.{Expr}
+use Rattle.cir_ast.specs.Tree.{Accessors, Variable, SignalValue, Nothing}
 use Rattle.cir_ast.specs.Tree.{Given, Signal, Component, Assign, Set, Compound, Left, Increment}
-use Rattle.cir_ast.specs.Tree.{Decrement, First, FirstVars, FirstAssign, LogArgument, Words}
-use Rattle.cir_ast.specs.Tree.{LogValue, Slot, SlotPlace, SlotDiscard, Target, Discard, Slots}
-use Rattle.cir_ast.specs.Tree.{Source, One, Values, Simple, Vars, Signals, Declared, Created}
-use Rattle.cir_ast.specs.Tree.{Assigned, Constrain, Right, TargetLeft, TargetRight, Alone}
-use Rattle.cir_ast.specs.Tree.{Statement, Block, If, IfElse, While, For, Return, Assert, Log, Ended}
-use Rattle.cir_ast.specs.Tree.{Statements, empty, then_more}
-use Rattle.cir_checks.specs.declared.positions.Room.TheVariants.{Allowed, Misplaced, Barred}
+use Rattle.cir_ast.specs.Tree.{Decrement, LogArgument, Words}
+use Rattle.cir_ast.specs.Tree.{LogValue}
+use Rattle.cir_checks.specs.declared.positions.Room.TheVariants.{Allowed}
 use Rattle.cir_checks.specs.declared.positions.Position.{Position}
 use Rattle.cir_checks.specs.declared.positions.Position.TheVariants.{InFunction, Outermost, Inner}
 use Rattle.cir_checks.specs.declared.positions.Position.TheVariants.{Looped}
-use Rattle.cir_checks.specs.Faults.{first_of, unless, at}
-use Rattle.cir_checks.specs.Heads.{Head, Table, callee, template_callee, function_callee}
-use Rattle.cir_checks.specs.Uses.{members, value_fault, values_fault, accessors_fault, whole_fault}
-use Rattle.cir_checks.specs.Uses.{component_fault, nameless_fault, is_call, is_component, set_fault}
+use Rattle.cir_checks.specs.Heads.{Table}
+use Rattle.cir_checks.specs.Uses.{members, value_fault, values_fault, accessors_fault}
+use Rattle.cir_checks.specs.Uses.{is_call, is_component, set_fault}
 use Rattle.cir_checks.specs.Uses.{arrow_fault}
-use Rattle.cir_checks.specs.Statements.{inside, in_loop, value_room, other_room, only_in_template}
+use Rattle.cir_checks.specs.Statements.{value_room, other_room, only_in_template}
 use Rattle.cir_checks.specs.Statements.{only_in_function, log_fault, declaration_fault}
 use Rattle.cir_checks.specs.Statements.{signal_place_fault, optional_fault, variables_fault}
 use Rattle.cir_checks.specs.Statements.{signal_value_fault, signals_fault, components_fault}
 use Rattle.cir_checks.specs.Statements.{written_fault, arrow_place_fault, given_fault, assign_fault}
-use Rattle.cir_checks.specs.Statements.{arguments_fault, outputs_fault, one_fault, tuple_fault}
-use Rattle.cir_checks.specs.Statements.{slots_fault, target_fault, slot_value_fault, first_slot}
-use Rattle.cir_checks.specs.Statements.{other_slots, slot_values_fault, slots_of, source_fault}
-use Rattle.cir_checks.specs.Statements.{simple_fault, head_fault, statement_fault, statements_fault}
-use Rattle.cir_checks.specs.Checked.{Each, IsTemplateOf, IsWritten, IsDriven, IsDrivenPlace}
+use Rattle.cir_checks.specs.Statements.{arguments_fault}
+use Rattle.cir_checks.specs.Checked.{Each, IsWritten, IsDriven, IsDrivenPlace}
 use Rattle.cir_checks.specs.Checked.{IsWrittenPlace, IsGiven, IsAssign, IsOptional, IsVariable}
 use Rattle.cir_checks.specs.Checked.{IsSignalValue, IsSignal, InTemplate, MayDeclare}
-use Rattle.cir_checks.specs.Checked.{MayDeclareSignal, IsArgument, Fills, Matches, IsSlot, IsTarget}
-use Rattle.cir_checks.specs.Checked.{IsSlotValue, AreSlotValues, IsSource, IsSimple, IsHead}
-use Rattle.cir_checks.specs.Checked.{IsStatement, AreStatements, AreValues}
-use Rattle.cir_checks.proofs.Used.{neither, holds, nowhere, same, is_value, are_values, are_indices}
-use Rattle.cir_checks.proofs.Used.{is_nameless, is_whole, creates}
+use Rattle.cir_checks.specs.Checked.{MayDeclareSignal, IsArgument}
+use Rattle.cir_checks.specs.Checked.{AreValues}
+use Rattle.cir_checks.proofs.Used.{neither, holds, same, is_value, are_values, are_indices}
+use Rattle.cir_checks.proofs.Used.{creates}
 
 pub elsewhere : (p : Position) → other_room p ≢ Allowed
 elsewhere InFunction e = cc

@@ -4,7 +4,6 @@
 -- component.
 use Rattle.std.specs.Prelude.{◌≡◌, ℕ, ◌+◌, ◌≤◌, ◌⊎◌, List, [], ◌∷◌, length, Bool, true, false}
 use Rattle.std.specs.Prelude.{Option, Some, None, IsTrue, IsFalse, slice_get, ⊤}
-use Rattle.cir_ast.specs.declared.operators.Binary.{Binary as BinaryOp}
 use Rattle.cir_ast.specs.declared.operators.Direction.{Direction}
 use Rattle.cir_ast.specs.declared.operators.Direction.TheVariants as direction
 use Rattle.cir_ast.specs.declared.program.Spot.{Spot}
@@ -13,7 +12,7 @@ use Rattle.cir_ast.specs.declared.program.Meant.TheVariants as meant
 use Rattle.cir_ast.specs.Tree.{Expr, Number, Place, Call, Anonymous, Parentheses, Array, Unary}
 use Rattle.cir_ast.specs.Tree.{Binary, Choice, Exprs, none, more, Accessors, done, index, member}
 use Rattle.cir_ast.specs.Tree.{Inputs, Listed, Named, NamedInputs, unnamed, named, Variable}
-use Rattle.cir_ast.specs.Tree.{SignalValue, Nothing, Given, Signal, Component, Assign, Set}
+use Rattle.cir_ast.specs.Tree.{SignalValue, Nothing, Given, Signal, Assign, Set}
 use Rattle.cir_ast.specs.Tree.{Compound, Left, Increment, Decrement, First, FirstVars, FirstAssign}
 use Rattle.cir_ast.specs.Tree.{LogArgument, Words, LogValue, Slot, SlotPlace, SlotDiscard, Target}
 use Rattle.cir_ast.specs.Tree.{Discard, Slots, Source, One, Values, Simple, Vars, Signals, Declared}

@@ -6,7 +6,7 @@ use Rattle.cir_ast.specs.declared.program.Spot.{Spot}
 use Rattle.cir_ast.specs.declared.program.Meant.{Meant}
 use Rattle.cir_ast.specs.declared.program.Meant.TheVariants as meant
 use Rattle.cir_ast.specs.Tree.{Simple, Signals, Statement, Ended, Statements, empty, then_more}
-use Rattle.cir_ast.specs.Program.{Template, Function, Program}
+use Rattle.cir_ast.specs.Program.{Template, Function}
 use Rattle.cir_resolve.specs.Definitions.{Definition, IsTemplate, IsFunction, IsMain}
 use Rattle.cir_checks.specs.Faults.{Names, no_names, and_names}
 

@@ -10,8 +10,8 @@ use Rattle.cir_ast.specs.declared.refusal.Kind.{Kind}
 use Rattle.cir_ast.specs.declared.refusal.Kind.TheVariants.{UnknownName, Arity, WrongKind}
 use Rattle.cir_ast.specs.declared.refusal.Kind.TheVariants.{NotInProfile}
 use Rattle.cir_ast.specs.declared.refusal.Form.TheVariants.{NoReturn, DeclarationPlace, LogPlace}
-use Rattle.cir_ast.specs.Tree.{Expr, Number, Place, Call, Anonymous, Parentheses, Array, Unary}
-use Rattle.cir_ast.specs.Tree.{Binary, Choice, Exprs, none, more, Accessors, Variable, SignalValue}
+use Rattle.cir_ast.specs.Tree.{Expr, Anonymous, Parentheses}
+use Rattle.cir_ast.specs.Tree.{Accessors, Variable, SignalValue}
 use Rattle.cir_ast.specs.Tree.{Nothing, Given, Signal, Component, Assign, Set, Compound, Left}
 use Rattle.cir_ast.specs.Tree.{Increment, Decrement, First, FirstVars, FirstAssign, LogArgument}
 use Rattle.cir_ast.specs.Tree.{Words, LogValue, Slot, SlotPlace, SlotDiscard, Target, Discard}
@@ -27,7 +27,7 @@ use Rattle.cir_checks.specs.declared.positions.Position.TheVariants.{InFunction,
 use Rattle.cir_checks.specs.declared.positions.Position.TheVariants.{Looped}
 use Rattle.cir_checks.specs.declared.stop.Fault.{Fault}
 use Rattle.cir_checks.specs.Faults.{first_of, unless, at, Names}
-use Rattle.cir_checks.specs.Heads.{Head, Table, Callee, TemplateOf, FunctionOf, Undefined, Unknown}
+use Rattle.cir_checks.specs.Heads.{Table, Callee, TemplateOf, FunctionOf, Undefined, Unknown}
 use Rattle.cir_checks.specs.Heads.{callee}
 use Rattle.cir_checks.specs.Uses.{members, count, value_fault, values_fault, accessors_fault}
 use Rattle.cir_checks.specs.Uses.{whole_fault, nameless_fault, component_call_fault}

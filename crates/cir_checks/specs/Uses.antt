@@ -1,7 +1,7 @@
 -- How names may be used in expressions and places: the first fault, in the order of the tokens. At
 -- a called name an unknown name comes first, then a wrong number, then a wrong kind, then a
 -- component that may not stand there.
-use Rattle.std.specs.Prelude.{ℕ, ◌+◌, ◌==◌, ◌&&◌, ◌||◌, not, List, Bool, true, false, Option, Some}
+use Rattle.std.specs.Prelude.{ℕ, ◌+◌, ◌==◌, ◌&&◌, ◌||◌, not, Bool, true, false, Option, Some}
 use Rattle.std.specs.Prelude.{None}
 use Rattle.cir_ast.specs.declared.operators.Binary.{Binary as BinaryOp}
 use Rattle.cir_ast.specs.declared.operators.Binary.TheVariants as op
@@ -18,7 +18,7 @@ use Rattle.cir_ast.specs.Tree.{Inputs, Listed, Named, NamedInputs, unnamed, name
 use Rattle.cir_checks.specs.declared.positions.Room.{Room}
 use Rattle.cir_checks.specs.declared.positions.Room.TheVariants.{Allowed, Misplaced, Barred}
 use Rattle.cir_checks.specs.Faults.{first_of, unless, Names, no_names, and_name}
-use Rattle.cir_checks.specs.Heads.{Head, Table, Callee, TemplateOf, FunctionOf, Undefined, Unknown}
+use Rattle.cir_checks.specs.Heads.{Table, Callee, TemplateOf, FunctionOf, Undefined, Unknown}
 use Rattle.cir_checks.specs.Heads.{callee}
 
 -- in an index, a dimension or an argument, right of `&&` and `||`, and in the branches of `?:`

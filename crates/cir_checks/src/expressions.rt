@@ -1,7 +1,7 @@
 //! The faults of expressions.
 ghost use Rattle.std.specs.Prelude.{◌≡◌};
 ghost use Rattle.cir_ast.specs.Tree.{bare, bare_exprs, bare_inputs, bare_anonymous, as_accessors};
-ghost use Rattle.cir_ast.specs.Tree.{as_named, arguments_of};
+ghost use Rattle.cir_ast.specs.Tree.{as_named};
 ghost use Rattle.cir_checks.specs.Faults.{no_names};
 ghost use Rattle.cir_checks.specs.Uses.{inputs_count, inputs_in, value_fault, nameless_fault};
 ghost use Rattle.cir_checks.specs.Uses.{values_fault, accessors_fault, inputs_fault, named_fault};
@@ -80,7 +80,7 @@ impl Table<'_> {
     ) -> Result<(), Stop<Kind>>
         ensures { Finds result
             (nameless_fault (table_in self.now) room whole anonymous.now.meant
-            (arguments_of (bare_anonymous anonymous.now)) (bare_inputs anonymous.now.inputs)) }
+            (bare_exprs anonymous.now.arguments) (bare_inputs anonymous.now.inputs)) }
     {
         let callee = self.callee(anonymous.meant);
         let arguments = anonymous.arguments.as_slice();

@@ -8,4 +8,5 @@ pub mod Leaving
 pub mod Standing
 pub mod Placed
 pub mod Flowing
+pub mod Fors
 pub mod Logging

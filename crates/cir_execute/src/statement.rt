@@ -116,6 +116,8 @@ where
             turns(body, spot, repeated, condition, None, &rest, frame, world)
         }
         StatementForm::For(first, condition, step, repeated) => {
+            let step: &Step = step;
+            let repeated: &Statement = repeated;
             body.context.counted(spot, world)?;
             begin(body, first, frame, world)?;
             body.context.counted(spot, world)?;

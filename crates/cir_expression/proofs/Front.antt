@@ -20,7 +20,7 @@ use Rattle.cir_ast.specs.Tree.{Choice, done, index, member}
 use Rattle.cir_ast.specs.Plain.{PlainExpr as Expr}
 use Rattle.cir_ast.specs.declared.operators.Arrow.{Arrow}
 use Rattle.cir_ast.specs.declared.operators.Arrow.TheVariants as arrow
-use Rattle.cir_ast.specs.Print.{unary_symbol, binary_symbol, left_symbol, accessor_tokens}
+use Rattle.cir_ast.specs.Print.{unary_symbol, binary_symbol, left_symbol}
 use Rattle.cir_ast.specs.Print.{tokens_of}
 use Rattle.cir_ast.specs.Shape.{level_of}
 use Rattle.cir_ast.specs.Height.{height_of}

@@ -1,9 +1,9 @@
 -- What begins with a parenthesis: what is read prints its tokens and is fine, and what is fine is
 -- read.
-use Rattle.std.proofs.Common.{◌≡◌, ◌≢◌, ℕ, zero, suc, ◌+◌, ◌-◌, ◌<◌, ◌≤◌, max, List, [], ◌∷◌, ◌++◌}
-use Rattle.std.proofs.Common.{length, Option, Some, None, Bool, true, false, refl, ap, ◌∙◌, sym}
+use Rattle.std.proofs.Common.{◌≡◌, ◌≢◌, ℕ, zero, suc, ◌+◌, ◌-◌, ◌<◌, ◌≤◌, List, [], ◌∷◌, ◌++◌}
+use Rattle.std.proofs.Common.{length, Option, Some, None, true, false, refl, ap, ◌∙◌, sym}
 use Rattle.std.proofs.Common.{arith, subst, append_assoc, append-nil, length-append}
-use Rattle.std.specs.Prelude.{if◌then◌else◌, nat_le}
+use Rattle.std.specs.Prelude.{if◌then◌else◌}
 use Rattle.std.proofs.lemmas.Bool.{le-leb}
 use Rattle.cir_token.specs.declared.token.TokenKind.TheVariants as token
 use Rattle.cir_token.specs.declared.token.Symbol.TheVariants.{Comma, Question, Colon}
@@ -16,17 +16,17 @@ use Rattle.cir_ast.specs.Print.{binary_symbol, tokens_of, further_tokens, list_t
 use Rattle.cir_ast.specs.Shape.{level_of, Fits, Each}
 use Rattle.cir_ast.specs.Height.{height_of}
 use Rattle.cir_expression.specs.Front.{Tokens, next, tail, begins, begins_underscore, behind}
-use Rattle.cir_expression.specs.Groups.{element_tokens, FitsElement, IsWhole, IsTuple, IsGrouped}
+use Rattle.cir_expression.specs.Groups.{element_tokens, FitsElement, IsTuple}
 use Rattle.cir_expression.specs.Groups.{IsGroup}
-use Rattle.cir_expression.specs.Reading.{Found, within, operand_by, chain, choice, climb}
-use Rattle.cir_expression.specs.Reading.{expression, continued, element, elements_to, Grouped}
+use Rattle.cir_expression.specs.Reading.{within, operand_by, chain, choice, climb}
+use Rattle.cir_expression.specs.Reading.{expression, continued, element, elements_to}
 use Rattle.cir_expression.specs.Reading.{Whole, Tuple, whole, group, goes_on, starts}
 use Rattle.cir_expression.proofs.Front.{AllOf, all_at, all_map, next_all, if_all, begins_is}
 use Rattle.cir_expression.proofs.Front.{behind_all, within_all, expression_starts}
 use Rattle.cir_expression.proofs.Steps.{next_is}
-use Rattle.cir_expression.proofs.Sound.{IsClimbed, IsChained, Goes, chain_sound, choice_sound}
+use Rattle.cir_expression.proofs.Sound.{IsClimbed, IsChained, chain_sound, choice_sound}
 use Rattle.cir_expression.proofs.Sound.{climb_sound, IsRead, expression_sound}
-use Rattle.cir_expression.proofs.Undo.{climb_is, behind_whole, behind_operand, parentheses_found}
+use Rattle.cir_expression.proofs.Undo.{climb_is, behind_operand, parentheses_found}
 use Rattle.cir_expression.proofs.Undo.{enclosed_print, expression_undo}
 
 -- an element was read

@@ -12,10 +12,10 @@ use Rattle.cir_ast.specs.declared.marked.Accessor.TheVariants.{Index, Member}
 use Rattle.cir_ast.specs.declared.marked.Place.{Place as CodePlace}
 use Rattle.cir_ast.specs.declared.operators.Arrow.{Arrow}
 use Rattle.cir_ast.specs.declared.marked.NamedInput.{NamedInput as CodeInput}
-use Rattle.cir_ast.specs.Tree.{Place, Anonymous, Listed, Named, done, index, member, none, more}
-use Rattle.cir_ast.specs.Tree.{unnamed, named as input, as_exprs, bare, bare_exprs, bare_place}
+use Rattle.cir_ast.specs.Tree.{Place, Anonymous, Listed, Named, done, index, member, more}
+use Rattle.cir_ast.specs.Tree.{unnamed, named as input, as_exprs, bare_exprs, bare_place}
 use Rattle.cir_ast.specs.Tree.{place_accessors}
-use Rattle.cir_ast.specs.Plain.{PlainExpr as Expr, PlainExprs as Exprs, PlainAccessors as Accessors}
+use Rattle.cir_ast.specs.Plain.{PlainExpr as Expr, PlainAccessors as Accessors}
 use Rattle.cir_ast.specs.Plain.{PlainInputs as Inputs, PlainNamedInputs as NamedInputs, plain}
 use Rattle.cir_ast.specs.Plain.{plain_exprs, plain_accessors}
 use Rattle.cir_ast.specs.Height.{height_of, exprs_height, accessors_height, named_height}

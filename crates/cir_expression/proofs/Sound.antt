@@ -19,7 +19,6 @@ use Rattle.cir_ast.specs.Plain.{PlainExpr as Expr, PlainAccessors as Accessors}
 use Rattle.cir_ast.specs.Plain.{PlainInputs as Inputs, PlainNamedInputs as NamedInputs}
 use Rattle.cir_ast.specs.Print.{unary_symbol, binary_symbol, left_symbol, parallel_tokens}
 use Rattle.cir_ast.specs.Print.{tokens_of, listed, accessor_tokens, input_tokens, named_tokens}
-use Rattle.cir_ast.specs.Print.{named_further}
 use Rattle.cir_ast.specs.Shape.{level_of, Fits, AllFit, AreFitAccessors, AreFitInputs, AllNamedFit}
 use Rattle.cir_ast.specs.Height.{height_of, exprs_height, accessors_height, inputs_height}
 use Rattle.cir_ast.specs.Height.{named_height}

@@ -378,10 +378,12 @@ impl<'a> Reader<'a> {
         self.skip();
         if self.begins_input() {
             let given = self.named_inputs(alloc, inner)?;
-            return Ok(named_component(parallel, name, arguments, given));
+            let found = named_component(alloc, parallel, name, arguments, given)?;
+            return Ok(found);
         }
         let given = self.enclosed_list(alloc, inner)?;
-        Ok(listed_component(parallel, name, arguments, given))
+        let found = listed_component(alloc, parallel, name, arguments, given)?;
+        Ok(found)
     }
 
     // One named input or more with commas between them, and `)`.

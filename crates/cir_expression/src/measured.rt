@@ -155,54 +155,68 @@ pub fn call<N: Blank + Drop>(parallel: bool, name: Text, arguments: Listing<N>) 
 
 /// The anonymous component that is given this list.
 pub fn listed_component<N: Blank + Drop>(
+    alloc: Global,
     parallel: bool,
     name: Text,
     arguments: Listing<N>,
     given: Listing<N>,
-) -> Reading<N>
+) -> Result<Reading<N>, AllocError>
     requires arguments { IsMeasuredListing arguments }
     requires given { IsMeasuredListing given }
     requires arguments_low { arguments.height < 2 ^ 17 }
     requires given_low { given.height < 2 ^ 17 }
-    ensures tree { seen result.tree
+    ensures tree { IfOk result (λ r. seen r.tree
         ≡ AnonymousTree parallel name tt (seen_exprs arguments.items.items)
-        (Listed (seen_exprs given.items.items)) }
-    ensures measured { IsMeasured result }
-    ensures height { result.height ≡ max arguments.height given.height + 1 }
+        (Listed (seen_exprs given.items.items))) }
+    ensures measured { IfOk result IsMeasured }
+    ensures height { IfOk result (λ r. r.height ≡ max arguments.height given.height + 1) }
 {
     let inputs = Inputs::listed(tight(given.items));
     let arguments_height = arguments.height;
-    let whole = Anonymous::of(parallel, name, N::blank(), tight(arguments.items), inputs);
-    Reading {
-        tree: Expr::Anonymous(whole),
+    let whole = Anonymous {
+        parallel,
+        name,
+        meant: N::blank(),
+        arguments: tight(arguments.items),
+        inputs,
+    };
+    Ok(Reading {
+        tree: Expr::anonymous(alloc, whole)?,
         height: arguments_height.max(given.height) + 1,
-    }
+    })
 }
 
 /// The anonymous component that is given these names.
 pub fn named_component<N: Blank + Drop>(
+    alloc: Global,
     parallel: bool,
     name: Text,
     arguments: Listing<N>,
     given: Naming<N>,
-) -> Reading<N>
+) -> Result<Reading<N>, AllocError>
     requires arguments { IsMeasuredListing arguments }
     requires given { IsMeasuredNaming given }
     requires arguments_low { arguments.height < 2 ^ 17 }
     requires given_low { given.height < 2 ^ 17 }
-    ensures tree { seen result.tree
+    ensures tree { IfOk result (λ r. seen r.tree
         ≡ AnonymousTree parallel name tt (seen_exprs arguments.items.items)
-        (Named (seen_named given.inputs.items)) }
-    ensures measured { IsMeasured result }
-    ensures height { result.height ≡ max arguments.height given.height + 1 }
+        (Named (seen_named given.inputs.items))) }
+    ensures measured { IfOk result IsMeasured }
+    ensures height { IfOk result (λ r. r.height ≡ max arguments.height given.height + 1) }
 {
     let inputs = Inputs::named(tight(given.inputs));
     let arguments_height = arguments.height;
-    let whole = Anonymous::of(parallel, name, N::blank(), tight(arguments.items), inputs);
-    Reading {
-        tree: Expr::Anonymous(whole),
+    let whole = Anonymous {
+        parallel,
+        name,
+        meant: N::blank(),
+        arguments: tight(arguments.items),
+        inputs,
+    };
+    Ok(Reading {
+        tree: Expr::anonymous(alloc, whole)?,
         height: arguments_height.max(given.height) + 1,
-    }
+    })
 }
 
 /// The name with these indices and members.

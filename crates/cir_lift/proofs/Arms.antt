@@ -1,14 +1,17 @@
 -- What holds a list is lifted by its list.
-use Rattle.std.proofs.Common.{◌≡◌, ◌∙◌, List, ap, sym}
+use Rattle.std.proofs.Common.{◌≡◌, ◌∙◌, List, Box, ap, sym}
+use Rattle.std.specs.Global.{Global}
 use Rattle.cir_ast.specs.declared.marked.Expr.{Expr as CodeExpr}
 use Rattle.cir_ast.specs.declared.marked.Expr.TheVariants as expr
+use Rattle.cir_ast.specs.declared.marked.Anonymous.{Anonymous as CodeAnonymous}
 use Rattle.cir_ast.specs.declared.marked.Inputs.{Inputs as CodeInputs}
 use Rattle.cir_ast.specs.declared.marked.Inputs.TheVariants as inputs
 use Rattle.cir_ast.specs.declared.marked.NamedInput.{NamedInput as CodeInput}
 use Rattle.cir_ast.specs.declared.program.Meant.{Meant}
 use Rattle.cir_ast.specs.Program.{Program, bare_program}
 use Rattle.cir_ast.specs.Tree.{Array, Listed, Named, bare, bare_exprs, bare_inputs, as_named}
-use Rattle.cir_ast.proofs.Rows.{exprs_are, named_are}
+use Rattle.cir_ast.specs.Tree.{bare_anonymous}
+use Rattle.cir_ast.proofs.Rows.{anonymous_is, exprs_are, named_are}
 use Rattle.cir_meaning.specs.Anonymous.{lift, lift_all, lift_inputs, lift_named}
 use Rattle.cir_lift.specs.declared.values.Lifter.{Lifter}
 use Rattle.cir_lift.specs.Lifts.{Lifts}
@@ -27,6 +30,12 @@ array_lifted s s1 es slice xs e is all h =
     ∙ sym (ap (λ e'. lift p s.first (bare e') s.next) is))
     (lifts_made bare_exprs bare s s1 (lift_all p s.first (bare_exprs slice) s.next) Array xs
     (expr.Array xs) h (ap Array (exprs_are Meant xs)))
+
+-- an anonymous component in its box
+pub anonymous_at : (a : Box (CodeAnonymous Meant) Global) (from : CodeAnonymous Meant)
+    (e : CodeExpr Meant) → e ≡ expr.Anonymous a → from ≡ a.value → bare_anonymous from ≡ bare e
+anonymous_at a from e is same =
+    ap (λ x. bare_anonymous x) same ∙ sym (anonymous_is Meant a) ∙ sym (ap (λ x. bare x) is)
 
 pub listed_lifted : (s s1 : Lifter) (es slice xs : List (CodeExpr Meant)) (i : CodeInputs Meant)
     → i ≡ inputs.Listed es → slice ≡ es

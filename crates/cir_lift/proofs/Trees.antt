@@ -1,5 +1,6 @@
 -- A copy of a part that holds a list.
-use Rattle.std.proofs.Common.{◌≡◌, ◌∙◌, ℕ, List, [], ◌∷◌, ◌++◌, Bool, ap, sym, refl}
+use Rattle.std.proofs.Common.{◌≡◌, ◌∙◌, ℕ, List, [], ◌∷◌, ◌++◌, Bool, ap, sym, refl, Box}
+use Rattle.std.specs.Global.{Global}
 use Rattle.std.specs.Prelude.{map}
 use Rattle.cir_ast.specs.declared.marked.Expr.{Expr as CodeExpr}
 use Rattle.cir_ast.specs.declared.marked.Expr.TheVariants as expr
@@ -16,8 +17,8 @@ use Rattle.cir_ast.specs.declared.program.Meant.TheVariants as meant
 use Rattle.cir_meaning.specs.Anonymous.{own_name, signal_of}
 use Rattle.cir_ast.specs.Tree.{Place, Call, Anonymous, Array, Listed, bare, bare_exprs}
 use Rattle.cir_ast.specs.Tree.{bare_place, bare_anonymous, bare_inputs, as_accessors}
-use Rattle.cir_ast.specs.Tree.{as_exprs, bare_simple, arguments_of, Created, member, done}
-use Rattle.cir_ast.proofs.Rows.{exprs_are, accessors_are}
+use Rattle.cir_ast.specs.Tree.{as_exprs, bare_simple, Created, member, done}
+use Rattle.cir_ast.proofs.Rows.{exprs_are, accessors_are, anonymous_is}
 
 pub call_copied : (parallel : Bool) (name : List ℕ) (m : Meant) (es : List (CodeExpr Meant))
     (e : CodeExpr Meant) (name1 : List ℕ) (es1 slice : List (CodeExpr Meant))
@@ -60,13 +61,18 @@ pub anonymous_copied : (a : CodeAnonymous Meant) (name1 : List ℕ)
       inputs = is1;
     }) ≡ bare_anonymous a
 anonymous_copied a name1 es1 slice is1 named given same put =
-    ap (λ x. Anonymous a.parallel name1 a.meant x (bare_inputs is1)) (exprs_are Meant es1)
-    ∙ ap (λ n. Anonymous a.parallel n a.meant (bare_exprs es1) (bare_inputs is1)) named
+    ap (λ n. Anonymous a.parallel n a.meant (bare_exprs es1) (bare_inputs is1)) named
     ∙ ap (λ l. Anonymous a.parallel a.name a.meant (as_exprs l) (bare_inputs is1))
     (given ∙ ap (λ l. map bare l) same)
     ∙ ap (Anonymous a.parallel a.name a.meant (bare_exprs a.arguments)) put
-    ∙ sym (ap (λ x. Anonymous a.parallel a.name a.meant x (bare_inputs a.inputs))
-    (exprs_are Meant a.arguments))
+
+pub boxed_copied : (a : Box (CodeAnonymous Meant) Global) (from to : CodeAnonymous Meant)
+    (e copy : CodeExpr Meant) → e ≡ expr.Anonymous a → from ≡ a.value
+    → bare_anonymous to ≡ bare_anonymous from → bare copy ≡ bare_anonymous to
+    → bare copy ≡ bare e
+boxed_copied a from to e copy is same copied given =
+    given ∙ copied ∙ ap (λ x. bare_anonymous x) same ∙ sym (anonymous_is Meant a)
+    ∙ sym (ap (λ x. bare x) is)
 
 pub listed_copied : (es : List (CodeExpr Meant)) (i : CodeInputs Meant)
     (es1 slice : List (CodeExpr Meant))
@@ -85,12 +91,13 @@ pub creation_made : (a : CodeAnonymous Meant) (own : List ℕ) (n : ℕ) (name t
     → bare_simple (simple.Components (components.Created name (meant.Component n)
     (expr.Call a.parallel template a.meant es)))
     ≡ Created (a.name ++ own) (meant.Component n)
-    (Call a.parallel a.name a.meant (arguments_of (bare_anonymous a)))
+    (Call a.parallel a.name a.meant (bare_exprs a.arguments))
 creation_made a own n name template es slice named called given all =
     ap (λ x. Created x (meant.Component n) (bare (expr.Call a.parallel template a.meant es))) named
     ∙ ap (Created (a.name ++ own) (meant.Component n))
     (call_copied a.parallel a.name a.meant a.arguments
-    (expr.Call a.parallel a.name a.meant a.arguments) template es slice refl called given all)
+    (expr.Call a.parallel a.name a.meant a.arguments) template es slice refl called given all
+    ∙ ap (Call a.parallel a.name a.meant) (exprs_are Meant a.arguments))
 
 -- the place of one of its signals
 pub signal_made : (k n : ℕ) (own name m : List ℕ) (list : List (CodeAccessor Meant))

@@ -50,7 +50,8 @@ pub fn expr(alloc: Global, e: &Expr) -> Result<Expr, AllocError>
         }
         Expr::Anonymous(a) => {
             let a = anonymous(alloc, a)?;
-            Ok(Expr::Anonymous(a))
+            let copy = Expr::anonymous(alloc, a)?;
+            Ok(copy)
         }
         Expr::Parentheses(inner) => {
             let inner = boxed_copy(alloc, inner)?;

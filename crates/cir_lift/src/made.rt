@@ -3,7 +3,7 @@ ghost use Rattle.std.specs.Prelude.{◌≡◌, [], ◌∷◌, ◌++◌, map, IfO
 ghost use Rattle.cir_ast.specs.declared.program.Meant.TheVariants as meant_as;
 ghost use Rattle.cir_ast.specs.declared.operators.Direction.TheVariants as direction_as;
 ghost use Rattle.cir_ast.specs.Tree.{bare, bare_place, bare_inputs, bare_simple, bare_anonymous};
-ghost use Rattle.cir_ast.specs.Tree.{Created, Call, arguments_of, bare_statement, bare_signal};
+ghost use Rattle.cir_ast.specs.Tree.{Created, Call, bare_exprs, bare_statement, bare_signal};
 ghost use Rattle.cir_ast.specs.Tree.{as_statements};
 ghost use Rattle.cir_ast.specs.Program.{bare_program};
 ghost use Rattle.cir_meaning.specs.Anonymous as A;
@@ -94,7 +94,7 @@ pub fn create(
 ) -> Result<(), AllocError>
     ensures { OnOk result (map bare_simple before.new.items ≡ map bare_simple before.old.items
         ++ Created (a.now.name ++ A.own_name own.index) (meant_as.Component own.number)
-        (Call a.now.parallel a.now.name a.now.meant (arguments_of (bare_anonymous a.now))) ∷ []) }
+        (Call a.now.parallel a.now.name a.now.meant (bare_exprs a.now.arguments)) ∷ []) }
 {
     let mut name = Vec::from_slice(alloc, a.name.as_slice())?;
     let own_part = own_name(alloc, own)?;

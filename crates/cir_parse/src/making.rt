@@ -112,6 +112,8 @@ pub fn for_of<S: Drop, N: Drop>(
         condition,
         step,
     } = Box::into_inner(head);
+    let first = Box::new(alloc, first)?;
+    let step = Box::new(alloc, step)?;
     let form = StatementForm::For(first, condition, step, body);
     Ok(Box::new(alloc, Statement { spot, form })?)
 }

@@ -1,6 +1,6 @@
 -- What a declaration leaves, from what its parts give.
-use Rattle.std.proofs.Common.{◌≡◌, ◌∙◌, ℕ, ◌+◌, List, Bool, true, false, Option, Some, None, Ok}
-use Rattle.std.proofs.Common.{Err, refl, ap, sym}
+use Rattle.std.proofs.Common.{◌≡◌, ◌∙◌, ℕ, ◌+◌, List, Bool, true, false, Option, Some, Ok}
+use Rattle.std.proofs.Common.{Err, ap, sym}
 use Rattle.std.specs.Prelude.{is_some, if◌then◌else◌}
 use Rattle.std.specs.Map.{update}
 use Rattle.std.specs.Str.{bytes_eq}

@@ -1,15 +1,14 @@
 -- The lists of a tree, and one element of them.
-use Rattle.std.proofs.Common.{◌≡◌, ◌∙◌, ℕ, List, [], ◌∷◌, refl, ap, sym}
-use Rattle.std.specs.Prelude.{map}
+use Rattle.std.proofs.Common.{◌≡◌, List, [], ◌∷◌, refl, ap, sym}
 use Rattle.cir_ast.specs.declared.marked.Expr.{Expr as CodeExpr}
 use Rattle.cir_ast.specs.declared.marked.Accessor.{Accessor as CodeAccessor}
 use Rattle.cir_ast.specs.declared.marked.Accessor.TheVariants as accessor
 use Rattle.cir_ast.specs.declared.marked.NamedInput.{NamedInput as CodeInput}
 use Rattle.cir_ast.specs.declared.program.Meant.{Meant}
 use Rattle.cir_ast.specs.Tree.{Exprs, none, more, Accessors, done, index, member, NamedInputs}
-use Rattle.cir_ast.specs.Tree.{unnamed, named, Expr, bare, bare_exprs, as_accessors, as_named}
+use Rattle.cir_ast.specs.Tree.{unnamed, named, bare, bare_exprs, as_accessors, as_named}
 use Rattle.cir_resolve.specs.Scope.{State}
-use Rattle.cir_resolve.specs.Naming.{named_expr, named_exprs, named_accessors, named_each}
+use Rattle.cir_resolve.specs.Naming.{named_expr, named_exprs, named_accessors}
 use Rattle.cir_resolve.proofs.InPlace.{Gluing}
 
 abbrev pub exprs : Gluing (CodeExpr Meant) (Exprs Meant)

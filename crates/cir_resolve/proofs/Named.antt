@@ -1,10 +1,10 @@
 -- What naming says of a part that holds a list.
-use Rattle.std.proofs.Common.{◌≡◌, ◌∙◌, ℕ, List, [], ◌∷◌, Bool, refl, ap, sym}
+use Rattle.std.proofs.Common.{◌≡◌, ◌∙◌, ℕ, List, [], ◌∷◌, Bool, refl, ap, sym, Box}
+use Rattle.std.specs.Global.{Global}
 use Rattle.std.specs.Prelude.{map}
 use Rattle.cir_ast.specs.declared.marked.Expr.{Expr as CodeExpr}
 use Rattle.cir_ast.specs.declared.marked.Expr.TheVariants as expr
 use Rattle.cir_ast.specs.declared.marked.Accessor.{Accessor as CodeAccessor}
-use Rattle.cir_ast.specs.declared.marked.Accessor.TheVariants as accessor
 use Rattle.cir_ast.specs.declared.marked.Place.{Place as CodePlace}
 use Rattle.cir_ast.specs.declared.marked.Anonymous.{Anonymous as CodeAnonymous}
 use Rattle.cir_ast.specs.declared.marked.Inputs.{Inputs as CodeInputs}
@@ -12,11 +12,11 @@ use Rattle.cir_ast.specs.declared.marked.Inputs.TheVariants as inputs
 use Rattle.cir_ast.specs.declared.marked.NamedInput.{NamedInput as CodeInput}
 use Rattle.cir_ast.specs.declared.marked.Source.TheVariants as source
 use Rattle.cir_ast.specs.declared.program.Meant.{Meant}
-use Rattle.cir_ast.specs.Tree.{Expr, Place, Call, Anonymous, Array, Exprs, none, more}
+use Rattle.cir_ast.specs.Tree.{Expr, Place, Call, Anonymous, Array, Exprs, none}
 use Rattle.cir_ast.specs.Tree.{Listed}
 use Rattle.cir_ast.specs.Tree.{Named, bare, bare_exprs, bare_place, bare_anonymous, bare_inputs}
-use Rattle.cir_ast.specs.Tree.{as_accessors, as_named, arguments_of, Values, bare_source}
-use Rattle.cir_ast.proofs.Rows.{exprs_are, accessors_are, named_are}
+use Rattle.cir_ast.specs.Tree.{as_accessors, as_named, Values, bare_source}
+use Rattle.cir_ast.proofs.Rows.{exprs_are, accessors_are, named_are, anonymous_is}
 use Rattle.cir_resolve.specs.Scope.{State, read_at, called_at}
 use Rattle.cir_resolve.specs.Naming.{named_expr, named_exprs, named_accessors, named_inputs}
 use Rattle.cir_resolve.specs.Naming.{named_each, named_source}
@@ -89,9 +89,19 @@ anonymous_named st a called k fs is same meant given put =
     }))
     (meant ∙ ap (called_at st) same)
     ∙ ap (λ rs. Anonymous a.parallel a.name (called_at st a.name) rs (bare_inputs is))
-    (exprs_are Meant fs ∙ given ∙ sym (ap (named_exprs st) (exprs_are Meant a.arguments)))
+    given
     ∙ ap (Anonymous a.parallel a.name (called_at st a.name)
-    (named_exprs st (arguments_of (bare_anonymous a)))) put
+    (named_exprs st (bare_exprs a.arguments))) put
+
+pub boxed_named : (st : State) (a : Box (CodeAnonymous Meant) Global)
+    (old new : CodeAnonymous Meant) → old ≡ a.value
+    → bare_anonymous new ≡ named_expr st (bare_anonymous old)
+    → bare (expr.Anonymous (record { ptr = a.ptr; alloc = a.alloc; value = new }))
+    ≡ named_expr st (bare (expr.Anonymous a))
+boxed_named st a old new same given =
+    anonymous_is Meant (record { ptr = a.ptr; alloc = a.alloc; value = new })
+    ∙ given ∙ ap (λ x. named_expr st (bare_anonymous x)) same
+    ∙ sym (ap (named_expr st) (anonymous_is Meant a))
 
 pub listed_named : (st : State) (es fs : List (CodeExpr Meant))
     → bare_exprs fs ≡ named_exprs st (bare_exprs es)

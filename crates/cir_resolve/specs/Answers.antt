@@ -1,5 +1,5 @@
 -- What the code's tables stand for, and what its calls answer.
-use Rattle.std.specs.Prelude.{◌≡◌, ℕ, List, [], ◌∷◌, ◌++◌, fold, Option, Some, None, Result, Ok}
+use Rattle.std.specs.Prelude.{◌≡◌, List, [], ◌∷◌, ◌++◌, fold, Option, Some, None, Result, Ok}
 use Rattle.std.specs.Prelude.{Err, ⊤}
 use Rattle.std.specs.Option.{option_or}
 use Rattle.std.specs.Str.{bytes_eq}

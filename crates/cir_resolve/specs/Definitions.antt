@@ -1,8 +1,8 @@
 -- The definitions of a program in the order of loading, with the meaning of each name; or the first
 -- place where a name is defined or declared a second time. First comes a definition's own name,
 -- then those in its blocks.
-use Rattle.std.specs.Prelude.{ℕ, ◌+◌, ◌==◌, List, [], ◌∷◌, ◌++◌, map, Bool, false, if◌then◌else◌}
-use Rattle.std.specs.Prelude.{Option, Some, None, is_some, Result, Ok, Err}
+use Rattle.std.specs.Prelude.{ℕ, ◌+◌, ◌==◌, List, [], ◌∷◌, ◌++◌, Bool, false, if◌then◌else◌}
+use Rattle.std.specs.Prelude.{Option, Some, is_some, Result, Ok, Err}
 use Rattle.std.specs.Map.{update}
 use Rattle.std.specs.Str.{bytes_eq}
 use Rattle.cir_ast.specs.declared.program.Spot.{Spot}

@@ -4,7 +4,7 @@
 -- A block opens a scope, and so does a branch of an `if` or the body of a `while`. A `for` is a
 -- block of its head and, in it, of its body, which its step ends: where the body declares without
 -- braces, the step sees that.
-use Rattle.std.specs.Prelude.{ℕ, List, map, Option, Some, None, Ok}
+use Rattle.std.specs.Prelude.{map, Option, Some, None, Ok}
 use Rattle.cir_ast.specs.declared.operators.Direction.{Direction}
 use Rattle.cir_ast.specs.declared.program.Spot.{Spot}
 use Rattle.cir_ast.specs.declared.program.Meant.{Meant}

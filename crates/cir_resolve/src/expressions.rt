@@ -1,5 +1,6 @@
 //! Expressions: each name in them gets its meaning, where it stands.
 ghost use Rattle.std.specs.Prelude.{◌≡◌, [], ◌∷◌};
+ghost use Rattle.cir_ast.specs.declared.marked.Expr.TheVariants.{Anonymous as AnonymousCode};
 ghost use Rattle.cir_ast.specs.Tree.{bare, bare_exprs, bare_place, bare_anonymous, bare_inputs};
 ghost use Rattle.cir_ast.specs.Tree.{as_accessors, as_named};
 ghost use Rattle.cir_resolve.specs.Naming.{named_expr, named_exprs, named_accessors, named_inputs};
@@ -25,7 +26,7 @@ impl Scopes<'_> {
                 *meant = self.called(name.as_slice());
                 self.name_all(arguments);
             }
-            Expr::Anonymous(anonymous) => self.name_anonymous(anonymous),
+            Expr::Anonymous(anonymous) => self.name_boxed(anonymous),
             Expr::Parentheses(inner) => self.name(inner),
             Expr::Array(elements) => self.name_all(elements),
             Expr::Unary(_, operand) => self.name(operand),
@@ -84,6 +85,14 @@ impl Scopes<'_> {
         if let Accessor::Index(index) = accessor {
             self.name(index);
         }
+    }
+
+    #[cycle(naming)]
+    fn name_boxed(&self, anonymous: &mut Box<Anonymous>)
+        ensures { bare (AnonymousCode anonymous.new)
+            ≡ named_expr (state_of self.now) (bare (AnonymousCode anonymous.old)) }
+    {
+        self.name_anonymous(anonymous);
     }
 
     #[cycle(naming)]

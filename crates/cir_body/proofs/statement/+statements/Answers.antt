@@ -5,24 +5,25 @@ use Rattle.cir_ast.proofs.Rows.{block_is}
 use Rattle.cir_values.specs.declared.operators.Side.TheVariants.{First, Second, Both}
 use Rattle.cir_meaning.specs.Tried.{Tried}
 use Rattle.cir_meaning.specs.Frame.{at, counted}
-use Rattle.cir_meaning.specs.Statement.{first_simple, loop_of, most_turns}
-use Rattle.cir_meaning.specs.Unknown.{fault_of, first_of}
+use Rattle.cir_meaning.specs.Statement.{first_simple, most_turns}
+use Rattle.cir_meaning.specs.Unknown.{fault_of}
 use Rattle.cir_arrays.specs.declared.stop.Fault.{Fault}
-use Rattle.cir_execute.specs.Rests.{loop_fault, rest_by, rest_fault}
+use Rattle.cir_execute.specs.Rests.{rest_by, rest_fault}
+use Rattle.cir_execute.proofs.Fors.{for_shown}
 use Rattle.cir_steps.specs.Emission.{Emission, Emitted, quiet, then_emit}
 use Rattle.cir_steps.specs.Emit.{emit_counted, emit_simple}
 use Rattle.cir_steps.specs.Statements.{emit, emit_all, emit_assert, emit_log, emit_turns}
 use Rattle.cir_steps.specs.Statements.{emit_undecided}
 use Rattle.cir_make.specs.Emits.{go_on}
 use Rattle.cir_make.specs.Means.{emitting_in}
-use Rattle.cir_body.specs.Turns.{loop_turn, turn_of}
+use Rattle.cir_body.specs.Turns.{turn_of}
 use Rattle.cir_make.proofs.Going.{emits_as, emits_exit, emits_next, emits_refused, quiet_is}
 use Rattle.cir_make.proofs.Going.{rests_emit, rests_more, rests_then, with_world}
 use Rattle.cir_body.proofs.Branching.{all_end, all_from, branch_stops, first_from}
 use Rattle.cir_body.proofs.Executing.{branch_emits, counted_ends, counted_goes, counted_stops}
 use Rattle.cir_body.proofs.Executing.{emits_form, left_at, step_emits}
 use Rattle.cir_body.proofs.Turning.{turn_by, turn_ends, turn_goes, turn_stops, turn_told}
-use Rattle.cir_body.proofs.Turning.{turns_begin, turns_end}
+use Rattle.cir_body.proofs.Turning.{turns_begin, turns_end, looped}
 use Rattle.cir_body.proofs.statement.+statements.Goals as goal
 
 -- ---- statements in turn
@@ -303,19 +304,17 @@ execute-returns-in_err-begin-in-For g t c = λ m d shows.
     let j = c.begin.new.inside in
     let v = c.begin.new.whole in
     let r = c.from_residual-in_err-begin-in-For.result in
-    let spot = a.spot in
-    let test = bare c.in-For.condition in
-    let step = c.in-For.step in
-    let first : Emission → Tried Emitted = emit_simple q c.in-For.first.spot
-    (first_simple (bare_first c.in-For.first.form)) in
-    let loop : Emission → Tried Emitted = emit_turns most_turns q spot test
-    (loop_turn q spot (bare_statement c.in-For.repeated.value) step.spot (bare_assign step.assign))
-    (emit_undecided q spot
-    (loop_fault (bare_statement c.in-For.repeated.value) step.spot (bare_assign step.assign))
-    (loop_of spot test (bare_statement c.in-For.repeated.value) step.spot
-    (bare_assign step.assign))) in
-    let behind : Emission → Tried Emitted = λ x. then_emit (emit_counted q spot x) loop in
-    emits_form q a _ d c.in-For.is p j v r
+    let begin = c.deref-in-For.result.now in
+    let step = c.deref-step.result.now in
+    let body = bare_statement c.deref-repeated.result.now in
+    let last = bare_assign step.assign in
+    let shown = for_shown a _ _ begin _ _ step _ c.deref-repeated.result.now c.in-For.is refl
+    c.deref-in-For.ensures c.deref-step.ensures c.deref-repeated.ensures in
+    let first : Emission → Tried Emitted =
+    emit_simple q begin.spot (first_simple (bare_first begin.form)) in
+    let behind : Emission → Tried Emitted = λ x. then_emit (emit_counted q a.spot x)
+    (looped q a.spot (bare c.in-For.condition) body step.spot last) in
+    emits_as p j v r _ _ (ap (λ u. go_on d (emit q u)) shown)
     (counted_goes q a.spot p i w d shows c.counted-in-For.new.world j v r
     (λ x. then_emit (first x) behind)
     (c.in_ok-counted-in-For.ensures.value i.frame _) c.in_ok-counted-in-For.ensures.keeps
@@ -333,20 +332,19 @@ execute-returns-in_err-counted-in-For-2 g t c = λ m d shows.
     let j = c.begin.new.inside in
     let v = c.begin.new.whole in
     let r = c.from_residual-in_err-counted-in-For-2.result in
-    let spot = a.spot in
-    let test = bare c.in-For.condition in
-    let step = c.in-For.step in
-    let first : Emission → Tried Emitted = emit_simple q c.in-For.first.spot
-    (first_simple (bare_first c.in-For.first.form)) in
-    let loop : Emission → Tried Emitted = emit_turns most_turns q spot test
-    (loop_turn q spot (bare_statement c.in-For.repeated.value) step.spot (bare_assign step.assign))
-    (emit_undecided q spot
-    (loop_fault (bare_statement c.in-For.repeated.value) step.spot (bare_assign step.assign))
-    (loop_of spot test (bare_statement c.in-For.repeated.value) step.spot
-    (bare_assign step.assign))) in
-    let behind : Emission → Tried Emitted = λ x. then_emit (emit_counted q spot x) loop in
+    let begin = c.deref-in-For.result.now in
+    let step = c.deref-step.result.now in
+    let body = bare_statement c.deref-repeated.result.now in
+    let last = bare_assign step.assign in
+    let shown = for_shown a _ _ begin _ _ step _ c.deref-repeated.result.now c.in-For.is refl
+    c.deref-in-For.ensures c.deref-step.ensures c.deref-repeated.ensures in
+    let first : Emission → Tried Emitted =
+    emit_simple q begin.spot (first_simple (bare_first begin.form)) in
+    let loop : Emission → Tried Emitted =
+    looped q a.spot (bare c.in-For.condition) body step.spot last in
+    let behind : Emission → Tried Emitted = λ x. then_emit (emit_counted q a.spot x) loop in
     let u = with_world v c.counted-in-For-2.new.world in
-    emits_form q a _ d c.in-For.is p j u r
+    emits_as p j u r _ _ (ap (λ x. go_on d (emit q x)) shown)
     (counted_goes q a.spot p i w d shows c.counted-in-For.new.world j u r
     (λ x. then_emit (first x) behind)
     (c.in_ok-counted-in-For.ensures.value i.frame _) c.in_ok-counted-in-For.ensures.keeps
@@ -360,7 +358,6 @@ execute-returns-in_ok-counted-in-For-2 g t c = λ m d shows.
     let p = m.first in
     let q = emitting_in c.args.body.now m in
     let a = c.args.statement.now in
-    let spot = a.spot in
     let i = c.args.inside.now in
     let w = c.args.whole.now in
     let f = c.begin.new.inside in
@@ -368,33 +365,26 @@ execute-returns-in_ok-counted-in-For-2 g t c = λ m d shows.
     let j = c.turns-in-For.new.inside in
     let v = c.turns-in-For.new.whole in
     let r = c.turns-in-For.result in
-    let test = bare c.in-For.condition in
-    let step = c.in-For.step in
-    let first : Emission → Tried Emitted = emit_simple q c.in-For.first.spot
-    (first_simple (bare_first c.in-For.first.form)) in
-    let loop : _ → _ → Emission → Tried Emitted = λ x y. emit_turns most_turns q spot test
-    (loop_turn q spot (bare_statement y) step.spot (bare_assign step.assign))
-    (emit_undecided q spot
-    (loop_fault (bare_statement x) step.spot (bare_assign step.assign))
-    (loop_of spot test (bare_statement x) step.spot (bare_assign step.assign))) in
-    let behind : _ → _ → Emission → Tried Emitted = λ x y x1.
-    then_emit (first x1) (λ x2. then_emit (emit_counted q spot x2) (loop x y)) in
-    let whole : _ → _ → Tried Emitted = λ x y.
-    go_on d (λ x1. then_emit (emit_counted q spot x1) (behind x y)) in
-    let all = c.in-For.repeated.value in
-    let body = c.deref-in-For.result.now in
-    let same = c.deref-in-For-2.result.now in
-    emits_form q a _ d c.in-For.is p j v r
-    (emits_as p j v r _ (whole body same)
-    (ap (λ x. whole x all) (sym c.deref-in-For.ensures)
-    ∙ ap (λ x. whole body x) (sym c.deref-in-For-2.ensures))
-    (counted_goes q spot p i w d shows c.counted-in-For.new.world j v r (behind body same)
+    let begin = c.deref-in-For.result.now in
+    let step = c.deref-step.result.now in
+    let body = bare_statement c.deref-repeated.result.now in
+    let last = bare_assign step.assign in
+    let shown = for_shown a _ _ begin _ _ step _ c.deref-repeated.result.now c.in-For.is refl
+    c.deref-in-For.ensures c.deref-step.ensures c.deref-repeated.ensures in
+    let first : Emission → Tried Emitted =
+    emit_simple q begin.spot (first_simple (bare_first begin.form)) in
+    let loop : Emission → Tried Emitted =
+    looped q a.spot (bare c.in-For.condition) body step.spot last in
+    let behind : Emission → Tried Emitted = λ x1.
+    then_emit (first x1) (λ x2. then_emit (emit_counted q a.spot x2) loop) in
+    emits_as p j v r _ _ (ap (λ x. go_on d (emit q x)) shown)
+    (counted_goes q a.spot p i w d shows c.counted-in-For.new.world j v r behind
     (c.in_ok-counted-in-For.ensures.value i.frame _) c.in_ok-counted-in-For.ensures.keeps
     (λ y here. emits_next p f j u v r y first _ (c.in_ok-begin-in-For.ensures m y here)
-    (λ z there. counted_goes q spot p f u z there c.counted-in-For-2.new.world j v r
-    (loop body same) (c.in_ok-counted-in-For-2.ensures.value f.frame _)
+    (λ z there. counted_goes q a.spot p f u z there c.counted-in-For-2.new.world j v r
+    loop (c.in_ok-counted-in-For-2.ensures.value f.frame _)
     c.in_ok-counted-in-For-2.ensures.keeps
-    (λ x last. c.turns-in-For.ensures m x last)))))
+    (λ x last. c.turns-in-For.ensures m x last))))
 
 -- ---- the others
 pub execute-returns-in-Return : goal.execute-returns-in-Return

@@ -3,7 +3,7 @@ use Rattle.std.specs.Prelude.{None, flat_map}
 use Rattle.std.proofs.lemmas.Result.{on_ok_weaker}
 use Rattle.cir_ast.specs.declared.program.Spot.{Spot}
 use Rattle.cir_ast.specs.declared.program.Meant.{Meant}
-use Rattle.cir_ast.specs.Tree.{Block, Ended, For, If, IfElse, Statement, as_statements, bare}
+use Rattle.cir_ast.specs.Tree.{Block, Ended, If, IfElse, Statement, as_statements, bare}
 use Rattle.cir_ast.specs.Tree.{bare_assign, bare_first, bare_simple, bare_statement, bare_variable}
 use Rattle.cir_ast.proofs.Rows.{block_is}
 use Rattle.cir_frame.specs.Shown.{state_of}
@@ -18,6 +18,7 @@ use Rattle.cir_execute.proofs.Standing.{all_end, all_more, at_both, else_stands,
 use Rattle.cir_execute.proofs.Standing.{form_of, formed, if_stands, none_first, none_more}
 use Rattle.cir_execute.proofs.Standing.{none_then, simple_stands, stands_one, unchanged}
 use Rattle.cir_execute.proofs.Standing.{unchanged_by, unchanged_next}
+use Rattle.cir_execute.proofs.Fors.{for_shown}
 use Rattle.cir_execute.proofs.inside.+add_statement.Goals as goal
 
 -- ---- a block
@@ -168,9 +169,13 @@ returns-in_ok-add_statement-in-For-clause-cost g t c =
     let one = c.add_first.new.cost in
     let two = c.add-in-For.new.self in
     let three = c.add_statement-in-For.new.cost in
-    let x = c.deref-in-For in
-    let head = bare_first e.first.form in
-    let step = bare_assign e.step.assign in
+    let begin = c.deref-in-For.result.now in
+    let x = c.deref-in-For-2.result.now in
+    let last = c.deref-in-For-3.result.now in
+    let head = bare_first begin.form in
+    let step = bare_assign last.assign in
+    let shown = for_shown a _ _ begin _ _ last _ x e.is refl c.deref-in-For.ensures
+    c.deref-in-For-3.ensures c.deref-in-For-2.ensures in
     λ m qs dark free.
     let k = context_at h m in
     let w = where_at h in
@@ -178,23 +183,19 @@ returns-in_ok-add_statement-in-For-clause-cost g t c =
     let first = (begun.same m).states f qs in
     let second = test.same m f qs ∙ first in
     let third = (stood.same m).states f qs ∙ second in
-    let faults = subst (λ u. first_of (first_fault e.first.spot head)
-    (first_of (assign_fault e.step.spot step) (fault_of (bare_statement u))) ≡ None)
-    (sym x.ensures) (form_of (λ z. fault_of z ≡ None) a _ e.is free) in
-    let rest = none_then (first_fault e.first.spot head) _ faults in
-    on_ok_weaker tail.result (λ z. formed (λ z. AddsOnce old tail.new.cost (inside k w z s)) a _
-    e.is (subst (λ u. AddsOnce old tail.new.cost (inside k w
-    (For a.spot e.first.spot head (bare e.condition) e.step.spot step (bare_statement u)) s))
-    x.ensures (for_stands k w s old c.node.new.self one two three tail.new.cost a.spot e.first.spot
-    e.step.spot head (bare e.condition) step (bare_statement x.result.now) c.node.ensures
-    (begun.cost m e.first.spot qs dark (none_first (first_fault e.first.spot head) _ faults))
+    let faults = subst (λ u. fault_of u ≡ None) shown free in
+    let rest = none_then (first_fault begin.spot head) _ faults in
+    on_ok_weaker tail.result
+    (λ z. subst (λ u. AddsOnce old tail.new.cost (inside k w u s)) (sym shown)
+    (for_stands k w s old c.node.new.self one two three tail.new.cost a.spot begin.spot last.spot
+    head (bare e.condition) step (bare_statement x) c.node.ensures
+    (begun.cost m begin.spot qs dark (none_first (first_fault begin.spot head) _ faults))
     (stands_one k w s one two Scalar (bare e.condition) h.shaded
     (state_of f c.add_first.new.world qs) dark first (test.cost m qs))
-    (subst (λ u. AddsOnce two three (inside k w (bare_statement x.result.now) u)) second
-    (stood.cost m qs dark (none_then (assign_fault e.step.spot step) _ rest)))
-    (subst (λ u. AddsOnce three tail.new.cost (assign_inside k w step u)) third z))))
-    (tail.ensures.cost m e.step.spot qs dark
-    (none_first (assign_fault e.step.spot step) _ rest))
+    (subst (λ u. AddsOnce two three (inside k w (bare_statement x) u)) second
+    (stood.cost m qs dark (none_then (assign_fault last.spot step) _ rest)))
+    (subst (λ u. AddsOnce three tail.new.cost (assign_inside k w step u)) third z)))
+    (tail.ensures.cost m last.spot qs dark (none_first (assign_fault last.spot step) _ rest))
 
 pub returns-in_ok-add_statement-in-For-clause-same :
     goal.returns-in_ok-add_statement-in-For-clause-same

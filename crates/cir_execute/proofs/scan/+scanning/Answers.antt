@@ -11,6 +11,7 @@ use Rattle.cir_arrays.proofs.Exits.{exits, exit_gives}
 use Rattle.cir_evaluate.specs.Within.{context_at, where_at}
 use Rattle.cir_execute.proofs.Going.{given, refusal}
 use Rattle.cir_execute.proofs.Scanning.{scan_from, scan_first_from, scan_end, scanned_at}
+use Rattle.cir_execute.proofs.Fors.{for_shown}
 use Rattle.cir_execute.proofs.scan.+scanning.Goals as goal
 
 -- ---- the loop of a `for`
@@ -241,29 +242,32 @@ pub scan-returns-in_err-scan_first-in-For-clause-state :
     goal.scan-returns-in_err-scan_first-in-For-clause-state
 scan-returns-in_err-scan_first-in-For-clause-state g t c =
     let h = c.args.dark.now in
+    let shown = for_shown c.args.statement.now _ _ c.deref-in-For.result.now _ _ _ _ _
+    c.in-For.is refl c.deref-in-For.ensures refl refl in
     λ m qs dark. exit_gives _ _ _ _ c.from_residual-in_err-scan_first-in-For.ensures.1
     (refusal _ _ _
-    (scanned_at (context_at h m) (where_at h) c.args.statement.now _
-    (state_of c.args.frame.now c.args.world.now qs) c.in-For.is)
+    (ap (λ u. scan (context_at h m) (where_at h) u
+    (state_of c.args.frame.now c.args.world.now qs)) shown)
     (exits _ _ _ (c.in_err-scan_first-in-For.ensures.state m qs dark)))
 
 pub scan-returns-in_ok-scan_first-in-For-clause-state :
     goal.scan-returns-in_ok-scan_first-in-For-clause-state
 scan-returns-in_ok-scan_first-in-For-clause-state g t c =
     let h = c.args.dark.now in
+    let body = c.deref-in-For-2.result.now in
+    let step = c.deref-in-For-3.result.now in
+    let shown = for_shown c.args.statement.now _ _ c.deref-in-For.result.now _ _ step _ body
+    c.in-For.is refl c.deref-in-For.ensures c.deref-in-For-3.ensures c.deref-in-For-2.ensures in
     λ m qs dark.
     let k = context_at h m in
     let w = where_at h in
     let s = state_of c.args.frame.now c.args.world.now qs in
-    let rest : _ → State → Tried State = λ x s1.
-    next (scan_test k w (bare c.in-For.condition) s1) (λ s2. next (scan k w (bare_statement x) s2)
-    (scan_assign k w (bare_assign c.in-For.step.assign))) in
+    let rest : State → Tried State = λ s1.
+    next (scan_test k w (bare c.in-For.condition) s1)
+    (λ s2. next (scan k w (bare_statement body) s2) (scan_assign k w (bare_assign step.assign))) in
     given _ _ _ _
-    (scanned_at k w c.args.statement.now _ s c.in-For.is
-    ∙ ap (λ z. next z (rest c.in-For.body.value)) (c.in_ok-scan_first-in-For.ensures.state m qs
-    dark)
-    ∙ ap (λ x. rest x (state_of c.scan_first.new.frame c.scan_first.new.world qs))
-    (sym c.deref-in-For.ensures))
+    (ap (λ u. scan k w u s) shown
+    ∙ ap (λ z. next z rest) (c.in_ok-scan_first-in-For.ensures.state m qs dark))
     (c.scan_loop.ensures.state m qs dark)
 
 pub scan-returns-in_ok-scan_first-in-For-clause-constraints :

@@ -25,6 +25,7 @@ use Rattle.cir_execute.proofs.Flowing.{if_stops, left_at, step_flows, turn_ends,
 use Rattle.cir_execute.proofs.Flowing.{turn_stops, turn_told, turns_begin, turns_end, unknown_by}
 use Rattle.cir_execute.proofs.Flowing.{asserted_flows}
 use Rattle.cir_execute.proofs.Scanning.{kept_constraints}
+use Rattle.cir_execute.proofs.Fors.{for_shown}
 use Rattle.cir_execute.proofs.statement.+statements.Goals as goal
 
 -- ---- statements in turn
@@ -304,14 +305,17 @@ execute-returns-in_err-counted-in-For g t c = λ m qs.
 pub execute-returns-in_err-begin-in-For : goal.execute-returns-in_err-begin-in-For
 execute-returns-in_err-begin-in-For g t c = λ m qs.
     let k = context_in c.args.body.now m in
+    let a = c.args.statement.now in
     let f = c.args.frame.now in
     let w0 = c.args.world.now in
     let w1 = c.counted-in-For.new.world in
     let w2 = c.begin.new.world in
     let f2 = c.begin.new.frame in
     let r = c.from_residual-in_err-begin-in-For.result in
-    let first = counted (at k c.args.statement.now.spot) (state_of f w0 qs) in
-    flows_executed k c.args.statement.now _ qs w0 w2 f f2 r c.in-For.is
+    let first = counted (at k a.spot) (state_of f w0 qs) in
+    let shown = for_shown a _ _ c.deref-in-For.result.now _ _ _ _ _ c.in-For.is refl
+    c.deref-in-For.ensures refl refl in
+    flows_at qs w0 w2 f2 r _ _ (ap (λ u. exec k u (state_of f w0 qs)) shown)
     (flows_next qs w0 w1 w2 f f2 r first _
     (counted_led qs w0 w1 f first (c.in_ok-counted-in-For.ensures.value f qs)
     c.in_ok-counted-in-For.ensures.keeps)
@@ -321,6 +325,7 @@ execute-returns-in_err-begin-in-For g t c = λ m qs.
 pub execute-returns-in_err-counted-in-For-2 : goal.execute-returns-in_err-counted-in-For-2
 execute-returns-in_err-counted-in-For-2 g t c = λ m qs.
     let k = context_in c.args.body.now m in
+    let a = c.args.statement.now in
     let f = c.args.frame.now in
     let w0 = c.args.world.now in
     let w1 = c.counted-in-For.new.world in
@@ -328,8 +333,10 @@ execute-returns-in_err-counted-in-For-2 g t c = λ m qs.
     let f2 = c.begin.new.frame in
     let w3 = c.counted-in-For-2.new.world in
     let r = c.from_residual-in_err-counted-in-For-2.result in
-    let first = counted (at k c.args.statement.now.spot) (state_of f w0 qs) in
-    flows_executed k c.args.statement.now _ qs w0 w3 f f2 r c.in-For.is
+    let first = counted (at k a.spot) (state_of f w0 qs) in
+    let shown = for_shown a _ _ c.deref-in-For.result.now _ _ _ _ _ c.in-For.is refl
+    c.deref-in-For.ensures refl refl in
+    flows_at qs w0 w3 f2 r _ _ (ap (λ u. exec k u (state_of f w0 qs)) shown)
     (flows_next qs w0 w1 w3 f f2 r first _
     (counted_led qs w0 w1 f first (c.in_ok-counted-in-For.ensures.value f qs)
     c.in_ok-counted-in-For.ensures.keeps)
@@ -350,34 +357,19 @@ execute-returns-in_ok-counted-in-For-2 g t c = λ m qs.
     let w4 = c.turns-in-For.new.world in
     let f4 = c.turns-in-For.new.frame in
     let r = c.turns-in-For.result in
-    let condition = bare c.in-For.condition in
-    let step = c.in-For.step in
     let first = counted (at k a.spot) (state_of f w0 qs) in
-    let loop : _ → _ → State → Tried Flow = λ x y.
-    turns most_turns k a.spot condition
-    (loop_turn k a.spot (bare_statement y) step.spot (bare_assign step.assign))
-    (λ s. goes (undecided k a.spot
-    (loop_fault (bare_statement x) step.spot (bare_assign step.assign))
-    (loop_of a.spot condition (bare_statement x) step.spot (bare_assign step.assign)) s)) in
-    let behind : _ → _ → State → Tried Flow = λ x y s1.
-    next (simple k c.in-For.first.spot (first_simple (bare_first c.in-For.first.form)) s1)
-    (λ s2. next (counted (at k a.spot) s2) (loop x y)) in
-    let all = c.in-For.repeated.value in
-    let body = c.deref-in-For.result.now in
-    let same = c.deref-in-For-2.result.now in
-    flows_executed k a _ qs w0 w4 f f4 r c.in-For.is
-    (flows_at qs w0 w4 f4 r _ (next first (behind body same))
-    (ap (λ x. next first (behind x all)) (sym c.deref-in-For.ensures)
-    ∙ ap (λ x. next first (behind body x)) (sym c.deref-in-For-2.ensures))
-    (flows_next qs w0 w1 w4 f f4 r first (behind body same)
+    let shown = for_shown a _ _ c.deref-in-For.result.now _ _ c.deref-step.result.now _
+    c.deref-repeated.result.now c.in-For.is refl c.deref-in-For.ensures c.deref-step.ensures
+    c.deref-repeated.ensures in
+    flows_at qs w0 w4 f4 r _ _ (ap (λ u. exec k u (state_of f w0 qs)) shown)
+    (flows_next qs w0 w1 w4 f f4 r first _
     (counted_led qs w0 w1 f first (c.in_ok-counted-in-For.ensures.value f qs)
     c.in_ok-counted-in-For.ensures.keeps)
-    (λ es. flows_next es w1 w2 w4 f2 f4 r _
-    (λ s2. next (counted (at k a.spot) s2) (loop body same)) (c.in_ok-begin-in-For.ensures m es)
-    (λ fs. flows_next fs w2 w3 w4 f2 f4 r _ (loop body same)
+    (λ es. flows_next es w1 w2 w4 f2 f4 r _ _ (c.in_ok-begin-in-For.ensures m es)
+    (λ fs. flows_next fs w2 w3 w4 f2 f4 r _ _
     (counted_led fs w2 w3 f2 _ (c.in_ok-counted-in-For-2.ensures.value f2 fs)
     c.in_ok-counted-in-For-2.ensures.keeps)
-    (λ gs. c.turns-in-For.ensures m gs)))))
+    (λ gs. c.turns-in-For.ensures m gs))))
 
 -- ---- the others
 pub execute-returns-in_err-d-in-Return : goal.execute-returns-in_err-d-in-Return

@@ -8,7 +8,7 @@ use Rattle.cir_expression.proofs.measured.named_component.Goals as goal
 
 pub returns-clause-tree : goal.returns-clause-tree
 returns-clause-tree g c =
-    ap plain c.of-whole.ensures
+    ap plain c.in_ok-anonymous.ensures
     ∙ ap (λ (es : PlainExprs). Anonymous c.args.parallel c.args.name tt es
     (plain_inputs (bare_inputs c.named-inputs.result)))
     (listed_seen c.tight-2.result c.args.arguments.items.items c.tight-2.ensures)

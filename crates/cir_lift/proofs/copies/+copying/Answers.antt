@@ -3,7 +3,7 @@ use Rattle.cir_ast.specs.Tree.{bare}
 use Rattle.cir_lift.proofs.Copied.{accessors_more, accessors_all, named_start, named_more}
 use Rattle.cir_lift.proofs.Copied.{named_all, mapped_more}
 use Rattle.cir_lift.proofs.Trees.{call_copied, array_copied, place_copied, anonymous_copied}
-use Rattle.cir_lift.proofs.Trees.{listed_copied}
+use Rattle.cir_lift.proofs.Trees.{listed_copied, boxed_copied}
 use Rattle.cir_lift.proofs.copies.+copying.Goals as goal
 
 pub expr-returns-in_ok-arguments-in-Call : goal.expr-returns-in_ok-arguments-in-Call
@@ -15,6 +15,11 @@ pub expr-returns-in_ok-elements-in-Array : goal.expr-returns-in_ok-elements-in-A
 expr-returns-in_ok-elements-in-Array t c =
     array_copied _ _ _ _ c.in-Array.is c.in_ok-elements-in-Array.ensures
     c.as_slice-in-Array.ensures
+
+pub expr-returns-in_ok-copy-in-Anonymous : goal.expr-returns-in_ok-copy-in-Anonymous
+expr-returns-in_ok-copy-in-Anonymous t c =
+    boxed_copied _ _ _ _ _ c.in-Anonymous.is c.deref.ensures c.in_ok-a-in-Anonymous.ensures
+    c.in_ok-copy-in-Anonymous.ensures
 
 pub exprs-loop-e-preserved : goal.exprs-loop-e-preserved
 exprs-loop-e-preserved t c =

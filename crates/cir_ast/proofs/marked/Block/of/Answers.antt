@@ -1,4 +1,3 @@
-use Rattle.std.proofs.Common.{ap}
 use Rattle.cir_ast.proofs.Rows.{statements_are}
 use Rattle.cir_ast.proofs.marked.Block.of.Goals as goal
 

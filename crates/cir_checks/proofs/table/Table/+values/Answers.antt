@@ -1,4 +1,4 @@
-use Rattle.std.proofs.Common.{ap, ◌∙◌, sym, refl}
+use Rattle.std.proofs.Common.{ap, ◌∙◌, sym}
 use Rattle.cir_ast.specs.Tree.{bare, bare_exprs, bare_inputs, as_accessors, as_named}
 use Rattle.cir_checks.specs.Faults.{no_names}
 use Rattle.cir_checks.specs.Uses.{inward, inputs_in, members, read_fault, value_call_fault}

@@ -236,8 +236,8 @@ call-returns-then-begins_input-clause-read g t c = (
       c.in_ok-arguments.ensures.read.0 (sym c.begins.ensures ∙ c.if-not-begins.false) c.skip.ensures
       (sym c.begins_input.ensures ∙ c.if-begins_input.true) c.in_ok-given.ensures.read.0
       ∙ ap (λ (e : PlainExpr). Some (e, kinds c.named_inputs.new.self.rest.now))
-      (sym c.named_component.ensures.tree),
-  c.named_component.ensures.measured,
+      (sym c.in_ok-found.ensures.tree),
+  c.in_ok-found.ensures.measured,
 )
 
 pub call-returns-clause-read : goal.call-returns-clause-read
@@ -250,8 +250,8 @@ call-returns-clause-read g t c = (
       c.in_ok-arguments.ensures.read.0 (sym c.begins.ensures ∙ c.if-not-begins.false) c.skip.ensures
       (sym c.begins_input.ensures ∙ c.if-begins_input.false) c.in_ok-given-2.ensures.read.0
       ∙ ap (λ (e : PlainExpr). Some (e, kinds c.enclosed_list-2.new.self.rest.now))
-      (sym c.listed_component.ensures.tree),
-  c.listed_component.ensures.measured,
+      (sym c.in_ok-found-2.ensures.tree),
+  c.in_ok-found-2.ensures.measured,
 )
 
 pub named_inputs-returns-in_err-name-clause-read : goal.named_inputs-returns-in_err-name-clause-read

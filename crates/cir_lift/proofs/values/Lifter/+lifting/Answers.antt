@@ -1,5 +1,9 @@
-use Rattle.std.proofs.Common.{refl}
-use Rattle.cir_lift.proofs.Arms.{array_lifted, listed_lifted, named_lifted}
+use Rattle.std.proofs.Common.{ap, refl, rules}
+use Rattle.cir_ast.specs.Tree.{bare}
+use Rattle.cir_ast.specs.Program.{bare_program}
+use Rattle.cir_meaning.specs.Anonymous.{lift}
+use Rattle.cir_lift.proofs.Steps.{lifts_at}
+use Rattle.cir_lift.proofs.Arms.{anonymous_at, array_lifted, listed_lifted, named_lifted}
 use Rattle.cir_lift.proofs.Turns.{exprs_turn, exprs_end, named_turn, named_end}
 use Rattle.cir_lift.proofs.values.Lifter.+lifting.Goals as goal
 
@@ -7,6 +11,14 @@ pub expr-returns-in_ok-elements-in-Array : goal.expr-returns-in_ok-elements-in-A
 expr-returns-in_ok-elements-in-Array t c =
     array_lifted c.args.self.now c.exprs.new.self _ _ _ _ c.in-Array.is c.as_slice.ensures
     c.in_ok-elements-in-Array.ensures
+
+pub expr-returns-in_ok-outputs-in-Anonymous : goal.expr-returns-in_ok-outputs-in-Anonymous
+expr-returns-in_ok-outputs-in-Anonymous t c =
+    let s = c.args.self.now in
+    lifts_at bare s c.outputs.new.self c.only.result
+    (ap (λ e. lift (bare_program s.program.now) s.first e s.next)
+    (anonymous_at _ _ c.args.e.now c.in-Anonymous.is c.deref.ensures))
+    (search rules)
 
 pub exprs-loop-e-preserved : goal.exprs-loop-e-preserved
 exprs-loop-e-preserved t c =

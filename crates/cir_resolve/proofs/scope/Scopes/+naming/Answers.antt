@@ -5,7 +5,7 @@ use Rattle.cir_resolve.specs.Answers.{state_of}
 use Rattle.cir_resolve.proofs.InPlace.{changed_more, changed_all}
 use Rattle.cir_resolve.proofs.Gluings.{exprs, accessors, inputs, expr_turn, accessor_turn}
 use Rattle.cir_resolve.proofs.Named.{call_named, array_named, place_named, anonymous_named}
-use Rattle.cir_resolve.proofs.Named.{listed_named, each_named}
+use Rattle.cir_resolve.proofs.Named.{listed_named, each_named, boxed_named}
 use Rattle.cir_resolve.proofs.scope.Scopes.+naming.Goals as goal
 
 pub name-returns-in-Call : goal.name-returns-in-Call
@@ -17,6 +17,11 @@ pub name-returns-in-Array : goal.name-returns-in-Array
 name-returns-in-Array t c =
     let whole = array_named (state_of c.args.self.now) _ _ c.name_all-in-Array.ensures in
     search (rules, whole)
+
+pub name_boxed-returns : goal.name_boxed-returns
+name_boxed-returns t c =
+    boxed_named (state_of c.args.self.now) c.args.anonymous.now c.deref_mut.result.now
+    c.name_anonymous.new.anonymous c.deref_mut.ensures.value c.name_anonymous.ensures
 
 pub name_place-returns : goal.name_place-returns
 name_place-returns t c =

@@ -29,6 +29,9 @@ decreases-name_place l = 8 * goal.size-name_place l + 4
 abbrev pub decreases-name_anonymous : goal.decreases-name_anonymous
 decreases-name_anonymous l = 8 * goal.size-name_anonymous l + 4
 
+abbrev pub decreases-name_boxed : goal.decreases-name_boxed
+decreases-name_boxed l = 8 * goal.size-name_boxed l + 5
+
 abbrev pub invariant-name_accessors-loop-i : goal.invariant-name_accessors-loop-i
 invariant-name_accessors-loop-i l =
     IsChanged accessors (named_accessors (state_of l.self)) l.initial.all.items l.all.items l.i

@@ -20,6 +20,10 @@ statement-returns-in_err-for_loop-in-For-clause-named t c =
     let n = c.for_loop.new in
     let body : c.deref_mut-in-For.result.now ≡ e.body.value =
     cc (c.deref_mut-in-For.ensures.value, e.body-is) in
+    let first : c.deref_mut-in-For-2.result.now ≡ e.first.value =
+    cc (c.deref_mut-in-For-2.ensures.value, e.first-is) in
+    let step : c.deref_mut-in-For-3.result.now ≡ e.step.value =
+    cc (c.deref_mut-in-For-3.ensures.value, e.step-is) in
     stopped
     (λ (u : Unit {0}). For c.args.statement.now.spot n.first.spot (bare_first n.first.form)
     (bare n.condition) n.step.spot (bare_assign n.step.assign) (bare_statement n.body))
@@ -28,9 +32,8 @@ statement-returns-in_err-for_loop-in-For-clause-named t c =
     (λ p stops.
     ap (λ f. named_statement (state_of c.args.self.now) (bare_form c.args.statement.now.spot f))
     e.is
-    ∙ for_named (state_of c.args.self.now) c.args.statement.now.spot e.first _ e.condition _
-    e.step _ e.body.value c.deref_mut-in-For.result.now _ e.first-is e.condition-is e.step-is
-    body stops)
+    ∙ for_named (state_of c.args.self.now) c.args.statement.now.spot e.first.value _ e.condition _
+    e.step.value _ e.body.value c.deref_mut-in-For.result.now _ first e.condition-is step body stops)
 
 pub statement-returns-in_ok-for_loop-in-For-clause-named :
     goal.statement-returns-in_ok-for_loop-in-For-clause-named
@@ -38,11 +41,15 @@ statement-returns-in_ok-for_loop-in-For-clause-named t c =
     let e = c.in-For in
     let body : c.deref_mut-in-For.result.now ≡ e.body.value =
     cc (c.deref_mut-in-For.ensures.value, e.body-is) in
+    let first : c.deref_mut-in-For-2.result.now ≡ e.first.value =
+    cc (c.deref_mut-in-For-2.ensures.value, e.first-is) in
+    let step : c.deref_mut-in-For-3.result.now ≡ e.step.value =
+    cc (c.deref_mut-in-For-3.ensures.value, e.step-is) in
     ap (λ f. named_statement (state_of c.args.self.now) (bare_form c.args.statement.now.spot f))
     e.is
-    ∙ for_named (state_of c.args.self.now) c.args.statement.now.spot e.first _ e.condition _
-    e.step _ e.body.value c.deref_mut-in-For.result.now _ e.first-is e.condition-is e.step-is
-    body c.in_ok-for_loop-in-For.ensures.named
+    ∙ for_named (state_of c.args.self.now) c.args.statement.now.spot e.first.value _ e.condition _
+    e.step.value _ e.body.value c.deref_mut-in-For.result.now _ first e.condition-is step body
+    c.in_ok-for_loop-in-For.ensures.named
 
 pub body-returns-in_err-statements-clause-named : goal.body-returns-in_err-statements-clause-named
 body-returns-in_err-statements-clause-named t c =

@@ -1,7 +1,7 @@
 use Rattle.std.proofs.Common.{rules, ap, ◌∙◌, sym, Ok, Some}
 use Rattle.std.specs.Map.{update}
 use Rattle.std.specs.Str.{bytes_eq}
-use Rattle.cir_resolve.specs.Scope.{counted, with_name}
+use Rattle.cir_resolve.specs.Scope.{with_name}
 use Rattle.cir_resolve.specs.Answers.{names_in, state_of}
 use Rattle.cir_resolve.proofs.Declaring.{declared_twice, declared_once, with_name_is}
 use Rattle.cir_resolve.proofs.scope.Scopes.declare.Goals as goal

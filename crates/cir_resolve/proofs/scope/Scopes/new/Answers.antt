@@ -1,5 +1,5 @@
 use Rattle.std.proofs.Common.{ap, ◌∙◌}
-use Rattle.cir_resolve.specs.Answers.{names_in, nested, state_of}
+use Rattle.cir_resolve.specs.Answers.{nested, state_of}
 use Rattle.cir_resolve.proofs.Nesting.{nested_none, same_state}
 use Rattle.cir_resolve.proofs.scope.Scopes.new.Goals as goal
 
