@@ -97,7 +97,7 @@ pub(crate) fn spots(alloc: Global, bytes: &[u8], tokens: &[Token]) -> Result<Vec
     ensures { IfOk result (λ v. v.items ≡ spots_of bytes.now tokens.now) }
 {
     let mut places = Places::new(bytes);
-    let mut spots = Vec::new(alloc);
+    let mut spots = Vec::with_capacity(alloc, tokens.len())?;
     for token in tokens {
         let spot = places.of_offset(token.offset);
         spots.push(spot)?;
