@@ -76,11 +76,11 @@ fn has_touched<A: Arrays>(arrays: &A, scope: &Scope, touched: &Touched) -> Resul
 pub fn has_task<A: Arrays>(
     arrays: &A,
     ground: &Ground,
-    scope: &mut Scope,
+    scope: &Scope,
     task: Task,
 ) -> Result<(), Lack>
     ensures { OnOk result (H.TaskHas (A.there arrays.now) (ground_of ground.now)
-        (scope_of scope.old) (task_of task.entry)) }
+        (scope_of scope.now) (task_of task.entry)) }
 {
     match task {
         Task::Gives(e) | Task::Asserts(_, e) => has(arrays, ground, scope, e),
@@ -93,12 +93,14 @@ pub fn has_task<A: Arrays>(
         Task::Executes(a, _) => {
             let touched = touched_by(ground.alloc, a)?;
             has_touched(arrays, scope, &touched)?;
-            has_inner(arrays, ground, scope, a)
+            let mut inner = scope.copied(ground.alloc)?;
+            has_inner(arrays, ground, &mut inner, a)
         }
         Task::Repeats(_, condition, step, body, _) => {
             let touched = touched_by_loop(ground.alloc, body, &step.assign)?;
             has_touched(arrays, scope, &touched)?;
-            has_turn(arrays, ground, scope, body, condition, &step.assign)?;
+            let mut inner = scope.copied(ground.alloc)?;
+            has_turn(arrays, ground, &mut inner, body, condition, &step.assign)?;
             Ok(())
         }
     }

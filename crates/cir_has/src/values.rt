@@ -12,7 +12,7 @@ use crate::names::{Arrays, has_end, has_port};
 use cir_ast::program::{Accessor, Expr, Meant};
 use cir_evaluate::operator_of;
 use cir_rules::Made;
-use wit_emit::{Front, Ground, decided, place_of, shapes_of};
+use wit_emit::{Front, Ground, decided_by, place_of, shapes_of};
 use wit_sourced::Scope;
 
 /// The key of a call.
@@ -65,7 +65,7 @@ pub fn has<A: Arrays>(arrays: &A, ground: &Ground, scope: &Scope, e: &Expr) -> R
         Expr::Unary(_, a) => has(arrays, ground, scope, a),
         Expr::Binary(op, a, b) => {
             has(arrays, ground, scope, a)?;
-            if decided(operator_of(*op), ground.known(a)?).is_some() {
+            if decided_by(ground, operator_of(*op), a)?.is_some() {
                 return Ok(());
             }
             has(arrays, ground, scope, b)

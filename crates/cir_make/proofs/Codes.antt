@@ -1,7 +1,7 @@
 -- Code that is made over what is told of a step is the step's.
 use Rattle.std.proofs.Common.{◌≡◌, ◌∙◌, true, List, [], ◌∷◌, length, map, append-nil, ap, refl}
 use Rattle.std.proofs.Common.{subst, sym}
-use Rattle.std.specs.Prelude.{Some}
+use Rattle.std.specs.Prelude.{Option, Some}
 use Rattle.std.specs.List.{AllByRecursion}
 use Rattle.cir_ast.specs.declared.program.Meant.{Meant}
 use Rattle.cir_ast.specs.Tree.{Expr, bare}
@@ -17,7 +17,7 @@ use Rattle.wit_lower.specs.Steps.{ShapesFit, SourcesFit}
 use Rattle.wit_lower.specs.Tasks.{Task, step_code, step_ground}
 use Rattle.wit_circuit.specs.Coded.{IsCodeOfStep}
 use Rattle.wit_sourced.specs.declared.loaded.CallValue.{CallValue}
-use Rattle.wit_sourced.specs.declared.loaded.ComponentShape.{ComponentShape}
+use Rattle.cir_frame.specs.declared.frame.ComponentEntry.{ComponentEntry}
 use Rattle.wit_sourced.specs.declared.sources.Sources.{Sources as CodeSources}
 use Rattle.wit_sourced.specs.Loaded.{AreTold, Calls, components_in}
 use Rattle.wit_sourced.specs.Loads.{shape_of, source_of}
@@ -42,10 +42,11 @@ pub record IsFor (keys : List Key) (f : Frame) (sources : Sources) (t : Task) : 
   pub few : AreFew sources (reads_of keys sources t)
 
 module _ (keys : List Key) (f : Frame) (step : Step) (arrays : List StepArray)
-    (components : List ComponentShape) (collected : CodeSources)
+    (components : List (Option ComponentEntry)) (collected : CodeSources)
     (are : AreArraysOf f step (components_in components) arrays)
-    (shapes : map shape_of collected.shapes ≡ map shape_by arrays)
-    (fit : SourcesFit (homes_of (map shape_of collected.shapes)) (map source_of collected.list))
+    (shapes : map shape_of collected.named.now.shapes ≡ map shape_by arrays)
+    (fit : SourcesFit (homes_of (map shape_of collected.named.now.shapes))
+    (map source_of collected.list))
     (given : AllByRecursion (λ x. input_in arrays x.name x.element ≡ Some x.input)
     (map source_of collected.list)) where
   abbrev sources : Sources

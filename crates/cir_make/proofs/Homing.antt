@@ -20,14 +20,14 @@ use Rattle.wit_lower.specs.Sources.{Input, Source, Sources, homes_from, input_of
 use Rattle.wit_lower.specs.Steps.{ShapesFit}
 use Rattle.wit_lower.proofs.Names.{same_name_is}
 use Rattle.wit_sourced.specs.Loaded.{components_in}
-use Rattle.wit_sourced.specs.Shown.{name_of}
+use Rattle.wit_sourced.specs.Shown.{sought_name}
 use Rattle.cir_emit.specs.Lowered.{HasArray, IsIn}
 use Rattle.cir_emit.specs.Sourced.{AreSized}
 use Rattle.cir_make.specs.declared.arrays.StepArray.{StepArray}
 use Rattle.cir_make.specs.declared.cells.Cells.{Cells}
 use Rattle.cir_make.specs.declared.make.Before.{Before}
 use Rattle.cir_make.specs.Arrays.{AreArrays, IsArrayOf, IsSizedBy, StandsIn, found_input, input_in}
-use Rattle.cir_make.specs.Arrays.{last_named, shape_by, shapes_from}
+use Rattle.cir_make.specs.Arrays.{last_named, shape_by}
 
 -- ---- the last of a name
 abbrev dims_found : Option StepArray → Option (List ℕ)
@@ -43,10 +43,12 @@ last_homed : (arrays : List StepArray) (s : Scope) (f : Option StepArray) (x : N
 last_homed [] s f x e = e
 last_homed (a ∷ rest) s f x e =
     last_homed rest record {
-      homes = record { name = name_of a.name; home = record { base = s.top; dims = a.dims.now } }
-          ∷ s.homes;
+      homes = record {
+        name = sought_name a.name;
+        home = record { base = s.top; dims = a.dims.now };
+      } ∷ s.homes;
       top = s.top + slots_of a.dims.now;
-    } (cond (same_name x (name_of a.name)) (Some a) f) x (at (same_name x (name_of a.name)))
+    } (cond (same_name x (sought_name a.name)) (Some a) f) x (at (same_name x (sought_name a.name)))
   where
     at : (b : Bool) → dims_homed (cond b (Some record { base = s.top; dims = a.dims.now })
         (find x s.homes)) ≡ dims_found (cond b (Some a) f)
@@ -55,7 +57,7 @@ last_homed (a ∷ rest) s f x e =
 
 record IsLast (P : StepArray → Type 0) (x : Name) (a : StepArray) : Type 0 where
   pub told : P a
-  pub named : x ≡ name_of a.name
+  pub named : x ≡ sought_name a.name
 
 last_told : (P : StepArray → Type 0) (arrays : List StepArray) (f : Option StepArray) (x : Name)
     (a : StepArray) → AllByRecursion P arrays
@@ -63,15 +65,15 @@ last_told : (P : StepArray → Type 0) (arrays : List StepArray) (f : Option Ste
     → last_named x arrays f ≡ Some a → IsLast P x a
 last_told P [] f x a all first e = first a e
 last_told P (b ∷ rest) f x a all first e =
-    last_told P rest (cond (same_name x (name_of b.name)) (Some b) f) x a all.1
-    (λ y h. at (same_name x (name_of b.name)) refl y h) e
+    last_told P rest (cond (same_name x (sought_name b.name)) (Some b) f) x a all.1
+    (λ y h. at (same_name x (sought_name b.name)) refl y h) e
   where
-    at : (t : Bool) → same_name x (name_of b.name) ≡ t → (y : StepArray)
+    at : (t : Bool) → same_name x (sought_name b.name) ≡ t → (y : StepArray)
         → cond t (Some b) f ≡ Some y → IsLast P x y
     at true et y h =
         let same : b ≡ y = cc in
         subst (IsLast P x) same
-        record { told = all.0; named = same_name_is x (name_of b.name) et }
+        record { told = all.0; named = same_name_is x (sought_name b.name) et }
     at false et y h = first y h
 
 -- ---- what the sources have of an element
@@ -140,29 +142,6 @@ abbrev dims_at : Option Declared → List ℕ
 dims_at None = []
 dims_at (Some c) = c.dims.items
 
--- no number below the first has a shape
-sized_none : (cs : List (Option Declared)) (n m : ℕ) → suc m ≤ n
-    → components_in (shapes_from n cs) m ≡ []
-sized_none [] n m h = refl
-sized_none (None ∷ rest) n m h = sized_none rest (suc n) m (omega (arith, h))
-sized_none (Some c ∷ rest) n m h =
-    ap (λ b. cond b c.dims.items (components_in (shapes_from (suc n) rest) m))
-    (ne_eqb n m (λ e. absurd (omega (arith, e, h))))
-    ∙ sized_none rest (suc n) m (omega (arith, h))
-
-sized_at : (cs : List (Option Declared)) (n k m : ℕ) → m ≡ n + k
-    → components_in (shapes_from n cs) m ≡ dims_at (entry_at cs k)
-sized_at [] n k m e = refl
-sized_at (None ∷ rest) n zero m e = sized_none rest (suc n) m (omega (arith, e))
-sized_at (None ∷ rest) n (suc k) m e = sized_at rest (suc n) k m (omega (arith, e))
-sized_at (Some c ∷ rest) n zero m e =
-    ap (λ b. cond b c.dims.items (components_in (shapes_from (suc n) rest) m))
-    (eq-eqb n m (omega (arith, e)))
-sized_at (Some c ∷ rest) n (suc k) m e =
-    ap (λ b. cond b c.dims.items (components_in (shapes_from (suc n) rest) m))
-    (ne_eqb n m (λ h. absurd (omega (arith, e, h))))
-    ∙ sized_at rest (suc n) k m (omega (arith, e))
-
 shown_at : (cs : List (Option Declared)) (n : ℕ)
     → entry_at (map (option_map component_of) cs) n ≡ option_map component_of (entry_at cs n)
 shown_at [] n = refl
@@ -170,19 +149,23 @@ shown_at (None ∷ rest) zero = refl
 shown_at (Some c ∷ rest) zero = refl
 shown_at (o ∷ rest) (suc n) = shown_at rest n
 
-pub frame_sized : (f : Frame) → IsSizedBy f (components_in (shapes_from 0 f.components.items))
+components_at : (cs : List (Option Declared)) (n : ℕ)
+    → components_in cs n ≡ dims_at (entry_at cs n)
+components_at [] n = refl
+components_at (None ∷ rest) zero = refl
+components_at (Some c ∷ rest) zero = refl
+components_at (o ∷ rest) (suc n) = components_at rest n
+
+pub frame_sized : (f : Frame) → IsSizedBy f (components_in f.components.items)
 frame_sized f = record {
   there = λ n c e.
-      all n ∙ some (entry_at f.components.items n) c
+      components_at f.components.items n ∙ some (entry_at f.components.items n) c
       (sym (shown_at f.components.items n) ∙ e);
   none = λ n e.
-      all n ∙ none (entry_at f.components.items n) (sym (shown_at f.components.items n) ∙ e);
+      components_at f.components.items n ∙ none (entry_at f.components.items n)
+      (sym (shown_at f.components.items n) ∙ e);
 }
   where
-    all : (n : ℕ) → components_in (shapes_from 0 f.components.items) n
-        ≡ dims_at (entry_at f.components.items n)
-    all n = sized_at f.components.items 0 n n (omega arith)
-
     some : (o : Option Declared) (c : ComponentEntry) → option_map component_of o ≡ Some c
         → dims_at o ≡ c.dims
     some None c e = cc

@@ -1,5 +1,5 @@
 -- The arrays of a step, as they stand in the frame and the cells.
-use Rattle.std.specs.Prelude.{◌≡◌, ◌==◌, ℕ, suc, Bool, true, false, nat_lt, if◌then◌else◌, List, []}
+use Rattle.std.specs.Prelude.{◌≡◌, ◌==◌, ℕ, Bool, true, false, nat_lt, if◌then◌else◌, List, []}
 use Rattle.std.specs.Prelude.{◌∷◌, length, map, Option, Some, None, Ok, not, slice_get, option_map}
 use Rattle.std.specs.Prelude.{is_some}
 use Rattle.std.specs.List.{AllByRecursion}
@@ -10,7 +10,6 @@ use Rattle.cir_meaning.specs.Values.{Value}
 use Rattle.cir_meaning.specs.Frame.{ComponentEntry, Part, State, entry_at, is_inner}
 use Rattle.cir_meaning.specs.Reading.{find_signal}
 use Rattle.cir_meaning.specs.Run.{Wires, RunPart, component_signal, entry_wires, found_port}
-use Rattle.cir_frame.specs.declared.frame.ComponentEntry.{ComponentEntry as Declared}
 use Rattle.cir_frame.specs.declared.frame.Frame.{Frame}
 use Rattle.cir_frame.specs.Shown.{component_of, part_of, signals_of}
 use Rattle.cir_steps.specs.Step as S
@@ -21,8 +20,7 @@ use Rattle.cir_emit.specs.Sourced.{AreSized, IsThere}
 use Rattle.wit_lower.specs.Homes.{Name, Variable, Signal, Port, same_name, slots_of}
 use Rattle.wit_lower.specs.Sources.{Input, Shape}
 use Rattle.wit_lower.specs.Steps.{IsBelow}
-use Rattle.wit_sourced.specs.Shown.{name_of}
-use Rattle.wit_sourced.specs.declared.loaded.ComponentShape.{ComponentShape}
+use Rattle.wit_sourced.specs.Shown.{sought_name}
 use Rattle.cir_make.specs.declared.arrays.Stands.{Stands}
 use Rattle.cir_make.specs.declared.arrays.Stands.TheVariants as stands
 use Rattle.cir_make.specs.declared.arrays.StepArray.{StepArray}
@@ -54,9 +52,9 @@ pub record IsArray (array : Shaped (Option Input)) (a : StepArray) : Type 0 wher
 -- for the one that its name is in the step
 pub record IsArrayOf (step : S.Step) (components : ℕ → List ℕ) (a : StepArray) : Type 0 where
   pub array : Shaped (Option Input)
-  pub is : IsIn step components (name_of a.name) array
+  pub is : IsIn step components (sought_name a.name) array
   pub stands : IsArray array a
-  pub below : IsBelow (length step.variables) (name_of a.name)
+  pub below : IsBelow (length step.variables) (sought_name a.name)
 
 -- a variable with where its elements come from
 abbrev pub sourced_by : Datum → List S.Source → Shaped (Option Input)
@@ -100,7 +98,7 @@ pub record IsSizedBy (f : Frame) (components : ℕ → List ℕ) : Type 0 where
 -- the input or output of a component, as the meaning has it
 pub record IsPortOf (n element : ℕ) (name : List ℕ) (p : Part) (wires : Wires) (a : StepArray)
     : Type 0 where
-  pub named : name_of a.name ≡ Port n element name
+  pub named : sought_name a.name ≡ Port n element name
   pub wired : Shaped (Option ℕ)
   pub found : found_port wires
       (find_signal (λ e. not (is_inner e.direction)) name 0 p.signals) ≡ Ok wired
@@ -110,7 +108,7 @@ pub record IsPortOf (n element : ℕ) (name : List ℕ) (p : Part) (wires : Wire
 abbrev pub last_named : Name → List StepArray → Option StepArray → Option StepArray
 last_named x [] found = found
 last_named x (a ∷ rest) found =
-    last_named x rest (if same_name x (name_of a.name) then Some a else found)
+    last_named x rest (if same_name x (sought_name a.name) then Some a else found)
 
 abbrev pub found_input : Option StepArray → ℕ → Option Input
 found_input None k = None
@@ -121,14 +119,7 @@ abbrev pub input_in : List StepArray → Name → ℕ → Option Input
 input_in arrays x k = found_input (last_named x arrays None) k
 
 abbrev pub shape_by : StepArray → Shape
-shape_by a = record { name = name_of a.name; dims = a.dims.now }
-
--- the arrays of components, which are numbered from n on
-abbrev pub shapes_from : ℕ → List (Option Declared) → List ComponentShape
-shapes_from n [] = []
-shapes_from n (None ∷ rest) = shapes_from (suc n) rest
-shapes_from n (Some c ∷ rest) =
-    record { component = n; dims = c.dims.items } ∷ shapes_from (suc n) rest
+shape_by a = record { name = sought_name a.name; dims = a.dims.now }
 
 -- all are arrays of each step that stands there
 abbrev pub AreArrays : Frame → Cells → List Before → List StepArray → Type 0

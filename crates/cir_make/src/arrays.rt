@@ -13,7 +13,7 @@ ghost use Rattle.cir_meaning.specs.Values.{Value as AnyValue};
 ghost use Rattle.cir_steps.specs.RunSteps.{shaped_map};
 ghost use Rattle.cir_steps.specs.Step as S;
 ghost use Rattle.wit_sourced.specs.Loads.{input_of};
-ghost use Rattle.wit_sourced.specs.declared.homes.Name.TheVariants as name;
+ghost use Rattle.wit_sourced.specs.declared.homes.Sought.TheVariants as name;
 ghost use Rattle.cir_make.specs.Arrays.{IsArray, IsArrayOf, StandsIn, input_at, sourced_by};
 ghost use Rattle.cir_make.specs.Arrays.{stored_at, value_behind};
 ghost use Rattle.cir_make.specs.Cells.{cell_in, source_by};
@@ -26,7 +26,7 @@ use cir_frame::{Frame, SignalEntry};
 use cir_values::Value;
 use gold_field::Gold;
 use std::alloc::AllocError;
-use wit_sourced::{Input, Name};
+use wit_sourced::{Input, Sought};
 
 /// Where the elements of an array have their numbers from.
 #[derive(Clone, Copy)]
@@ -40,7 +40,7 @@ pub enum Stands<'a> {
 /// An array that a step names.
 #[derive(Drop)]
 pub struct StepArray<'a> {
-    pub name: Name,
+    pub name: Sought<'a>,
     pub dims: &'a [u64],
     pub stands: Stands<'a>,
 }
@@ -159,7 +159,7 @@ fn stored<'a>(n: u32, value: &'a Datum, standing: &'a VariableCells) -> Option<S
         return None;
     }
     Some(StepArray {
-        name: Name::Variable(n),
+        name: Sought::Variable(n),
         dims: value.dims(),
         stands: Stands::Stored(value, standing.sources.as_slice()),
     })
@@ -175,14 +175,14 @@ pub fn signal_array<'a>(frame: &'a Frame, cells: &'a Cells, n: u32) -> Option<St
         return None;
     };
     match at(cells.signals.as_slice(), n as usize) {
-        Some(rows) => wired(Name::Signal(n), entry, rows.as_slice()),
+        Some(rows) => wired(Sought::Signal(n), entry, rows.as_slice()),
         None => None,
     }
 }
 
 /// A signal with its cells, unless it is too large.
-pub fn wired<'a>(name: Name, entry: &'a SignalEntry, rows: &'a [Run]) -> Option<StepArray<'a>>
-    ensures name { IfSome result (λ a. a.name ≡ name) }
+pub fn wired<'a>(name: Sought<'a>, entry: &'a SignalEntry, rows: &'a [Run]) -> Option<StepArray<'a>>
+    ensures name { IfSome result (λ a. a.name ≡ name.entry) }
     ensures array { (wires : Wires) (n : ℕ) → ((k : ℕ) → wires n k ≡ cell_in rows.now k)
         → IfSome result (IsArray (shaped_map cell_input (wires_of wires n
         (signal_of entry.now)))) }

@@ -67,7 +67,7 @@ fn add_member<'a>(
     alloc: Global,
     standing: &Standing<'a>,
     arrays: &mut Vec<StepArray<'a>>,
-    member: Member,
+    member: Member<'a>,
     values: &[CallValue],
 ) -> Result<(), AllocError>
     ensures { AreArrays standing.now.frame.now standing.now.cells.now standing.now.befores.now
@@ -78,13 +78,12 @@ fn add_member<'a>(
         return Ok(());
     };
     let array = port_array(
-        alloc,
         standing.frame,
         standing.cells,
         member.component,
         element,
         member.name,
-    )?;
+    );
     add(arrays, array)
 }
 
@@ -122,7 +121,7 @@ fn index_at(values: &[CallValue], at: usize) -> Option<u64> {
 pub fn arrays_of<'a>(
     alloc: Global,
     standing: &Standing<'a>,
-    naming: &Naming,
+    naming: &Naming<'a>,
     values: &[CallValue],
 ) -> Result<Vec<StepArray<'a>>, AllocError>
     ensures { IfOk result (λ arrays. AreArrays standing.now.frame.now standing.now.cells.now

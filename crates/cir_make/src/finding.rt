@@ -1,14 +1,11 @@
-//! The arrays of a step by their names, and the arrays of components.
-ghost use Rattle.std.specs.Prelude.{◌≡◌, None, IfOk};
+//! The arrays of a step by their names.
+ghost use Rattle.std.specs.Prelude.{◌≡◌, None};
 ghost use Rattle.std.specs.Option.{option_copied};
 ghost use Rattle.wit_sourced.specs.Shown.{sought_name};
-ghost use Rattle.cir_make.specs.Arrays.{last_named, shapes_from};
+ghost use Rattle.cir_make.specs.Arrays.{last_named};
 
 use crate::arrays::StepArray;
-use cir_frame::Frame;
-use items::Items;
-use std::alloc::{AllocError, Global};
-use wit_sourced::{ComponentShape, Sought};
+use wit_sourced::Sought;
 
 /// The array of this name.
 pub fn find<'s, 'a>(arrays: &'s [StepArray<'a>], name: Sought) -> Option<&'s StepArray<'a>>
@@ -21,21 +18,4 @@ pub fn find<'s, 'a>(arrays: &'s [StepArray<'a>], name: Sought) -> Option<&'s Ste
         }
     }
     found
-}
-
-/// The dimensions of the body's components.
-pub fn component_shapes(alloc: Global, frame: &Frame) -> Result<Vec<ComponentShape>, AllocError>
-    ensures { IfOk result (λ shapes. shapes.items
-        ≡ shapes_from 0 frame.now.components.items) }
-{
-    let components = frame.components.as_slice();
-    let mut shapes = Vec::new(alloc);
-    for n in 0..components.len() {
-        if let Some(entry) = &components[n] {
-            let component = u32::try_from(n).map_err(|_| AllocError)?;
-            let dims = Items::from_slice(alloc, entry.dims.as_slice())?;
-            shapes.push(ComponentShape { component, dims })?;
-        }
-    }
-    Ok(shapes)
 }

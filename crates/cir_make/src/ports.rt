@@ -1,12 +1,12 @@
 //! The signals of components that a step names.
-ghost use Rattle.std.specs.Prelude.{◌≡◌, ℕ, List, Some, None, IfNone, IfOk, IfSome, map, not};
+ghost use Rattle.std.specs.Prelude.{◌≡◌, ℕ, List, Some, None, IfNone, IfSome, map, not};
 ghost use Rattle.std.specs.Prelude.{option_map};
 ghost use Rattle.cir_frame.specs.Shown.{component_of, part_of, signal_of, signals_of};
 ghost use Rattle.cir_meaning.specs.Frame.{entry_at, is_inner};
 ghost use Rattle.cir_meaning.specs.Reading.{find_signal};
 ghost use Rattle.cir_meaning.specs.Run.{Wires};
 ghost use Rattle.cir_steps.specs.Step as S;
-ghost use Rattle.wit_sourced.specs.declared.homes.Name.TheVariants as name;
+ghost use Rattle.wit_sourced.specs.declared.homes.Sought.TheVariants as name;
 ghost use Rattle.cir_make.specs.Arrays.{IsArrayOf, IsPortOf, IsSizedBy, StandsIn, is_part};
 ghost use Rattle.cir_make.specs.Arrays.{is_there, part_at};
 ghost use Rattle.wit_lower.specs.Homes.{Port};
@@ -16,36 +16,31 @@ ghost use Rattle.cir_make.specs.Shows.{SameWires};
 use crate::arrays::{StepArray, at, wired};
 use crate::cells::{Cells, PartCells};
 use crate::make::Before;
-use cir_ast::Text;
 use cir_frame::{Frame, Part, SignalEntry};
-use items::Items;
-use std::alloc::{AllocError, Global};
-use wit_sourced::Name;
+use wit_sourced::Sought;
 
 /// The signal of this name of an element of a component.
 pub fn port_array<'a>(
-    alloc: Global,
     frame: &'a Frame,
     cells: &'a Cells,
     n: u32,
     element: u64,
-    name: &[u8],
-) -> Result<Option<StepArray<'a>>, AllocError>
+    name: &'a [u8],
+) -> Option<StepArray<'a>>
     ensures { (step : S.Step) (components : ℕ → List ℕ) (befores : List Before)
         → StandsIn frame.now cells.now befores step → IsSizedBy frame.now components
-        → IfOk result (λ a. IfSome a (IsArrayOf step components)) }
+        → IfSome result (IsArrayOf step components) }
 {
     let Some(entry) = frame.component(n) else {
-        return Ok(None);
+        return None;
     };
     let Some(j) = entry.part(element) else {
-        return Ok(None);
+        return None;
     };
     let (Some(part), Some(ports)) = (frame.part(j), at(cells.parts.as_slice(), j as usize)) else {
-        return Ok(None);
+        return None;
     };
-    let name = Items::from_slice(alloc, name)?;
-    Ok(part_array(n, element, name, part, ports))
+    part_array(n, element, name, part, ports)
 }
 
 /// The part that an element of a component is, once it is created.
@@ -83,16 +78,16 @@ pub fn has_port(frame: &Frame, n: u32, element: u64, name: &[u8]) -> bool
 fn part_array<'a>(
     n: u32,
     element: u64,
-    name: Text,
+    name: &'a [u8],
     part: &'a Part,
     ports: &'a PartCells,
 ) -> Option<StepArray<'a>>
     ensures { (wires : Wires) → SameWires wires (wires_by ports.now.ports.items)
-        → IfSome result (IsPortOf n element name (part_of part.now) wires) }
+        → IfSome result (IsPortOf n element name.now (part_of part.now) wires) }
 {
-    let (m, entry) = port(name.as_slice(), part.signals.as_slice())?;
+    let (m, entry) = port(name, part.signals.as_slice())?;
     match at(ports.ports.as_slice(), m) {
-        Some(rows) => wired(Name::Port(n, element, name), entry, rows.as_slice()),
+        Some(rows) => wired(Sought::Port(n, element, name), entry, rows.as_slice()),
         None => None,
     }
 }

@@ -19,18 +19,15 @@ use cir_rules::CallTable;
 use items::Items;
 use std::alloc::{AllocError, Global};
 use wit_code::Step;
-use wit_sourced::{CallValue, ComponentShape, Input, Shape, Sought};
+use wit_sourced::{Input, Named, Shape, Sought};
 use wit_sources::{Collected, Inputs, sources_of};
-use wit_statements::{Task, emit_step};
+use wit_statements::{StepTask, emit_step};
 
-/// What is told of the names of a step: its arrays, the dimensions of the body's components, and
-/// the calls that stand in it, with their values where they have one already.
+/// What is told of the names of a step: its arrays, and which it may have.
 #[derive(Clone, Copy)]
 pub struct Told<'a> {
     pub frame: &'a Frame,
     pub arrays: &'a [StepArray<'a>],
-    pub components: &'a [ComponentShape],
-    pub calls: &'a [CallValue<'a>],
 }
 
 impl Inputs for Told<'_> {
@@ -56,45 +53,65 @@ impl Arrays for Told<'_> {
     }
 }
 
-fn shapes(alloc: Global, arrays: &[StepArray]) -> Result<Items<Shape>, AllocError>
+fn shapes<'a>(alloc: Global, arrays: &'a [StepArray<'a>]) -> Result<Items<Shape<'a>>, AllocError>
     ensures { IfOk result (λ shapes. map shape_of shapes ≡ map shape_by arrays.now) }
 {
-    let mut shapes = Items::new(alloc);
+    let mut shapes = Vec::with_capacity(alloc, arrays.len())?;
     for array in arrays {
-        let name = array.name.copied(alloc)?;
-        let dims = Items::from_slice(alloc, array.dims)?;
-        shapes.push(Shape { name, dims })?;
+        shapes.push(Shape {
+            name: array.name,
+            dims: array.dims,
+        })?;
     }
-    Ok(shapes)
+    Ok(Items::of(shapes))
 }
 
-/// The code of a task, which writes these cells. Calls that it makes get their keys.
-pub fn code_of(
+/// The code of a step's task over what it names.
+fn code_named<'x>(
     alloc: Global,
-    told: &Told,
-    task: Task,
+    told: &Told<'x>,
+    named: &Named<'x>,
+    step: &StepTask<'x>,
     targets: Items<u32>,
     keys: &mut CallTable,
 ) -> Result<Step, AllocError>
     ensures grows { OnOk result (Grows (map made_of keys.old.calls.items)
         (map made_of keys.new.calls.items)) }
-    ensures code { (step : S.Step) → AreTold step.names.known told.now.calls.now
-        → AreArraysOf told.now.frame.now step (components_in told.now.components.now)
-        told.now.arrays.now
-        → step_task step ≡ task_of task.entry → step.targets ≡ targets
-        → IfOk result (IsCodeOfStep (map made_of keys.new.calls.items) step) }
+    ensures code { (of : S.Step) → AreTold of.names.known step.now.calls.now
+        → AreArraysOf told.now.frame.now of (components_in step.now.components.now)
+        told.now.arrays.now → map shape_of named.now.shapes ≡ map shape_by told.now.arrays.now
+        → step_task of ≡ task_of step.now.task → of.targets ≡ targets
+        → IfOk result (IsCodeOfStep (map made_of keys.new.calls.items) of) }
 {
-    let shapes = shapes(alloc, told.arrays)?;
-    let found = sources_of(alloc, shapes, told.components, told.calls, task, told)?;
+    let found = sources_of(alloc, &*named, &*step, told)?;
     let Collected { sources, is_whole } = found;
-    let calls = told.calls;
-    if !is_whole || !add_keys(alloc, keys, told.components, calls, &sources, told, task)? {
+    if !is_whole || !add_keys(alloc, keys, &*step, &sources, told)? {
         return Err(AllocError);
     }
-    let (code, reads) = emit_step(alloc, keys, told.components, calls, &sources, task)?;
+    let (code, reads) = emit_step(alloc, &*keys, &*step, &sources)?;
     Ok(Step {
         code,
         reads,
         writes: targets,
     })
+}
+
+/// The code of a step's task, which writes these cells. Calls that it makes get their keys.
+pub fn code_of<'x>(
+    alloc: Global,
+    told: &Told<'x>,
+    step: &StepTask<'x>,
+    targets: Items<u32>,
+    keys: &mut CallTable,
+) -> Result<Step, AllocError>
+    ensures grows { OnOk result (Grows (map made_of keys.old.calls.items)
+        (map made_of keys.new.calls.items)) }
+    ensures code { (of : S.Step) → AreTold of.names.known step.now.calls.now
+        → AreArraysOf told.now.frame.now of (components_in step.now.components.now)
+        told.now.arrays.now
+        → step_task of ≡ task_of step.now.task → of.targets ≡ targets
+        → IfOk result (IsCodeOfStep (map made_of keys.new.calls.items) of) }
+{
+    let named = Named::of(alloc, shapes(alloc, told.arrays)?)?;
+    code_named(alloc, told, &named, step, targets, keys)
 }

@@ -18,7 +18,6 @@ ghost use Rattle.cir_make.specs.Steps.{IsKnownAt, elements_of, work_of};
 
 use crate::calls::call_values;
 use crate::collecting::{Standing, arrays_of};
-use crate::finding::component_shapes;
 use crate::make::{Doing, Elements};
 use crate::told::{Told, code_of};
 use cir_arrays::{Datum, Fault};
@@ -32,7 +31,7 @@ use items::Items;
 use std::alloc::{AllocError, Global};
 use wit_code::Step;
 use wit_named::names_of;
-use wit_statements::{Element, Task, asked_calls};
+use wit_statements::{Element, StepTask, Task, asked_calls};
 
 /// The elements at these places of a variable.
 fn elements_at(alloc: Global, variable: u32, places: &[u64]) -> Result<Vec<Element>, AllocError>
@@ -114,15 +113,14 @@ fn code_at<C: Fn(Spot, u32, Vec<Datum>, &mut World) -> Result<Datum, Fault>>(
     let calls = call_values(&dark, asked.as_slice(), frame, world)?;
     let naming = names_of(alloc, task)?;
     let indices = call_values(&dark, naming.indices.as_slice(), frame, world)?;
-    let arrays = arrays_of(alloc, standing, &naming, indices.as_slice())?;
-    let components = component_shapes(alloc, frame)?;
+    let arrays = arrays_of(alloc, &*standing, &naming, indices.as_slice())?;
     let told = Told {
         frame,
         arrays: arrays.as_slice(),
-        components: components.as_slice(),
-        calls: calls.as_slice(),
     };
-    code_of(alloc, &told, task, targets, keys)
+    let components = frame.components.as_slice();
+    let step = StepTask::of(alloc, task, components, calls.as_slice())?;
+    code_of(alloc, &told, &step, targets, keys)
 }
 
 /// The code of what a step does.

@@ -10,11 +10,12 @@ ghost use Rattle.wit_sourced.specs.Loaded.{called_of};
 
 use cir_arrays::all_known;
 use cir_ast::program::{Expr, Meant};
+use cir_frame::ComponentEntry;
 use cir_rules::CallTable;
 use gold_field::Gold;
 use std::alloc::{AllocError, Global};
 use wit_sourced::{
-    Called, ComponentShape, Home, Loaded, Scope, Sought, is_inside, number_of, offset,
+    Called, Home, Loaded, Scope, Sought, component_dims, is_inside, number_of, offset,
 };
 
 /// A number as it is written.
@@ -43,7 +44,7 @@ pub struct Ground<'a> {
     /// The procedures, by their function and the shapes of its arguments.
     pub keys: &'a CallTable,
     pub knowing: Knowing<'a>,
-    pub components: &'a [ComponentShape],
+    pub components: &'a [Option<ComponentEntry>],
 }
 
 /// What stands in front of indices: a name; the home of a port that is found already; or nothing,
@@ -80,12 +81,7 @@ impl Ground<'_> {
     fn dims_of(&self, component: u32) -> &[u64]
         ensures { result.now ≡ (ground_of self.now).components component }
     {
-        for shape in self.components {
-            if shape.component == component {
-                return shape.dims.as_slice();
-            }
-        }
-        &[]
+        component_dims(self.components, component)
     }
 
     /// The dimensions of a component.

@@ -16,4 +16,4 @@ pub use keys::place_of;
 pub use pieces::zeros;
 pub use reading::write;
 pub use shapes::{shapes_of, size_of};
-pub use values::{decided, emit, emit_place, emit_right};
+pub use values::{decided_by, emit, emit_place, emit_right};

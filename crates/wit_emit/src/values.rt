@@ -1,5 +1,5 @@
 //! The code of expressions. The numbers of a value come to the slots from `top` on, which are free.
-ghost use Rattle.std.specs.Prelude.{◌≡◌, [], ◌++◌, length, OnOk};
+ghost use Rattle.std.specs.Prelude.{◌≡◌, [], ◌++◌, length, IfOk, OnOk};
 ghost use Rattle.cir_ast.specs.Tree.{bare, bare_exprs, as_accessors};
 ghost use Rattle.wit_lower.specs.Homes as L;
 ghost use Rattle.wit_lower.specs.Pieces as P;
@@ -24,7 +24,7 @@ use wit_code::Op;
 use wit_sourced::{Scope, behind, op_of};
 
 /// What a known left operand decides.
-pub fn decided(op: Operator, left: Option<u64>) -> Option<Gold>
+fn decided(op: Operator, left: Option<u64>) -> Option<Gold>
     ensures { result ≡ P.decided (operator_by op) left }
 {
     match (op, left) {
@@ -34,6 +34,20 @@ pub fn decided(op: Operator, left: Option<u64>) -> Option<Gold>
         (Operator::Or, Some(_)) => Some(Gold::ONE),
         (Operator::Or, None) => None,
         (Operator::Strict(_), _) => None,
+    }
+}
+
+/// What the left operand decides; only a lazy operator asks for its number.
+pub fn decided_by(ground: &Ground, op: Operator, left: &Expr) -> Result<Option<Gold>, AllocError>
+    ensures { IfOk result (λ n. n
+        ≡ P.decided (operator_by op) ((ground_of ground.now).known (bare left.now))) }
+{
+    match op {
+        Operator::Strict(_) => Ok(None),
+        Operator::And | Operator::Or => {
+            let number = ground.known(left)?;
+            Ok(decided(op, number))
+        }
     }
 }
 
@@ -78,8 +92,8 @@ pub fn emit(
         Expr::Binary(op, a, b) => {
             emit(ground, scope, code, top, a)?;
             let op = operator_of(*op);
-            let left = ground.known(a)?;
-            emit_right(ground, scope, code, top, decided(op, left), op, b)?;
+            let known = decided_by(ground, op, a)?;
+            emit_right(ground, scope, code, top, known, op, b)?;
             Ok(())
         }
         Expr::Choice(c, a, b) => {

@@ -8,7 +8,7 @@ use Rattle.wit_sourced.specs.declared.homes.Scope.{Scope}
 use Rattle.wit_sourced.specs.Shown.{placed_of, homes_above, homes_of, scope_of}
 use Rattle.wit_sourced.specs.Behind.{IsBehind, IsLeft}
 
-newest : (homes : L.Homes) (ps : List Placed) (p : Placed)
+pub newest : (homes : L.Homes) (ps : List Placed) (p : Placed)
     → homes_above homes (ps ++ p ∷ []) ≡ placed_of p ∷ homes_above homes ps
 newest homes [] p = refl
 newest homes (x ∷ ps) p = newest (placed_of x ∷ homes) ps p

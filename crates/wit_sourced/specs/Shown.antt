@@ -1,18 +1,11 @@
 -- What the code's own types stand for.
 use Rattle.std.specs.Prelude.{if◌then◌else◌, List, [], ◌∷◌, Option, Some}
 use Rattle.wit_lower.specs.Homes as L
-use Rattle.wit_sourced.specs.declared.homes.Name.{Name}
-use Rattle.wit_sourced.specs.declared.homes.Name.TheVariants as name
 use Rattle.wit_sourced.specs.declared.homes.Sought.{Sought}
 use Rattle.wit_sourced.specs.declared.homes.Sought.TheVariants as sought
 use Rattle.wit_sourced.specs.declared.homes.Home.{Home}
 use Rattle.wit_sourced.specs.declared.homes.Placed.{Placed}
 use Rattle.wit_sourced.specs.declared.homes.Scope.{Scope}
-
-abbrev pub name_of : Name → L.Name
-name_of (name.Variable n) = L.Variable n
-name_of (name.Signal n) = L.Signal n
-name_of (name.Port n j text) = L.Port n j text
 
 abbrev pub sought_name : Sought → L.Name
 sought_name (sought.Variable n) = L.Variable n
@@ -23,7 +16,7 @@ abbrev pub home_of : Home → L.Home
 home_of h = record { base = h.base; dims = h.dims }
 
 abbrev pub placed_of : Placed → L.Placed
-placed_of p = record { name = name_of p.name; home = home_of p.home }
+placed_of p = record { name = sought_name p.name; home = home_of p.home }
 
 -- the code's list has the newest last
 abbrev pub homes_above : L.Homes → List Placed → L.Homes
@@ -40,4 +33,4 @@ scope_of s = record { homes = homes_of s.homes.items; top = s.top }
 abbrev pub found_from : Option L.Home → L.Name → List Placed → Option L.Home
 found_from found x [] = found
 found_from found x (p ∷ ps) =
-    found_from (if L.same_name x (name_of p.name) then Some (home_of p.home) else found) x ps
+    found_from (if L.same_name x (sought_name p.name) then Some (home_of p.home) else found) x ps

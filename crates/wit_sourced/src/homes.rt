@@ -3,23 +3,14 @@ ghost use Rattle.std.specs.Prelude.{◌≡◌, option_map, take, IfOk, OnOk};
 ghost use Rattle.std.specs.Option.{option_copied};
 ghost use Rattle.wit_lower.specs.Homes as L;
 ghost use Rattle.wit_sourced.specs.Behind.{IsBehind, with_home};
-ghost use Rattle.wit_sourced.specs.Shown.{name_of, sought_name, home_of, homes_of, scope_of};
+ghost use Rattle.wit_sourced.specs.Shown.{sought_name, home_of, homes_of, scope_of};
 
 use crate::slots::behind;
 use cir_arrays::made_elements;
-use cir_token::Text;
 use items::Items;
 use std::alloc::{AllocError, Global};
 
-/// What has a home: a variable, a signal, or a signal of an element of a component.
-#[derive(Drop)]
-pub enum Name {
-    Variable(u32),
-    Signal(u32),
-    Port(u32, u64, Text),
-}
-
-/// A name that is looked for.
+/// The name of what has a home: a variable, a signal, or a signal of an element of a component.
 #[derive(Clone, Copy)]
 pub enum Sought<'a> {
     Variable(u32),
@@ -35,58 +26,33 @@ pub struct Home {
 }
 
 #[derive(Drop)]
-pub struct Placed {
-    pub name: Name,
+pub struct Placed<'a> {
+    pub name: Sought<'a>,
     pub home: Home,
 }
 
 /// What can be named, the newest last, and the first of the slots behind it, which are free.
 #[derive(Drop)]
-pub struct Scope {
-    pub homes: Vec<Placed>,
+pub struct Scope<'a> {
+    pub homes: Vec<Placed<'a>>,
     pub top: u32,
 }
 
-impl Name {
-    pub fn is(&self, sought: Sought) -> bool
-        ensures { result ≡ L.same_name (sought_name sought.entry) (name_of self.now) }
+impl Sought<'_> {
+    /// Whether this is the name that is looked for.
+    pub fn is(self, sought: Sought) -> bool
+        ensures { result ≡ L.same_name (sought_name sought.entry) (sought_name self.entry) }
     {
         match (sought, self) {
-            (Sought::Variable(n), Name::Variable(m)) => n == *m,
-            (Sought::Signal(n), Name::Signal(m)) => n == *m,
-            (Sought::Port(n, j, a), Name::Port(m, k, b)) => {
-                n == *m && j == *k && a == b.as_slice()
-            }
+            (Sought::Variable(n), Sought::Variable(m)) => n == m,
+            (Sought::Signal(n), Sought::Signal(m)) => n == m,
+            (Sought::Port(n, j, a), Sought::Port(m, k, b)) => n == m && j == k && a == b,
             _ => false,
-        }
-    }
-
-    /// The name as it is looked for.
-    pub fn sought(&self) -> Sought
-        ensures { sought_name result ≡ name_of self.now }
-    {
-        match self {
-            Name::Variable(n) => Sought::Variable(*n),
-            Name::Signal(n) => Sought::Signal(*n),
-            Name::Port(n, element, name) => Sought::Port(*n, *element, name.as_slice()),
-        }
-    }
-
-    pub fn copied(&self, alloc: Global) -> Result<Name, AllocError>
-        ensures { IfOk result (λ name. name_of name ≡ name_of self.now) }
-    {
-        match self {
-            Name::Variable(n) => Ok(Name::Variable(*n)),
-            Name::Signal(n) => Ok(Name::Signal(*n)),
-            Name::Port(n, element, name) => {
-                let name = Items::from_slice(alloc, name.as_slice())?;
-                Ok(Name::Port(*n, *element, name))
-            }
         }
     }
 }
 
-impl Scope {
+impl<'a> Scope<'a> {
     /// The home of a name.
     pub fn find(&self, sought: Sought) -> Option<&Home>
         ensures { option_map home_of (option_copied result)
@@ -102,9 +68,9 @@ impl Scope {
     }
 
     /// A new home is the next slots.
-    pub fn place(&mut self, name: Name, dims: Items<u64>) -> Result<(), AllocError>
+    pub fn place(&mut self, name: Sought<'a>, dims: Items<u64>) -> Result<(), AllocError>
         ensures { OnOk result (IsBehind self.old self.new
-            (with_home (name_of name) dims (scope_of self.old))) }
+            (with_home (sought_name name.entry) dims (scope_of self.old))) }
     {
         let base = self.top;
         let top = behind(base, made_elements(dims.as_slice()))?;
@@ -119,8 +85,30 @@ impl Scope {
         ensures { OnOk result (IsBehind self.old self.new
             (L.with_variable n dims (scope_of self.old))) }
     {
-        self.place(Name::Variable(n), dims)?;
+        self.place(Sought::Variable(n), dims)?;
         Ok(())
+    }
+
+    /// The same homes, for what is declared since.
+    pub fn copied(&self, alloc: Global) -> Result<Scope<'a>, AllocError>
+        ensures { IfOk result (λ s. scope_of s ≡ scope_of self.now) }
+    {
+        let mut homes = Vec::with_capacity(alloc, self.homes.len())?;
+        for placed in self.homes.as_slice() {
+            let dims = Items::from_slice(alloc, placed.home.dims.as_slice())?;
+            let home = Home {
+                base: placed.home.base,
+                dims,
+            };
+            homes.push(Placed {
+                name: placed.name,
+                home,
+            })?;
+        }
+        Ok(Scope {
+            homes,
+            top: self.top,
+        })
     }
 
     /// What was declared since has no home any more.

@@ -130,7 +130,8 @@ impl Loaded<'_> {
         if self.changes(n) {
             return Ok(None);
         }
-        self.element_known(n, self.scope.find(Sought::Variable(n)), indices)
+        let home = self.sources.named.scope.find(Sought::Variable(n));
+        self.element_known(n, home, indices)
     }
 
     fn changes(&self, n: u32) -> bool

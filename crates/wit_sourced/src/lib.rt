@@ -12,10 +12,10 @@ mod slots;
 mod sources;
 
 pub use elements::{is_inside, offset};
-pub use homes::{Home, Name, Placed, Scope, Sought};
+pub use homes::{Home, Placed, Scope, Sought};
 pub use known::{is_listed, number_of, op_of};
-pub use loaded::{CallValue, Called, ComponentShape, Loaded};
+pub use loaded::{CallValue, Called, Loaded, component_dims};
 pub use reads::Reads;
 pub use same::is_same;
 pub use slots::{behind, narrow};
-pub use sources::{Input, Shape, Source, Sources, emit_sources};
+pub use sources::{Input, Named, Shape, Source, Sources, emit_sources};

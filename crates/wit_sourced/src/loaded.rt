@@ -1,12 +1,10 @@
 //! What is known of a step's numbers, and of its calls.
-ghost use Rattle.std.specs.Prelude.{◌≡◌, [], map};
-ghost use Rattle.wit_lower.specs.Sources as R;
-ghost use Rattle.wit_sourced.specs.Loads.{shape_of};
-ghost use Rattle.wit_sourced.specs.Shown.{scope_of};
+ghost use Rattle.std.specs.Prelude.{◌≡◌};
+ghost use Rattle.wit_sourced.specs.Loaded.{components_in};
 
-use crate::homes::Scope;
 use crate::sources::Sources;
 use cir_ast::program::Expr;
+use cir_frame::ComponentEntry;
 use cir_known::Touched;
 use items::Items;
 
@@ -24,22 +22,22 @@ pub struct CallValue<'a> {
     pub value: Option<Called>,
 }
 
-/// The dimensions of an array of components.
-#[derive(Drop)]
-pub struct ComponentShape {
-    pub component: u32,
-    pub dims: Items<u64>,
+/// The dimensions of a component.
+pub fn component_dims(components: &[Option<ComponentEntry>], n: u32) -> &[u64]
+    ensures { result.now ≡ components_in components.now n }
+{
+    match components.get(n as usize) {
+        Some(Some(entry)) => entry.dims.as_slice(),
+        _ => &[],
+    }
 }
 
-/// What a step's code loads, with homes for it; the variables whose numbers change while the step
-/// is executed; and the step's calls.
+/// What a step's code loads, with homes for it; the body's components; the variables whose numbers
+/// change while the step is executed; and the step's calls.
 #[derive(Drop)]
 pub struct Loaded<'a> {
-    pub sources: &'a Sources,
-    pub components: &'a [ComponentShape],
+    pub sources: &'a Sources<'a>,
+    pub components: &'a [Option<ComponentEntry>],
     pub changed: Option<&'a Touched>,
     pub calls: &'a [CallValue<'a>],
-    pub scope: &'a Scope,
-    ghost shown: { scope_of scope.now ≡ R.homes_from (map shape_of sources.now.shapes)
-        record { homes = []; top = 0 } },
 }

@@ -3,9 +3,9 @@ ghost use Rattle.std.specs.Prelude.{◌≡◌, [], ◌∷◌, ◌++◌, map, IfO
 ghost use Rattle.wit_lower.specs.Homes as L;
 ghost use Rattle.wit_lower.specs.Sources as R;
 ghost use Rattle.wit_sourced.specs.Loads.{input_of, shape_of, source_of};
-ghost use Rattle.wit_sourced.specs.Shown.{homes_of, name_of, scope_of};
+ghost use Rattle.wit_sourced.specs.Shown.{homes_of, sought_name, scope_of};
 
-use crate::homes::{Name, Scope};
+use crate::homes::{Scope, Sought};
 use crate::reads::Reads;
 use crate::slots::behind;
 use gold_field::Gold;
@@ -15,9 +15,18 @@ use wit_code::Op;
 
 /// The dimensions of what a step names.
 #[derive(Drop)]
-pub struct Shape {
-    pub name: Name,
-    pub dims: Items<u64>,
+pub struct Shape<'a> {
+    pub name: Sought<'a>,
+    pub dims: &'a [u64],
+}
+
+/// What a step names, with homes for it in a row, in the order of the shapes.
+#[derive(Drop)]
+pub struct Named<'a> {
+    pub shapes: Items<Shape<'a>>,
+    pub scope: Scope<'a>,
+    ghost shown: { scope_of scope ≡ R.homes_from (map shape_of shapes)
+        record { homes = []; top = 0 } },
 }
 
 /// Where an element's number comes from.
@@ -28,32 +37,41 @@ pub enum Input {
 }
 
 #[derive(Drop)]
-pub struct Source {
-    pub name: Name,
+pub struct Source<'a> {
+    pub name: Sought<'a>,
     pub element: u64,
     pub input: Input,
 }
 
-/// Shapes of what a step names, and a source for each element that it may read.
+/// What a step names, and a source for each element that it may read.
 #[derive(Drop)]
-pub struct Sources {
-    pub shapes: Items<Shape>,
-    pub list: Items<Source>,
+pub struct Sources<'a> {
+    pub named: &'a Named<'a>,
+    pub list: Items<Source<'a>>,
 }
 
-impl Scope {
+impl<'a> Named<'a> {
+    pub fn of(alloc: Global, shapes: Items<Shape<'a>>) -> Result<Named<'a>, AllocError>
+        ensures { IfOk result (λ named. named.shapes ≡ shapes.entry) }
+    {
+        let scope = Scope::of(alloc, shapes.as_slice())?;
+        Ok(Named { shapes, scope })
+    }
+}
+
+impl<'a> Scope<'a> {
     /// The homes stand in a row, in the order of the shapes.
-    pub fn of(alloc: Global, shapes: &[Shape]) -> Result<Scope, AllocError>
+    pub fn of(alloc: Global, shapes: &[Shape<'a>]) -> Result<Scope<'a>, AllocError>
         ensures { IfOk result (λ s. scope_of s ≡ R.homes_from (map shape_of shapes.now)
             record { homes = []; top = 0 }) }
     {
         let mut scope = Scope {
-            homes: Vec::new(alloc),
+            homes: Vec::with_capacity(alloc, shapes.len())?,
             top: 0,
         };
         for shape in shapes {
-            let name = shape.name.copied(alloc)?;
-            scope.place(name, Items::from_slice(alloc, shape.dims.as_slice())?)?;
+            let dims = Items::from_slice(alloc, shape.dims)?;
+            scope.place(shape.name, dims)?;
         }
         Ok(scope)
     }
@@ -83,10 +101,10 @@ fn emit_source(
     source: &Source,
 ) -> Result<(), AllocError>
     ensures { OnOk result (code.new ≡ code.old ++ R.source_code reads.now.cells
-        (L.find (name_of source.now.name) (homes_of scope.now.homes.items))
+        (L.find (sought_name source.now.name) (homes_of scope.now.homes.items))
         (source_of source.now)) }
 {
-    let Some(home) = scope.find(source.name.sought()) else {
+    let Some(home) = scope.find(source.name) else {
         return Ok(());
     };
     let slot = behind(home.base, source.element)?;

@@ -12,7 +12,7 @@ use Rattle.wit_lower.proofs.Names.{same_name_itself}
 use Rattle.cir_arrays.specs.Reached.{places_within}
 use Rattle.cir_emit.specs.Reads.{Reading, elements_of, part_of}
 use Rattle.wit_sourced.specs.Loads.{source_of}
-use Rattle.wit_sourced.specs.Shown.{name_of}
+use Rattle.wit_sourced.specs.Shown.{sought_name}
 use Rattle.wit_sourced.specs.declared.sources.Source.{Source as CodeSource}
 use Rattle.wit_sources.specs.Given.{Offer, given, within, Seen, Adds, Reads}
 use Rattle.wit_sources.proofs.Added.{found_given, input_behind}
@@ -28,20 +28,20 @@ module _ (x : Name) (k : ℕ) where
 
   -- a source of the list is found
   pub there : (list : List CodeSource) (n : ℕ) (s : CodeSource) → slice_get list n ≡ Some s
-      → same_name x (name_of s.name) ≡ true → (k == s.element) ≡ true
+      → same_name x (sought_name s.name) ≡ true → (k == s.element) ≡ true
       → is_some (input_of x (map source_of list) k) ≡ true
   there [] n s e same at = cc
   there (t ∷ list) zero s e same at =
       let is : t ≡ s = cc in
-      let both : (same_name x (name_of t.name) && (k == t.element)) ≡ true =
-      ap (λ (r : CodeSource). same_name x (name_of r.name) && (k == r.element)) is
-      ∙ and_from (same_name x (name_of s.name)) (k == s.element) same at in
+      let both : (same_name x (sought_name t.name) && (k == t.element)) ≡ true =
+      ap (λ (r : CodeSource). same_name x (sought_name r.name) && (k == r.element)) is
+      ∙ and_from (same_name x (sought_name s.name)) (k == s.element) same at in
       ap (λ b. is_some (or_else (input_of x (map source_of list) k)
       (cond b (Some (source_of t).input) None))) both
       ∙ some_last (input_of x (map source_of list) k) (source_of t).input
   there (t ∷ list) (suc n) s e same at =
       some_first (input_of x (map source_of list) k)
-      (cond (same_name x (name_of t.name) && (k == t.element)) (Some (source_of t).input) None)
+      (cond (same_name x (sought_name t.name) && (k == t.element)) (Some (source_of t).input) None)
       (there list n s e same at)
 
   abbrev here : Reading

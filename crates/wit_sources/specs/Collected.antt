@@ -12,7 +12,7 @@ use Rattle.wit_sources.specs.declared.setting.Setting.{Setting}
 use Rattle.wit_sources.specs.Given.{Offer, Seen, Reads}
 
 abbrev pub shapes_in : Found → List R.Shape
-shapes_in f = map shape_of f.sources.shapes
+shapes_in f = map shape_of f.sources.named.now.shapes
 
 abbrev pub seen : Found → Seen
 seen f = record { list = map source_of f.sources.list; whole = f.is_whole }

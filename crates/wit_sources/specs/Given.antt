@@ -1,12 +1,14 @@
 -- Where the elements of a step's arrays come from, and what of it is read.
-use Rattle.std.specs.Prelude.{◌≡◌, ℕ, nat_lt, if◌then◌else◌, Bool, true, List, ◌++◌, Option, Some}
-use Rattle.std.specs.Prelude.{None, is_some}
+use Rattle.std.specs.Prelude.{◌≡◌, ◌==◌, ℕ, nat_lt, if◌then◌else◌, Bool, true, List, ◌++◌}
+use Rattle.std.specs.Prelude.{Option, Some, None, is_some}
 use Rattle.std.specs.List.{AllByRecursion}
-use Rattle.wit_lower.specs.Homes.{Name, Home, Homes, find, slots_of}
+use Rattle.wit_lower.specs.Homes.{Name, Home, Homes, find, same_name, slots_of}
 use Rattle.wit_lower.specs.Sources.{Input, Source, input_of}
 use Rattle.wit_lower.specs.Steps.{IsInput}
 use Rattle.cir_emit.specs.Reads.{Reading}
 use Rattle.cir_emit.specs.Sourced.{IsAmong}
+use Rattle.wit_sourced.specs.Shown.{sought_name}
+use Rattle.wit_sourced.specs.declared.sources.Source.{Source as CodeSource}
 
 -- what is offered: for elements of arrays their inputs
 abbrev pub Offer : Type 0
@@ -23,6 +25,10 @@ given homes offer x k = within (find x homes) k (offer x k)
 -- a source has the input that is given
 abbrev pub IsGiven : Homes → Offer → Source → Type 0
 IsGiven homes offer x = given homes offer x.name x.element ≡ Some x.input
+
+-- a source of the code is an element's
+abbrev pub IsSourceOf : Name → (element : ℕ) → CodeSource → Type 0
+IsSourceOf x k s = (same_name x (sought_name s.name) ≡ true) × ((k == s.element) ≡ true)
 
 -- and stands for one of these readings
 pub record IsRead (homes : Homes) (offer : Offer) (reads : List Reading) (x : Source)

@@ -9,7 +9,7 @@ use crate::setting::Setting;
 use cir_arrays::all_known;
 use cir_ast::program::Meant;
 use std::alloc::AllocError;
-use wit_sourced::{ComponentShape, Sought, is_inside, offset};
+use wit_sourced::{Sought, component_dims, is_inside, offset};
 
 /// A name as it is written, or what a member of a component is.
 #[derive(Clone, Copy)]
@@ -32,18 +32,6 @@ impl<'a> Front<'a> {
     }
 }
 
-/// The dimensions of an array of components.
-fn dims_of(components: &[ComponentShape], component: u32) -> &[u64]
-    ensures { result.now ≡ components_in components.now component }
-{
-    for shape in components {
-        if shape.component == component {
-            return shape.dims.as_slice();
-        }
-    }
-    &[]
-}
-
 /// The signal of this name of the component that the indices mean, where all are known.
 pub fn port_of<'n>(
     setting: &Setting,
@@ -60,7 +48,7 @@ pub fn port_of<'n>(
     let Some(indices) = all_known(setting.alloc, indices)? else {
         return Ok(Front::Reached(None));
     };
-    let dims = dims_of(setting.components, n);
+    let dims = component_dims(setting.components, n);
     if !is_inside(dims, indices.as_slice()) {
         return Ok(Front::Reached(None));
     }

@@ -35,13 +35,14 @@ pub struct Run {
 }
 
 /// All elements of variables.
-fn add_variables<I: Inputs>(
+fn add_variables<'a, I: Inputs>(
     alloc: Global,
     inputs: &I,
-    found: &mut Found,
+    found: &mut Found<'a>,
     numbers: &[u32],
 ) -> Result<(), AllocError>
-    ensures shapes { found.new.sources.shapes ≡ found.old.sources.shapes }
+    ensures shapes { found.new.sources.named.now.shapes
+        ≡ found.old.sources.named.now.shapes }
     ensures reads { OnOk result (Reads (homes_in found.old) (I.offer inputs.now) (seen found.old)
         (seen found.new) (flat_map (λ n. E.part_of (L.Variable n)
         (L.find (L.Variable n) (homes_in found.old)) []) numbers.now)) }
@@ -53,12 +54,13 @@ fn add_variables<I: Inputs>(
 }
 
 /// All elements of the variables that change while the task is done.
-pub fn add_changed<I: Inputs>(
+pub fn add_changed<'a, I: Inputs>(
     setting: &Setting,
     inputs: &I,
-    found: &mut Found,
+    found: &mut Found<'a>,
 ) -> Result<(), AllocError>
-    ensures shapes { found.new.sources.shapes ≡ found.old.sources.shapes }
+    ensures shapes { found.new.sources.named.now.shapes
+        ≡ found.old.sources.named.now.shapes }
     ensures reads { OnOk result (Reads (homes_in found.old) (I.offer inputs.now) (seen found.old)
         (seen found.new) (flat_map (λ n. E.part_of (L.Variable n)
         (L.find (L.Variable n) (homes_in found.old)) [])
@@ -87,14 +89,14 @@ fn is_in(run: &Option<Run>, target: Element) -> bool
 }
 
 /// The elements that are wanted but for those that are surely written.
-pub fn add_targets<I: Inputs>(
-    alloc: Global,
+pub fn add_targets<'a, I: Inputs>(
     inputs: &I,
-    found: &mut Found,
+    found: &mut Found<'a>,
     written: &Option<Run>,
     targets: &[Element],
 ) -> Result<(), AllocError>
-    ensures shapes { found.new.sources.shapes ≡ found.old.sources.shapes }
+    ensures shapes { found.new.sources.named.now.shapes
+        ≡ found.old.sources.named.now.shapes }
     ensures reads { OnOk result (Reads (homes_in found.old) (I.offer inputs.now) (seen found.old)
         (seen found.new) (E.targets_kept (filter (λ t. not (in_run written.now t))
         (map element_of targets.now)))) }
@@ -102,7 +104,7 @@ pub fn add_targets<I: Inputs>(
     for target in targets {
         if !is_in(written, *target) {
             let name = Sought::Variable(target.variable);
-            add_named_element(alloc, inputs, found, name, target.element)?;
+            add_named_element(inputs, found, name, target.element)?;
         }
     }
     Ok(())
@@ -129,7 +131,7 @@ fn place_run(setting: &Setting, found: &Found, place: &Place) -> Result<Option<R
     let Meant::Variable(variable) = place.meant else {
         return Ok(None);
     };
-    let Some(home) = found.scope.find(Sought::Variable(variable)) else {
+    let Some(home) = found.sources.named.scope.find(Sought::Variable(variable)) else {
         return Ok(None);
     };
     let indices = known_indices(setting, found, place.accessors.as_slice())?;
@@ -167,14 +169,15 @@ fn known_indices(
 }
 
 /// The elements that an assignment keeps.
-pub fn collect_unwritten<I: Inputs>(
+pub fn collect_unwritten<'a, I: Inputs>(
     setting: &Setting,
     inputs: &I,
-    found: &mut Found,
-    a: &Assign,
+    found: &mut Found<'a>,
+    a: &'a Assign,
     targets: &[Element],
 ) -> Result<(), AllocError>
-    ensures shapes { found.new.sources.shapes ≡ found.old.sources.shapes }
+    ensures shapes { found.new.sources.named.now.shapes
+        ≡ found.old.sources.named.now.shapes }
     ensures reads { OnOk result (Reads (homes_in found.old) (I.offer inputs.now) (seen found.old)
         (seen found.new) (E.targets_kept (filter (λ t. not (E.is_written
         (ground_with setting.now (shapes_in found.old) (seen found.old).list)
@@ -184,5 +187,5 @@ pub fn collect_unwritten<I: Inputs>(
         return Ok(());
     }
     let written = written_by(setting, found, a)?;
-    add_targets(setting.alloc, inputs, found, &written, targets)
+    add_targets(inputs, found, &written, targets)
 }

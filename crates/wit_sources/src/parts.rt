@@ -1,35 +1,21 @@
 //! The elements of a part of an array.
-ghost use Rattle.std.specs.Prelude.{◌≡◌, [], ◌∷◌, ◌++◌, map, IfOk, OnOk, IsTrue, Some, is_some};
-ghost use Rattle.std.specs.Prelude.{true};
+ghost use Rattle.std.specs.Prelude.{◌≡◌, [], ◌∷◌, ◌++◌, map, IfOk, IfSome, OnOk, IsTrue, Some};
+ghost use Rattle.std.specs.Prelude.{is_some, true};
 ghost use Rattle.wit_lower.specs.Homes as L;
 ghost use Rattle.wit_lower.specs.Sources as R;
 ghost use Rattle.wit_lower.specs.Steps.{IsInput};
+ghost use Rattle.cir_arrays.specs.Reached.{places_within};
 ghost use Rattle.cir_emit.specs.Reads as E;
 ghost use Rattle.wit_sourced.specs.Loads.{input_of, source_of};
-ghost use Rattle.wit_sourced.specs.Shown.{home_of, name_of, sought_name};
-ghost use Rattle.wit_sources.specs.Given.{Reads};
+ghost use Rattle.wit_sourced.specs.Shown.{home_of, sought_name};
+ghost use Rattle.wit_sources.specs.Given.{IsSourceOf, Reads};
 ghost use Rattle.wit_sources.specs.Collected.{homes_in, seen};
 
 use crate::found::Found;
 use crate::inputs::Inputs;
-use cir_arrays::{made_elements, places_of};
-use items::Items;
+use cir_arrays::{all_known, made_elements, places_of};
 use std::alloc::{AllocError, Global};
-use wit_sourced::{Home, Input, Name, Sought, Source, behind};
-
-/// A name of one's own.
-fn named(alloc: Global, name: Sought) -> Result<Name, AllocError>
-    ensures { IfOk result (λ n. name_of n ≡ sought_name name.entry) }
-{
-    match name {
-        Sought::Variable(n) => Ok(Name::Variable(n)),
-        Sought::Signal(n) => Ok(Name::Signal(n)),
-        Sought::Port(n, element, name) => {
-            let name = Items::from_slice(alloc, name)?;
-            Ok(Name::Port(n, element, name))
-        }
-    }
-}
+use wit_sourced::{Home, Input, Sought, Source, behind, is_inside, offset};
 
 /// A constant is a number of the field.
 fn is_constant(input: &Input) -> bool
@@ -44,60 +30,90 @@ fn is_constant(input: &Input) -> bool
     }
 }
 
-fn source_at(alloc: Global, name: Sought, element: u64, input: Input) -> Result<Source, AllocError>
-    ensures source { IfOk result (λ s. source_of s ≡ record {
-      name = sought_name name.entry;
-      element = element;
-      input = input_of input;
-    }) }
+/// So many sources are looked at one by one; the map tells of those behind.
+const FEW: usize = 8;
+
+/// One more source, which stands for a slot.
+fn push<'a>(
+    found: &mut Found<'a>,
+    slot: u32,
+    name: Sought<'a>,
+    element: u64,
+    input: Input,
+) -> Result<(), AllocError>
+    ensures shapes { found.new.sources.named.now.shapes
+        ≡ found.old.sources.named.now.shapes }
+    ensures list { OnOk result (map source_of found.new.sources.list
+        ≡ map source_of found.old.sources.list ++ record {
+          name = sought_name name.entry;
+          element = element;
+          input = input_of input;
+        } ∷ []) }
+    ensures whole { OnOk result (found.new.is_whole ≡ found.old.is_whole) }
     ensures number { IsInput (input_of input) }
 {
     let _constant = is_constant(&input);
-    let name = named(alloc, name)?;
-    Ok(Source {
+    let place = found.sources.list.len();
+    found.sources.list.push(Source {
         name,
         element,
         input,
-    })
-}
-
-/// One more source, which stands for a slot.
-fn push(found: &mut Found, slot: u32, source: Source) -> Result<(), AllocError>
-    ensures shapes { found.new.sources.shapes ≡ found.old.sources.shapes }
-    ensures list { OnOk result (found.new.sources.list ≡ found.old.sources.list ++ source ∷ []) }
-    ensures whole { OnOk result (found.new.is_whole ≡ found.old.is_whole) }
-{
-    let place = found.sources.list.len();
-    found.sources.list.push(source)?;
-    found.places.insert(slot, place)?;
+    })?;
+    if place >= FEW {
+        found.places.insert(slot, place)?;
+    }
     Ok(())
 }
 
-/// Whether the source of this slot is this element's.
+/// Whether this is an element's source.
+fn is_of(source: &Source, name: Sought, element: u64) -> bool
+    ensures { IsTrue result → IsSourceOf (sought_name name.entry) element source.now }
+{
+    source.name.is(name) && source.element == element
+}
+
+/// Whether one of the first sources is this element's.
+fn is_among_few(list: &[Source], name: Sought, element: u64) -> bool
+    ensures { IsTrue result → is_some (R.input_of (sought_name name.entry)
+        (map source_of list.now) element) ≡ true }
+{
+    for n in 0..list.len().min(FEW) {
+        if is_of(&list[n], name, element) {
+            return true;
+        }
+    }
+    false
+}
+
+/// Whether this element has a source, which may be that of its slot.
 fn has(found: &Found, slot: u32, name: Sought, element: u64) -> bool
     ensures { IsTrue result → is_some (R.input_of (sought_name name.entry)
         (map source_of found.now.sources.list) element) ≡ true }
 {
+    let list = found.sources.list.as_slice();
+    if is_among_few(list, name, element) {
+        return true;
+    }
     let Some(place) = found.places.get(&slot) else {
         return false;
     };
-    match found.sources.list.as_slice().get(*place) {
-        Some(source) => source.name.is(name) && source.element == element,
+    match list.get(*place) {
+        Some(source) => is_of(source, name, element),
         None => false,
     }
 }
 
 /// An element of an array with a home.
-fn add_element<I: Inputs>(
-    alloc: Global,
+fn add_element<'a, I: Inputs>(
     inputs: &I,
-    found: &mut Found,
-    name: Sought,
+    found: &mut Found<'a>,
+    name: Sought<'a>,
     home: &Home,
     element: u64,
 ) -> Result<(), AllocError>
     requires { L.find (sought_name name) (homes_in found.old) ≡ Some (home_of home.now) }
-    ensures shapes { found.new.sources.shapes ≡ found.old.sources.shapes }
+    ensures shapes { found.new.sources.named.now.shapes
+        ≡ found.old.sources.named.now.shapes }
     ensures reads { OnOk result (Reads (homes_in found.old) (I.offer inputs.now) (seen found.old)
         (seen found.new) (record { name = sought_name name.entry; element = element } ∷ [])) }
 {
@@ -111,8 +127,7 @@ fn add_element<I: Inputs>(
     }
     match inputs.input(name, element)? {
         Some(input) => {
-            let source = source_at(alloc, name, element, input)?;
-            push(found, slot, source)?;
+            push(found, slot, name, element, input)?;
             Ok(())
         }
         None => {
@@ -122,54 +137,73 @@ fn add_element<I: Inputs>(
     }
 }
 
+/// The one place that known indices mean, one for each dimension.
+fn one_place(
+    alloc: Global,
+    dims: &[u64],
+    indices: &[Option<u64>],
+) -> Result<Option<u64>, AllocError>
+    ensures { IfOk result (λ place. IfSome place (λ k. places_within dims.now indices.now
+        ≡ k ∷ [])) }
+{
+    if indices.len() != dims.len() {
+        return Ok(None);
+    }
+    let Some(known) = all_known(alloc, indices)? else {
+        return Ok(None);
+    };
+    if !is_inside(dims, known.as_slice()) {
+        return Ok(None);
+    }
+    let place = offset(dims, known.as_slice())?;
+    Ok(Some(place))
+}
+
 /// The elements of the part of an array that indices may mean.
-pub fn add_part<I: Inputs>(
+pub fn add_part<'a, I: Inputs>(
     alloc: Global,
     inputs: &I,
-    found: &mut Found,
-    name: Sought,
+    found: &mut Found<'a>,
+    name: Sought<'a>,
     indices: &[Option<u64>],
 ) -> Result<(), AllocError>
-    ensures shapes { found.new.sources.shapes ≡ found.old.sources.shapes }
+    ensures shapes { found.new.sources.named.now.shapes
+        ≡ found.old.sources.named.now.shapes }
     ensures reads { OnOk result (Reads (homes_in found.old) (I.offer inputs.now) (seen found.old)
         (seen found.new) (E.named_part (homes_in found.old) (Some (sought_name name.entry))
         indices.now)) }
 {
-    let Some(home) = found.scope.find(name) else {
+    let named = found.sources.named;
+    let Some(home) = named.scope.find(name) else {
         return Ok(());
     };
-    let dims = Items::from_slice(alloc, home.dims.as_slice())?;
-    let home = Home {
-        base: home.base,
-        dims,
-    };
-    let places = places_of(alloc, home.dims.as_slice(), indices)?;
+    let dims = home.dims.as_slice();
+    if let Some(place) = one_place(alloc, dims, indices)? {
+        return add_element(inputs, found, name, home, place);
+    }
+    let places = places_of(alloc, dims, indices)?;
     for place in places.as_slice() {
-        add_element(alloc, inputs, found, name, &home, *place)?;
+        add_element(inputs, found, name, home, *place)?;
     }
     Ok(())
 }
 
 /// One element.
-pub fn add_named_element<I: Inputs>(
-    alloc: Global,
+pub fn add_named_element<'a, I: Inputs>(
     inputs: &I,
-    found: &mut Found,
-    name: Sought,
+    found: &mut Found<'a>,
+    name: Sought<'a>,
     element: u64,
 ) -> Result<(), AllocError>
-    ensures shapes { found.new.sources.shapes ≡ found.old.sources.shapes }
+    ensures shapes { found.new.sources.named.now.shapes
+        ≡ found.old.sources.named.now.shapes }
     ensures reads { OnOk result (Reads (homes_in found.old) (I.offer inputs.now) (seen found.old)
         (seen found.new) (record { name = sought_name name.entry; element = element } ∷ [])) }
 {
-    let Some(home) = found.scope.find(name) else {
+    let named = found.sources.named;
+    let Some(home) = named.scope.find(name) else {
         found.is_whole = false;
         return Ok(());
     };
-    let dims = Items::from_slice(alloc, home.dims.as_slice())?;
-    let home = Home {
-        base: home.base,
-        dims,
-    };
-    add_element(alloc, inputs, found, name, &home, element)
+    add_element(inputs, found, name, home, element)
 }

@@ -36,24 +36,25 @@ use cir_texts::{Texts, Wanted};
 use items::Items;
 use std::alloc::{AllocError, Global};
 use std::collections::BTreeMap;
-use wit_sourced::{CallValue, ComponentShape, Scope, Shape, Sources};
-use wit_statements::{Element, Task, are_listed, changed_by};
+use wit_sourced::{Named, Sources};
+use wit_statements::{Element, StepTask, Task};
 
 /// The sources of a task, and whether each element that it may read has one.
 #[derive(Drop)]
-pub struct Collected {
-    pub sources: Sources,
+pub struct Collected<'a> {
+    pub sources: Sources<'a>,
     pub is_whole: bool,
 }
 
 /// What a place reads.
-fn collect_read<I: Inputs>(
+fn collect_read<'a, I: Inputs>(
     setting: &Setting,
     inputs: &I,
-    found: &mut Found,
-    place: &Place,
+    found: &mut Found<'a>,
+    place: &'a Place,
 ) -> Result<(), AllocError>
-    ensures shapes { found.new.sources.shapes ≡ found.old.sources.shapes }
+    ensures shapes { found.new.sources.named.now.shapes
+        ≡ found.old.sources.named.now.shapes }
     ensures reads { OnOk result (Collects setting.now (I.offer inputs.now) found.old found.new
         (λ g homes. E.expr_reads g homes (bare_place place.now))) }
 {
@@ -67,15 +68,16 @@ fn collect_read<I: Inputs>(
 }
 
 /// A place and an expression under an operator, which is never lazy in a compound assignment.
-fn collect_compound<I: Inputs>(
+fn collect_compound<'a, I: Inputs>(
     setting: &Setting,
     inputs: &I,
-    found: &mut Found,
+    found: &mut Found<'a>,
     op: Binary,
-    place: &Place,
-    e: &Expr,
+    place: &'a Place,
+    e: &'a Expr,
 ) -> Result<(), AllocError>
-    ensures shapes { found.new.sources.shapes ≡ found.old.sources.shapes }
+    ensures shapes { found.new.sources.named.now.shapes
+        ≡ found.old.sources.named.now.shapes }
     ensures reads { OnOk result (Collects setting.now (I.offer inputs.now) found.old found.new
         (λ g homes. E.expr_reads g homes
         (AnyBinary op (bare_place place.now) (AnyParentheses (bare e.now))))) }
@@ -88,13 +90,14 @@ fn collect_compound<I: Inputs>(
 }
 
 /// An expression that is evaluated.
-fn collect_wanted<I: Inputs>(
+fn collect_wanted<'a, I: Inputs>(
     setting: &Setting,
     inputs: &I,
-    found: &mut Found,
-    wanted: Wanted,
+    found: &mut Found<'a>,
+    wanted: Wanted<'a>,
 ) -> Result<(), AllocError>
-    ensures shapes { found.new.sources.shapes ≡ found.old.sources.shapes }
+    ensures shapes { found.new.sources.named.now.shapes
+        ≡ found.old.sources.named.now.shapes }
     ensures reads { OnOk result (Collects setting.now (I.offer inputs.now) found.old found.new
         (λ g homes. E.expr_reads g homes (wanted_of wanted.entry).expr)) }
 {
@@ -106,13 +109,14 @@ fn collect_wanted<I: Inputs>(
     }
 }
 
-fn collect_texts<I: Inputs>(
+fn collect_texts<'a, I: Inputs>(
     setting: &Setting,
     inputs: &I,
-    found: &mut Found,
-    wanted: &[Wanted],
+    found: &mut Found<'a>,
+    wanted: &[Wanted<'a>],
 ) -> Result<(), AllocError>
-    ensures shapes { found.new.sources.shapes ≡ found.old.sources.shapes }
+    ensures shapes { found.new.sources.named.now.shapes
+        ≡ found.old.sources.named.now.shapes }
     ensures reads { OnOk result (Collects setting.now (I.offer inputs.now) found.old found.new
         (λ g homes. flat_map (λ x. E.expr_reads g homes x.expr) (map wanted_of wanted.now))) }
 {
@@ -122,13 +126,14 @@ fn collect_texts<I: Inputs>(
     Ok(())
 }
 
-fn collect_logged<I: Inputs>(
+fn collect_logged<'a, I: Inputs>(
     setting: &Setting,
     inputs: &I,
-    found: &mut Found,
-    arguments: &[LogArgument],
+    found: &mut Found<'a>,
+    arguments: &'a [LogArgument],
 ) -> Result<(), AllocError>
-    ensures shapes { found.new.sources.shapes ≡ found.old.sources.shapes }
+    ensures shapes { found.new.sources.named.now.shapes
+        ≡ found.old.sources.named.now.shapes }
     ensures reads { OnOk result (Collects setting.now (I.offer inputs.now) found.old found.new
         (λ g homes. flat_map (E.expr_reads g homes) (T.logged (map bare_argument arguments.now)))) }
 {
@@ -142,14 +147,15 @@ fn collect_logged<I: Inputs>(
 }
 
 /// An assignment alone.
-fn collect_assign<I: Inputs>(
+fn collect_assign<'a, I: Inputs>(
     setting: &Setting,
     inputs: &I,
-    found: &mut Found,
-    a: &Assign,
+    found: &mut Found<'a>,
+    a: &'a Assign,
     targets: &[Element],
 ) -> Result<(), AllocError>
-    ensures shapes { found.new.sources.shapes ≡ found.old.sources.shapes }
+    ensures shapes { found.new.sources.named.now.shapes
+        ≡ found.old.sources.named.now.shapes }
     ensures reads { (spot : AnySpot) → OnOk result (Collects setting.now (I.offer inputs.now)
         found.old found.new (λ g homes. E.task_reads g homes
         (T.Executes (Ended spot (Assigned (bare_assign a.now))) (map element_of targets.now)))) }
@@ -161,14 +167,15 @@ fn collect_assign<I: Inputs>(
 }
 
 /// Another statement.
-fn collect_statement<I: Inputs>(
+fn collect_statement<'a, I: Inputs>(
     setting: &Setting,
     inputs: &I,
-    found: &mut Found,
-    texts: &Texts,
+    found: &mut Found<'a>,
+    texts: &Texts<'a>,
     targets: &[Element],
 ) -> Result<(), AllocError>
-    ensures shapes { found.new.sources.shapes ≡ found.old.sources.shapes }
+    ensures shapes { found.new.sources.named.now.shapes
+        ≡ found.old.sources.named.now.shapes }
     ensures reads { OnOk result (Collects setting.now (I.offer inputs.now) found.old found.new
         (λ g homes. flat_map (λ x. E.expr_reads g homes x.expr)
         (map wanted_of texts.now.wanted.items)
@@ -178,16 +185,17 @@ fn collect_statement<I: Inputs>(
 {
     collect_texts(setting, inputs, found, texts.wanted.as_slice())?;
     add_changed(setting, inputs, found)?;
-    add_targets(setting.alloc, inputs, found, &None, targets)
+    add_targets(inputs, found, &None, targets)
 }
 
-fn collect_assertion<I: Inputs>(
+fn collect_assertion<'a, I: Inputs>(
     setting: &Setting,
     inputs: &I,
-    found: &mut Found,
-    e: &Expr,
+    found: &mut Found<'a>,
+    e: &'a Expr,
 ) -> Result<(), AllocError>
-    ensures shapes { found.new.sources.shapes ≡ found.old.sources.shapes }
+    ensures shapes { found.new.sources.named.now.shapes
+        ≡ found.old.sources.named.now.shapes }
     ensures reads { (spot : AnySpot) → OnOk result (Collects setting.now (I.offer inputs.now)
         found.old found.new
         (λ g homes. E.task_reads g homes (T.Executes (AnyAssert spot (bare e.now)) []))) }
@@ -205,15 +213,16 @@ fn assigned(a: &Statement) -> Option<&Assign>
     }
 }
 
-fn collect_executed<I: Inputs>(
+fn collect_executed<'a, I: Inputs>(
     setting: &Setting,
     inputs: &I,
-    found: &mut Found,
-    a: &Statement,
+    found: &mut Found<'a>,
+    a: &'a Statement,
     targets: &[Element],
 ) -> Result<(), AllocError>
     requires { changed_of (option_copied setting.now.changed) ≡ changes (bare_statement a.now) }
-    ensures shapes { found.new.sources.shapes ≡ found.old.sources.shapes }
+    ensures shapes { found.new.sources.named.now.shapes
+        ≡ found.old.sources.named.now.shapes }
     ensures reads { OnOk result (Collects setting.now (I.offer inputs.now) found.old found.new
         (λ g homes. E.task_reads g homes
         (T.Executes (bare_statement a.now) (map element_of targets.now)))) }
@@ -227,19 +236,20 @@ fn collect_executed<I: Inputs>(
 }
 
 /// The loop that is left of a `for`.
-fn collect_repeated<I: Inputs>(
+fn collect_repeated<'a, I: Inputs>(
     setting: &Setting,
     inputs: &I,
-    found: &mut Found,
-    condition: &Expr,
-    step: &Step,
-    body: &Statement,
+    found: &mut Found<'a>,
+    condition: &'a Expr,
+    step: &'a Step,
+    body: &'a Statement,
     targets: &[Element],
 ) -> Result<(), AllocError>
     requires { (spot : AnySpot) → changed_of (option_copied setting.now.changed)
         ≡ changes (loop_of spot (bare condition.now) (bare_statement body.now) step.now.spot
         (bare_assign step.now.assign)) }
-    ensures shapes { found.new.sources.shapes ≡ found.old.sources.shapes }
+    ensures shapes { found.new.sources.named.now.shapes
+        ≡ found.old.sources.named.now.shapes }
     ensures reads { (spot : AnySpot) → OnOk result (Collects setting.now (I.offer inputs.now)
         found.old found.new (λ g homes. E.task_reads g homes
         (T.Executes (loop_of spot (bare condition.now) (bare_statement body.now) step.now.spot
@@ -252,14 +262,15 @@ fn collect_repeated<I: Inputs>(
     collect_statement(setting, inputs, found, &texts, targets)
 }
 
-fn collect_task<I: Inputs>(
+fn collect_task<'a, I: Inputs>(
     setting: &Setting,
     inputs: &I,
-    found: &mut Found,
-    task: Task,
+    found: &mut Found<'a>,
+    task: Task<'a>,
 ) -> Result<(), AllocError>
     requires { changed_of (option_copied setting.now.changed) ≡ T.changed_by (task_of task) }
-    ensures shapes { found.new.sources.shapes ≡ found.old.sources.shapes }
+    ensures shapes { found.new.sources.named.now.shapes
+        ≡ found.old.sources.named.now.shapes }
     ensures reads { OnOk result (Collects setting.now (I.offer inputs.now) found.old found.new
         (λ g homes. E.task_reads g homes (task_of task.entry))) }
 {
@@ -279,53 +290,46 @@ fn collect_task<I: Inputs>(
     }
 }
 
-/// The sources of a task. `calls` has each call that stands in it, with its value where it has one
-/// already; where one is left out there are none, as if there were no memory. An element that has
-/// no input is left out.
+/// The sources of a step's task. An element that has no input is left out.
 pub fn sources_of<'a, I: Inputs>(
     alloc: Global,
-    shapes: Items<Shape>,
-    components: &'a [ComponentShape],
-    calls: &'a [CallValue<'a>],
-    task: Task,
+    named: &'a Named<'a>,
+    step: &'a StepTask<'a>,
     inputs: &I,
-) -> Result<Collected, AllocError>
-    ensures shapes { IfOk result (λ c. c.sources.shapes ≡ shapes) }
-    ensures fit { IfOk result (λ c. SourcesFit (homes_of (map shape_of c.sources.shapes))
+) -> Result<Collected<'a>, AllocError>
+    ensures shapes { IfOk result (λ c. c.sources.named.now.shapes ≡ named.now.shapes) }
+    ensures fit { IfOk result (λ c. SourcesFit (homes_of (map shape_of c.sources.named.now.shapes))
         (map source_of c.sources.list)) }
     ensures given { IfOk result (λ c. AllByRecursion (λ x. I.offer inputs.now x.name x.element
         ≡ Some x.input) (map source_of c.sources.list)) }
-    ensures few { (keys : List Made) (called : Calls) → AreTold called calls.now
-        → IfOk result (λ c. S.AreFew (step_sources components.now called c.sources)
-        (S.reads_of keys (step_sources components.now called c.sources) (task_of task.entry))) }
-    ensures loaded { (keys : List Made) (called : Calls) → AreTold called calls.now
+    ensures few { (keys : List Made) (called : Calls) → AreTold called step.now.calls.now
+        → IfOk result (λ c. S.AreFew (step_sources step.now.components.now called c.sources)
+        (S.reads_of keys (step_sources step.now.components.now called c.sources)
+        (task_of step.now.task))) }
+    ensures loaded { (keys : List Made) (called : Calls) → AreTold called step.now.calls.now
         → IfOk result (λ c. AllByRecursion (S.HasOffered (I.offer inputs.now)
-        (step_sources components.now called c.sources))
-        (S.reads_of keys (step_sources components.now called c.sources) (task_of task.entry))) }
-    ensures whole { (keys : List Made) (called : Calls) → AreTold called calls.now
+        (step_sources step.now.components.now called c.sources))
+        (S.reads_of keys (step_sources step.now.components.now called c.sources)
+        (task_of step.now.task))) }
+    ensures whole { (keys : List Made) (called : Calls) → AreTold called step.now.calls.now
         → IfOk result (λ c. IsTrue c.is_whole
-        → AreLoaded (step_sources components.now called c.sources)
-        (S.reads_of keys (step_sources components.now called c.sources) (task_of task.entry))) }
+        → AreLoaded (step_sources step.now.components.now called c.sources)
+        (S.reads_of keys (step_sources step.now.components.now called c.sources)
+        (task_of step.now.task))) }
 {
-    if !are_listed(alloc, task, calls)? {
-        return Err(AllocError);
-    }
-    let touched = changed_by(alloc, task)?;
     let setting = Setting {
         alloc,
-        components,
-        changed: touched.as_ref(),
-        calls,
+        components: step.components,
+        changed: step.changed.as_ref(),
+        calls: step.calls,
     };
-    let scope = Scope::of(alloc, shapes.as_slice())?;
     let list = Items::new(alloc);
     let mut found = Found {
-        sources: Sources { shapes, list },
-        scope,
+        sources: Sources { named, list },
         places: BTreeMap::new(alloc),
         is_whole: true,
     };
-    collect_task(&setting, inputs, &mut found, task)?;
+    collect_task(&setting, inputs, &mut found, step.task)?;
     let Found {
         sources,
         is_whole,

@@ -29,7 +29,6 @@ pub fn known(setting: &Setting, found: &Found, e: &Expr) -> Result<Option<u64>, 
         components: setting.components,
         changed: setting.changed,
         calls: setting.calls,
-        scope: &found.scope,
     };
     let number = loaded.known(setting.alloc, e)?;
     Ok(number_of(number))
@@ -44,7 +43,6 @@ fn is_called(setting: &Setting, found: &Found, call: &Expr) -> bool
         components: setting.components,
         changed: setting.changed,
         calls: setting.calls,
-        scope: &found.scope,
     };
     loaded.called(call).is_some()
 }
@@ -60,15 +58,36 @@ fn decides(op: Operator, left: Option<u64>) -> bool
     }
 }
 
+/// Whether the left operand decides; only a lazy operator asks for its number.
+fn is_decided(
+    setting: &Setting,
+    found: &Found,
+    op: Operator,
+    left: &Expr,
+) -> Result<bool, AllocError>
+    ensures { IfOk result (λ decides. decides ≡ is_some (decided (operator_by op)
+        ((ground_with setting.now (shapes_in found.now) (seen found.now).list).known
+        (bare left.now)))) }
+{
+    match op {
+        Operator::Strict(_) => Ok(false),
+        Operator::And | Operator::Or => {
+            let number = known(setting, found, left)?;
+            Ok(decides(op, number))
+        }
+    }
+}
+
 /// What an expression reads.
 #[cycle(collecting)]
-pub fn collect<I: Inputs>(
+pub fn collect<'a, I: Inputs>(
     setting: &Setting,
     inputs: &I,
-    found: &mut Found,
-    e: &Expr,
+    found: &mut Found<'a>,
+    e: &'a Expr,
 ) -> Result<(), AllocError>
-    ensures shapes { found.new.sources.shapes ≡ found.old.sources.shapes }
+    ensures shapes { found.new.sources.named.now.shapes
+        ≡ found.old.sources.named.now.shapes }
     ensures reads { OnOk result (Collects setting.now (I.offer inputs.now) found.old found.new
         (λ g homes. E.expr_reads g homes (bare e.now))) }
 {
@@ -94,8 +113,7 @@ pub fn collect<I: Inputs>(
         Expr::Unary(_, a) => collect(setting, inputs, found, a),
         Expr::Binary(op, a, b) => {
             collect(setting, inputs, found, a)?;
-            let left = known(setting, found, a)?;
-            if decides(operator_of(*op), left) {
+            if is_decided(setting, found, operator_of(*op), a)? {
                 return Ok(());
             }
             collect(setting, inputs, found, b)
@@ -117,13 +135,14 @@ pub fn collect<I: Inputs>(
 
 /// One behind the other.
 #[cycle(collecting)]
-pub fn collect_all<I: Inputs>(
+pub fn collect_all<'a, I: Inputs>(
     setting: &Setting,
     inputs: &I,
-    found: &mut Found,
-    es: &[Expr],
+    found: &mut Found<'a>,
+    es: &'a [Expr],
 ) -> Result<(), AllocError>
-    ensures shapes { found.new.sources.shapes ≡ found.old.sources.shapes }
+    ensures shapes { found.new.sources.named.now.shapes
+        ≡ found.old.sources.named.now.shapes }
     ensures reads { OnOk result (Collects setting.now (I.offer inputs.now) found.old found.new
         (λ g homes. E.exprs_reads g homes (bare_exprs es.now))) }
 {
@@ -135,14 +154,15 @@ pub fn collect_all<I: Inputs>(
 
 /// What a place reads: its indices, and the elements that they may mean.
 #[cycle(collecting)]
-pub fn collect_place<I: Inputs>(
+pub fn collect_place<'a, I: Inputs>(
     setting: &Setting,
     inputs: &I,
-    found: &mut Found,
+    found: &mut Found<'a>,
     meant: Meant,
-    accessors: &[Accessor],
+    accessors: &'a [Accessor],
 ) -> Result<(), AllocError>
-    ensures shapes { found.new.sources.shapes ≡ found.old.sources.shapes }
+    ensures shapes { found.new.sources.named.now.shapes
+        ≡ found.old.sources.named.now.shapes }
     ensures reads { OnOk result (Collects setting.now (I.offer inputs.now) found.old found.new
         (λ g homes. E.place_reads g homes (E.Written meant) [] (as_accessors accessors.now))) }
 {
@@ -165,14 +185,15 @@ pub fn collect_place<I: Inputs>(
 }
 
 /// The elements of what is named.
-fn collect_end<I: Inputs>(
+fn collect_end<'a, I: Inputs>(
     setting: &Setting,
     inputs: &I,
-    found: &mut Found,
-    front: Front,
+    found: &mut Found<'a>,
+    front: Front<'a>,
     indices: &[Option<u64>],
 ) -> Result<(), AllocError>
-    ensures shapes { found.new.sources.shapes ≡ found.old.sources.shapes }
+    ensures shapes { found.new.sources.named.now.shapes
+        ≡ found.old.sources.named.now.shapes }
     ensures reads { OnOk result (Reads (homes_in found.old) (I.offer inputs.now) (seen found.old)
         (seen found.new) (E.named_part (homes_in found.old) (E.name_of (front_of front.entry))
         indices.now)) }

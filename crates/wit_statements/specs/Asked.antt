@@ -1,13 +1,13 @@
 -- What the code's tasks stand for, and the calls that stand in them.
-use Rattle.std.specs.Prelude.{List, [], ◌++◌, map, flat_map}
+use Rattle.std.specs.Prelude.{List, [], ◌++◌, map, flat_map, Option}
 use Rattle.cir_ast.specs.declared.program.Meant.{Meant}
 use Rattle.cir_ast.specs.Tree.{Assert, Assigned, Ended, Expr, bare, bare_argument, bare_assign}
 use Rattle.cir_ast.specs.Tree.{bare_statement}
+use Rattle.cir_frame.specs.declared.frame.ComponentEntry.{ComponentEntry}
 use Rattle.cir_meaning.specs.Statement.{loop_of}
 use Rattle.cir_meaning.specs.Texts.{wanted_in}
 use Rattle.wit_lower.specs.Sources as R
 use Rattle.wit_lower.specs.Tasks as T
-use Rattle.wit_sourced.specs.declared.loaded.ComponentShape.{ComponentShape}
 use Rattle.wit_sourced.specs.declared.sources.Sources.{Sources}
 use Rattle.wit_emit.specs.Asked.{asked}
 use Rattle.wit_sourced.specs.Loaded.{Calls, components_in}
@@ -38,9 +38,9 @@ asked_by (T.Logs es) = flat_map asked es
 asked_by (T.Executes a targets) = flat_map (λ x. asked x.expr) (wanted_in a)
 
 -- what a step reads, with the values that calls have already
-abbrev pub step_sources : List ComponentShape → Calls → Sources → R.Sources
+abbrev pub step_sources : List (Option ComponentEntry) → Calls → Sources → R.Sources
 step_sources components called s = record {
-  shapes = map shape_of s.shapes;
+  shapes = map shape_of s.named.now.shapes;
   components = components_in components;
   called = called;
   list = map source_of s.list;

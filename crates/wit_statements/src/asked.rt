@@ -1,5 +1,5 @@
 //! The calls that stand in a task, and the variables that it changes.
-ghost use Rattle.std.specs.Prelude.{◌≡◌, ◌++◌, map, flat_map, IfOk, OnOk};
+ghost use Rattle.std.specs.Prelude.{◌≡◌, ◌++◌, true, map, flat_map, IfOk, OnOk};
 ghost use Rattle.std.specs.List.{list_all};
 ghost use Rattle.cir_ast.specs.Tree.{as_accessors, bare, bare_argument, bare_exprs};
 ghost use Rattle.cir_ast.specs.Tree.{bare_statement};
@@ -12,6 +12,7 @@ ghost use Rattle.wit_statements.specs.Asked.{asked_by, task_of};
 
 use crate::tasks::Task;
 use cir_ast::program::{Accessor, Expr, LogArgument, Simple, Statement, StatementForm};
+use cir_frame::ComponentEntry;
 use cir_known::{Touched, touched_by, touched_by_loop};
 use cir_texts::{Texts, Wanted};
 use std::alloc::{AllocError, Global};
@@ -142,7 +143,7 @@ pub fn asked_calls(alloc: Global, task: Task<'_>) -> Result<Vec<&'_ Expr>, Alloc
 }
 
 /// Whether all calls of the task are among these.
-pub fn are_listed(alloc: Global, task: Task, calls: &[CallValue]) -> Result<bool, AllocError>
+fn are_listed(alloc: Global, task: Task, calls: &[CallValue]) -> Result<bool, AllocError>
     ensures { IfOk result (λ listed. listed
         ≡ list_all (has_call calls.now) (asked_by (task_of task.entry))) }
 {
@@ -155,9 +156,47 @@ pub fn are_listed(alloc: Global, task: Task, calls: &[CallValue]) -> Result<bool
     Ok(true)
 }
 
+/// The task of a step, with what is told of it: the body's components, each call that stands in
+/// it, with its value where it has one already, and the variables whose numbers change while it is
+/// done.
+#[derive(Drop)]
+pub struct StepTask<'a> {
+    pub task: Task<'a>,
+    pub components: &'a [Option<ComponentEntry>],
+    pub calls: &'a [CallValue<'a>],
+    pub changed: Option<Touched>,
+    ghost listed: { list_all (has_call calls.now) (asked_by (task_of task)) ≡ true },
+    ghost changes: { changed_of changed ≡ T.changed_by (task_of task) },
+}
+
+impl<'a> StepTask<'a> {
+    /// There is no memory where a call is left out.
+    pub fn of(
+        alloc: Global,
+        task: Task<'a>,
+        components: &'a [Option<ComponentEntry>],
+        calls: &'a [CallValue<'a>],
+    ) -> Result<StepTask<'a>, AllocError>
+        ensures task { IfOk result (λ s. task_of s.task ≡ task_of task.entry) }
+        ensures components { IfOk result (λ s. s.components.now ≡ components.now) }
+        ensures calls { IfOk result (λ s. s.calls.now ≡ calls.now) }
+    {
+        if !are_listed(alloc, task, calls)? {
+            return Err(AllocError);
+        }
+        let changed = changed_by(alloc, task)?;
+        Ok(StepTask {
+            task,
+            components,
+            calls,
+            changed,
+        })
+    }
+}
+
 /// The variables whose numbers change while the task is done. An assignment alone reads before it
 /// writes.
-pub fn changed_by(alloc: Global, task: Task) -> Result<Option<Touched>, AllocError>
+fn changed_by(alloc: Global, task: Task) -> Result<Option<Touched>, AllocError>
     ensures { IfOk result (λ t. changed_of t ≡ T.changed_by (task_of task.entry)) }
 {
     match task {

@@ -9,7 +9,7 @@ mod statements;
 mod steps;
 mod tasks;
 
-pub use asked::{are_listed, asked_calls, changed_by};
+pub use asked::{StepTask, asked_calls};
 pub use declaring::{declare_as, known_dims};
 pub use slots::{most_named, params_of};
 pub use statements::emit_block;

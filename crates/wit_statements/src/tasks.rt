@@ -87,12 +87,12 @@ fn emit_targets(scope: &Scope, code: &mut Items<Op>, targets: &[Element]) -> Res
 /// What is asked for is executed, and what it gives is written.
 pub fn emit_task(
     ground: &Ground,
-    scope: &mut Scope,
+    scope: &Scope,
     code: &mut Items<Op>,
     task: Task,
 ) -> Result<(), AllocError>
     ensures { OnOk result (code.new ≡ code.old ++ T.task_code (ground_of ground.now)
-        (scope_of scope.old) (length code.old) (task_of task.entry)) }
+        (scope_of scope.now) (length code.old) (task_of task.entry)) }
 {
     let top = scope.top;
     match task {
@@ -123,12 +123,21 @@ pub fn emit_task(
             Ok(())
         }
         Task::Executes(a, targets) => {
-            emit_inner(ground, scope, code, a)?;
+            let mut inner = scope.copied(ground.alloc)?;
+            emit_inner(ground, &mut inner, code, a)?;
             emit_targets(scope, code, targets)?;
             Ok(())
         }
         Task::Repeats(_, condition, step, body, targets) => {
-            emit_turns(ground, scope, code, body, condition, Some(&step.assign))?;
+            let mut inner = scope.copied(ground.alloc)?;
+            emit_turns(
+                ground,
+                &mut inner,
+                code,
+                body,
+                condition,
+                Some(&step.assign),
+            )?;
             emit_targets(scope, code, targets)?;
             Ok(())
         }

@@ -7,7 +7,7 @@ use Rattle.cir_meaning.specs.Frame.{entry_at}
 use Rattle.cir_meaning.specs.Run.{entry_wires, wires_of}
 use Rattle.cir_steps.specs.RunSteps.{shaped_map}
 use Rattle.wit_lower.specs.Steps.{IsBelow}
-use Rattle.wit_sourced.specs.Shown.{name_of}
+use Rattle.wit_sourced.specs.Shown.{sought_name}
 use Rattle.cir_make.specs.declared.cells.Run.{Run}
 use Rattle.cir_make.specs.Cells.{cell_at, cell_in, wires_by}
 use Rattle.cir_make.proofs.ElementCells.{both_some}
@@ -29,8 +29,8 @@ returns-in-Some-at c = λ step components befores stands.
     (λ a named array. record {
       array = shaped_map cell_input (wires_of wires n e);
       is = subst (λ x. IsIn step components x (shaped_map cell_input (wires_of wires n e)))
-          (sym (ap name_of named))
+          (sym (ap sought_name named))
           (wires_of wires n e, stands.signal n ∙ ap (entry_wires wires n) there, refl);
       stands = array;
-      below = subst (λ x. IsBelow (length step.variables) x) (sym (ap name_of named)) tt;
+      below = subst (λ x. IsBelow (length step.variables) x) (sym (ap sought_name named)) tt;
     })

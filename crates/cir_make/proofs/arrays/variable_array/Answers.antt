@@ -8,7 +8,7 @@ use Rattle.cir_steps.specs.Step as S
 use Rattle.cir_steps.specs.Step.{listed, sources_of}
 use Rattle.cir_steps.specs.RunSteps.{shaped_map}
 use Rattle.wit_lower.specs.Steps.{IsBelow}
-use Rattle.wit_sourced.specs.Shown.{name_of}
+use Rattle.wit_sourced.specs.Shown.{sought_name}
 use Rattle.cir_make.specs.declared.cells.VariableCells.{VariableCells}
 use Rattle.cir_make.specs.Arrays.{sourced_by, values_in}
 use Rattle.cir_make.proofs.ElementCells.{both_some, values_behind, variables_got}
@@ -42,8 +42,8 @@ returns-in-Some-at c = λ step components stands.
     k u at unknown))
     (λ a named array. record {
       array = sourced_by d xs;
-      is = subst (λ x. IsIn step components x (sourced_by d xs)) (sym (ap name_of named))
+      is = subst (λ x. IsIn step components x (sourced_by d xs)) (sym (ap sought_name named))
           (sym (ap (λ o. shaped_map source_input (unwrap_or o (single (S.Constant 0)))) here));
       stands = array;
-      below = subst (λ x. IsBelow (length step.variables) x) (sym (ap name_of named)) below;
+      below = subst (λ x. IsBelow (length step.variables) x) (sym (ap sought_name named)) below;
     })

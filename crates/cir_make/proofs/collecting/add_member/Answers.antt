@@ -5,4 +5,4 @@ returns c = λ are.
     let s = c.args.standing.now in
     c.add.ensures s.frame.now s.cells.now s.befores.now are
     (λ step components stands sized.
-    c.in_ok-array.ensures step components s.befores.now stands sized)
+    c.port_array-array.ensures step components s.befores.now stands sized)

@@ -30,5 +30,5 @@ returns c = λ step components befores stands sized.
     has_run stands.parts cells.parts.items j pc stands.ports cells_are in
     let told = c.part_array.ensures run.run.ports run.same in
     both_some c.part_array.result _ _ _ told told (λ a is again.
-    port_stands f cells befores step components stands sized n element j c.in_ok-name.name entry p
+    port_stands f cells befores step components stands sized n element j c.args.name.now entry p
     pc declared created part_is cells_are a is)

@@ -5,4 +5,5 @@ use Rattle.cir_make.proofs.told.shapes.Given as goal
 
 abbrev pub invariant-loop-array : goal.invariant-loop-array
 invariant-loop-array l =
-    map shape_of l.shapes ++ map shape_by (drop l.array-index l.arrays) ≡ map shape_by l.arrays
+    map shape_of l.shapes.items ++ map shape_by (drop l.array-index l.arrays)
+    ≡ map shape_by l.arrays

@@ -72,8 +72,7 @@ emit-returns-in_ok-emit_right-in-Binary t c =
     (λ p. E.right_code g homes top p (P.decided o (g.known a)) o b)
     (rw c.deref-in-Binary.ensures at c.in_ok-emit-in-Binary.ensures)
     (rw (
-      c.decided.ensures,
-      c.in_ok-left-in-Binary.ensures,
+      c.in_ok-known-in-Binary.ensures,
       c.operator_of-op.ensures,
       c.deref-in-Binary-2.ensures,
       c.deref-in-Binary-3.ensures,

@@ -10,7 +10,7 @@ use Rattle.wit_sources.proofs.kept.add_targets.Given as goal
 -- what is left is still to be read
 abbrev pub invariant-loop-target : goal.invariant-loop-target
 invariant-loop-target g l =
-    (l.found.sources.shapes ≡ l.fn.found.sources.shapes)
+    (l.found.sources.named.now.shapes ≡ l.fn.found.sources.named.now.shapes)
     × ((u : Seen) → Reads (homes_in l.fn.found) (g.I.Inputs.offer l.inputs) (seen l.found) u
     (targets_kept (filter (λ t. not (in_run l.written t))
     (map element_of (drop l.target-index l.targets))))

@@ -9,7 +9,7 @@ use Rattle.wit_sources.proofs.kept.add_variables.Given as goal
 -- what is left is still to be read
 abbrev pub invariant-loop-n : goal.invariant-loop-n
 invariant-loop-n g l =
-    (l.found.sources.shapes ≡ l.fn.found.sources.shapes)
+    (l.found.sources.named.now.shapes ≡ l.fn.found.sources.named.now.shapes)
     × ((u : Seen) → Reads (homes_in l.fn.found) (g.I.Inputs.offer l.inputs) (seen l.found) u
     (flat_map (λ n. E.part_of (L.Variable n) (L.find (L.Variable n) (homes_in l.fn.found)) [])
     (drop l.n-index l.numbers))

@@ -35,8 +35,8 @@ returns-in-Some-first c = λ name e t.
     let places = c.in_ok-places.places.items in
     let first = c.in-Some-first.first.now in
     let at_home : L.find (L.Variable v) homes ≡ Some h =
-    ap (L.find (L.Variable v)) (sym (ap (λ s. s.homes) found.shown)) ∙ sym c.find.ensures
-    ∙ ap (λ o. option_map home_of (option_copied o)) c.in-Some.is in
+    ap (L.find (L.Variable v)) (sym (ap (λ s. s.homes) found.sources.named.now.shown))
+    ∙ sym c.find.ensures ∙ ap (λ o. option_map home_of (option_copied o)) c.in-Some.is in
     let known : is_some (all_known ks) ≡ true =
     sym (c.is_all_known.ensures ∙ ap (λ l. is_some (all_known l)) c.as_slice-2.ensures.value)
     ∙ c.if-not-is_all_known.false in

@@ -1,7 +1,6 @@
 use Rattle.std.proofs.Common.{◌≡◌, ◌∙◌, ap, sym, subst, map, ◌++◌, ◌∷◌, []}
 use Rattle.std.specs.Prelude.{nat_lt, option_map}
 use Rattle.std.proofs.lemmas.Bool.{le-ltb, lt-ltb}
-use Rattle.std.proofs.lemmas.List.{map-append}
 use Rattle.wit_lower.specs.Homes as L
 use Rattle.wit_sourced.specs.Loads.{input_of, source_of}
 use Rattle.wit_sourced.specs.Shown.{home_of, sought_name}
@@ -42,19 +41,17 @@ returns-in_ok-push-in-Some-clause-reads g c =
     (ap (λ n. nat_lt k n) (sym size)
     ∙ lt-ltb k c.made_elements.result c.if-element-made_elements.false)
     ∙ sym c.in_ok-input.ensures ∙ ap (option_map input_of) c.in-Some.is in
-    let list : map source_of c.push.new.found.sources.list
-    ≡ map source_of old ++ record { name = x; element = k; input = input } ∷ [] =
-    ap (map source_of) c.in_ok-push-in-Some.ensures.list ∙ map-append source_of old _
-    ∙ ap (λ s. map source_of old ++ s ∷ []) c.in_ok-source-in-Some.ensures.source in
     let state : record {
       list = map source_of old ++ record { name = x; element = k; input = input } ∷ [];
       whole = c.args.found.now.is_whole;
-    } ≡ seen c.push.new.found = λ i.
-    record { list = sym list i; whole = sym c.in_ok-push-in-Some.ensures.whole i } in
+    } ≡ seen c.push.new.found = λ i. record {
+      list = sym c.in_ok-push-in-Some.ensures.list i;
+      whole = sym c.in_ok-push-in-Some.ensures.whole i;
+    } in
     subst (λ u. Reads homes offer (seen c.args.found.now) u
     (record { name = x; element = k } ∷ [])) state
     (new_read x k homes offer (seen c.args.found.now) input is
-    c.in_ok-source-in-Some.ensures.number)
+    c.in_ok-push-in-Some.ensures.number)
 
 pub returns-in-None-clause-reads : goal.returns-in-None-clause-reads
 returns-in-None-clause-reads g c =

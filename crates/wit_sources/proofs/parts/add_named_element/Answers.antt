@@ -14,5 +14,5 @@ returns-in_default-clause-reads g c =
     let offer = g.I.Inputs.offer c.args.inputs.now in
     missing_read x c.args.element homes offer (seen c.args.found.now)
     (given_nowhere x c.args.element homes offer
-    (ap (find x) (sym (ap (λ s. s.homes) c.args.found.now.shown)) ∙ sym c.find.ensures
-    ∙ ap (λ o. option_map home_of (option_copied o)) c.in_default.is))
+    (ap (find x) (sym (ap (λ s. s.homes) c.args.found.now.sources.named.now.shown))
+    ∙ sym c.find.ensures ∙ ap (λ o. option_map home_of (option_copied o)) c.in_default.is))

@@ -8,7 +8,7 @@ use Rattle.wit_sources.proofs.parts.add_part.Given as goal
 -- what is left is still to be read
 abbrev pub invariant-loop-place : goal.invariant-loop-place
 invariant-loop-place g l =
-    (l.found.sources.shapes ≡ l.fn.found.sources.shapes)
+    (l.found.sources.named.now.shapes ≡ l.fn.found.sources.named.now.shapes)
     × ((u : Seen) → Reads (homes_in l.fn.found) (g.I.Inputs.offer l.inputs) (seen l.found) u
     (elements_of (sought_name l.name) (drop l.place-index l.place-items))
     → Reads (homes_in l.fn.found) (g.I.Inputs.offer l.inputs) (seen l.fn.found) u

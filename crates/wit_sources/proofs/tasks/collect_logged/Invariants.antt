@@ -10,7 +10,7 @@ use Rattle.wit_sources.proofs.tasks.collect_logged.Given as goal
 -- what is left is still to be read
 abbrev pub invariant-loop-argument : goal.invariant-loop-argument
 invariant-loop-argument g l =
-    (l.found.sources.shapes ≡ l.fn.found.sources.shapes)
+    (l.found.sources.named.now.shapes ≡ l.fn.found.sources.named.now.shapes)
     × ((u : Seen) → Reads (homes_in l.fn.found) (g.I.Inputs.offer l.inputs) (seen l.found) u
     (flat_map (expr_reads (ground_with l.setting (shapes_in l.fn.found) u.list)
     (homes_in l.fn.found)) (logged (map bare_argument (drop l.argument-index l.arguments))))

@@ -122,8 +122,8 @@ collect-returns-in-Array-clause-reads g t c =
     c.collect_all-in-Array.ensures.reads
 
 -- ---- operators
-pub collect-returns-else-decides-clause-reads : goal.collect-returns-else-decides-clause-reads
-collect-returns-else-decides-clause-reads g t c =
+pub collect-returns-else-branch-clause-reads : goal.collect-returns-else-branch-clause-reads
+collect-returns-else-branch-clause-reads g t c =
     let s = c.args.setting.now in
     let found = c.args.found.now in
     let offer = g.I.Inputs.offer c.args.inputs.now in
@@ -135,12 +135,11 @@ collect-returns-else-decides-clause-reads g t c =
     let a = bare x.a.value in
     let b = bare x.b.value in
     let mid = seen c.collect-in-Binary.new.found in
-    let left : c.in_ok-left-in-Binary.left
-    ≡ (ground_with s (shapes_in found) mid.list).known a =
-    rw (c.deref-in-Binary-2.ensures, c.collect-in-Binary.ensures.shapes)
-    at c.in_ok-left-in-Binary.ensures in
-    let none = none_of _ (sym (c.decides.ensures
-    ∙ ap₂ (λ o l. is_some (decided o l)) c.operator_of.ensures left) ∙ c.if-decides.false) in
+    let none = none_of _ (sym (rw (
+      c.operator_of.ensures,
+      c.deref-in-Binary-2.ensures,
+      c.collect-in-Binary.ensures.shapes,
+    ) at c.in_ok-is_decided-in-Binary.ensures) ∙ c.if-branch.false) in
     let first = rw c.deref-in-Binary.ensures at c.in_ok-collect-in-Binary.ensures.reads in
     on_ok_weaker c.collect-in-Binary-2.result (λ second. subst (Reads homes offer one two)
     (sym (ap (λ e. E.expr_reads ground homes (bare e)) x.is))

@@ -9,7 +9,7 @@ use Rattle.wit_sources.proofs.values.+collecting.Given as goal
 -- what is left is still to be read
 abbrev pub invariant-collect_all-loop-e : goal.invariant-collect_all-loop-e
 invariant-collect_all-loop-e g l =
-    (l.found.sources.shapes ≡ l.fn.found.sources.shapes)
+    (l.found.sources.named.now.shapes ≡ l.fn.found.sources.named.now.shapes)
     × ((u : Seen) → Reads (homes_in l.fn.found) (g.I.Inputs.offer l.inputs) (seen l.found) u
     (exprs_reads (ground_with l.setting (shapes_in l.fn.found) u.list) (homes_in l.fn.found)
     (bare_exprs (drop l.e-index l.es)))
@@ -19,7 +19,7 @@ invariant-collect_all-loop-e g l =
 
 abbrev pub invariant-collect_place-loop-accessor : goal.invariant-collect_place-loop-accessor
 invariant-collect_place-loop-accessor g l =
-    (l.found.sources.shapes ≡ l.fn.found.sources.shapes)
+    (l.found.sources.named.now.shapes ≡ l.fn.found.sources.named.now.shapes)
     × ((u : Seen) → Reads (homes_in l.fn.found) (g.I.Inputs.offer l.inputs) (seen l.found) u
     (place_reads (ground_with l.setting (shapes_in l.fn.found) u.list) (homes_in l.fn.found)
     (front_of l.front) l.indices.items (as_accessors (drop l.accessor-index l.accessors)))

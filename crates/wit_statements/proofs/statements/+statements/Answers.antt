@@ -309,19 +309,21 @@ emit_statement-returns-in_ok-emit_turns-in-For-clause-code t c =
     let old = c.args.code.now in
     let e = c.in-For in
     let one = c.emit_first.new.code in
-    let first = bare_first e.first.form in
+    let first = bare_first e.first.value.form in
     let turns = λ (x : L.Scope) (p : ℕ). P.turns x.top p
-    (λ q. E.turn_code g x q (bare_statement e.body.value) (Some (bare_assign e.step.assign)))
+    (λ q. E.turn_code g x q (bare_statement e.body.value)
+    (Some (bare_assign e.step.value.assign)))
     (λ q. S.test_code g x q (bare e.condition)) in
     let inner = S.first_scope g s first in
     form_made g s old c.emit_turns-in-For.new.code
     (P.followed (length old) (S.first_code g s (length old) first) (turns inner))
     c.args.statement.now (statement.For e.first e.condition e.step e.body) e.is refl
     (then_made old one c.emit_turns-in-For.new.code (S.first_code g s (length old) first)
-    (turns inner) c.in_ok-emit_first-in-For.ensures.code
-    ((rw c.deref-in-For.ensures at c.in_ok-emit_turns-in-For.ensures.code)
+    (turns inner) (rw c.deref-in-For.ensures at c.in_ok-emit_first-in-For.ensures.code)
+    ((rw (c.deref-in-For-2.ensures, c.deref-in-For-3.ensures)
+    at c.in_ok-emit_turns-in-For.ensures.code)
     ∙ ap (λ (x : L.Scope). one ++ turns x (length one))
-    c.in_ok-emit_first-in-For.ensures.scope.shows))
+    (rw c.deref-in-For.ensures at c.in_ok-emit_first-in-For.ensures.scope.shows)))
 
 pub emit_statement-returns-in_ok-emit_turns-in-For-clause-scope :
     goal.emit_statement-returns-in_ok-emit_turns-in-For-clause-scope

@@ -6,7 +6,8 @@ use Rattle.wit_lower.specs.Pieces as P
 use Rattle.wit_lower.specs.Procedures.{params_at}
 use Rattle.wit_lower.specs.Sources as R
 use Rattle.wit_lower.specs.Tasks as T
-use Rattle.wit_sourced.specs.Loads.{source_of, sources_in}
+use Rattle.wit_sourced.specs.Loaded.{sources_in}
+use Rattle.wit_sourced.specs.Loads.{source_of}
 use Rattle.wit_sourced.specs.Shown.{scope_of}
 use Rattle.wit_emit.specs.Grounds.{ground_of}
 use Rattle.wit_emit.proofs.Chained.{then_made}
@@ -25,8 +26,8 @@ returns-clause-code c =
     let two = c.emit_task.new.code in
     let list : map source_of c.as_slice-list.result.now ≡ sources.list =
     ap (map source_of) c.as_slice-list.ensures in
-    let shows : scope_of c.in_ok-scope.scope ≡ s =
-    rw c.as_slice.ensures at c.in_ok-scope.ensures in
+    let shows : scope_of c.args.sources.now.named.now.scope ≡ s =
+    c.args.sources.now.named.now.shown in
     let reads : c.in_ok-reads.reads.cells ≡ R.cells_read sources.list =
     c.in_ok-reads.ensures ∙ ap R.cells_read list in
     let loads = λ (cells : List ℕ) (x : L.Scope) (xs : List R.Source).
@@ -42,7 +43,7 @@ returns-clause-code c =
     (c.in_ok-emit_task.ensures ∙ ap (λ (x : L.Scope). c.emit_sources.new.code
     ++ T.task_code g x (length c.emit_sources.new.code) task) shows) in
     ap (λ (n : ℕ). framed n two)
-    (rw (c.as_slice-2.ensures.value, c.as_slice-3.ensures) at c.in_ok-slots.ensures)
+    (rw (c.as_slice.ensures.value, c.as_slice-2.ensures) at c.in_ok-slots.ensures)
     ∙ ap (λ (b : P.Code). framed (P.most_named (params_at g.keys) b) b) body
 
 pub returns-clause-reads : goal.returns-clause-reads

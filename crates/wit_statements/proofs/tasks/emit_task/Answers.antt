@@ -2,12 +2,15 @@ use Rattle.std.proofs.Common.{◌∙◌, ℕ, ◌+◌, [], ◌∷◌, ◌++◌, 
 use Rattle.wit_code.specs.declared.code.Op.TheVariants as op
 use Rattle.cir_ast.specs.Tree.{bare, bare_assign, bare_statement}
 use Rattle.cir_meaning.specs.Statement.{loop_of}
+use Rattle.std.specs.Prelude.{Some}
+use Rattle.wit_lower.specs.Homes as L
 use Rattle.wit_lower.specs.Pieces.{Code, turns}
 use Rattle.wit_lower.specs.Statements as S
 use Rattle.wit_lower.specs.Tasks as T
 use Rattle.wit_lower.specs.Values as V
 use Rattle.wit_statements.specs.Asked.{element_of}
-use Rattle.wit_sourced.specs.Shown.{homes_of, scope_of}
+use Rattle.wit_statements.specs.Parts as E
+use Rattle.wit_sourced.specs.Shown.{scope_of}
 use Rattle.wit_emit.specs.Grounds.{ground_of}
 use Rattle.wit_emit.proofs.Chained.{then_ended, then_made}
 use Rattle.wit_statements.proofs.Turns.{block_turns}
@@ -72,12 +75,13 @@ returns-in_ok-emit_targets-in-Executes c =
     let old = c.args.code.now in
     let one = c.emit_inner.new.code in
     let targets = map element_of c.in-Executes.targets.now in
+    let a = bare_statement c.in-Executes.a.now in
     rw c.in-Executes.is (then_ended old one c.emit_targets-in-Executes.new.code
-    (S.statement_code g s (length old) (bare_statement c.in-Executes.a.now))
-    (T.targets_code s.homes targets) c.in_ok-emit_inner-in-Executes.ensures.code
-    (c.in_ok-emit_targets-in-Executes.ensures
-    ∙ ap (λ hs. one ++ T.targets_code (homes_of hs) targets)
-    c.in_ok-emit_inner-in-Executes.ensures.scope.homes))
+    (S.statement_code g s (length old) a) (T.targets_code s.homes targets)
+    (c.in_ok-emit_inner-in-Executes.ensures.code
+    ∙ ap (λ (x : L.Scope). old ++ S.statement_code g x (length old) a)
+    c.in_ok-inner-in-Executes.ensures)
+    c.in_ok-emit_targets-in-Executes.ensures)
 
 pub returns-in_ok-emit_targets-in-Repeats : goal.returns-in_ok-emit_targets-in-Repeats
 returns-in_ok-emit_targets-in-Repeats c =
@@ -95,8 +99,9 @@ returns-in_ok-emit_targets-in-Repeats c =
     (loop_of c.in-Repeats.field-0 test body step.spot a))
     (T.targets_code s.homes targets)
     (c.in_ok-emit_turns-in-Repeats.ensures.code
+    ∙ ap (λ (x : L.Scope). old ++ turns x.top (length old)
+    (λ q. E.turn_code g x q body (Some a)) (λ q. S.test_code g x q test))
+    c.in_ok-inner-in-Repeats.ensures
     ∙ ap (λ (f : ℕ → Code). old ++ turns s.top (length old) f (λ q. S.test_code g s q test))
     (block_turns g s c.in-Repeats.field-0 step.spot body a))
-    (c.in_ok-emit_targets-in-Repeats.ensures
-    ∙ ap (λ hs. one ++ T.targets_code (homes_of hs) targets)
-    c.in_ok-emit_turns-in-Repeats.ensures.scope.homes))
+    c.in_ok-emit_targets-in-Repeats.ensures)

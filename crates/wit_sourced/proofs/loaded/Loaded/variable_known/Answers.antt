@@ -18,8 +18,8 @@ returns c =
     sym c.changes.ensures ∙ c.if-changes.false in
     let home = L.find (L.Variable n) in
     subst (λ (k : Option ℕ). IfOk c.element_known.result (λ known. known ≡ k))
-    (ap (λ h. K.element_known s n h is) c.find.ensures
-    ∙ ap (λ (x : L.Scope). K.element_known s n (home x.homes) is) self.shown
+    (ap (λ h. K.element_known s n h is) c.find-home.ensures
+    ∙ ap (λ (x : L.Scope). K.element_known s n (home x.homes) is) self.sources.now.named.now.shown
     ∙ sym (ap (λ (b : Bool). if b then None
     else K.element_known s n (home (R.scope_of s).homes) is) kept)
     ∙ ap (λ (m : Meant). K.variable_known s (changed_in self) m (Some is))
