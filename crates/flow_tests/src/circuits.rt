@@ -43,11 +43,10 @@ fn cut_of(alloc: Global, program: &Program) -> Option<CutCircuit>
     }
 }
 
-/// The flow of a source's circuit.
-fn flow_of<R: AllocGlobal + Abort>(rt: &R, text: &str) -> Flow {
+/// The circuit of a source.
+fn circuit_of<R: AllocGlobal + Abort>(rt: &R, text: &str) -> CutCircuit {
     let program = program_of(rt, text);
-    let CutCircuit { flow, .. } = cut_of(rt.alloc(), &program).expect(rt, "a circuit");
-    flow
+    cut_of(rt.alloc(), &program).expect(rt, "a circuit")
 }
 
 /// Runs a flow from 1 and these inputs on eight workers, with ample fuel.
@@ -88,7 +87,7 @@ component main = T();
 // holds at the same time, and the lesser one is the answer.
 #[test]
 fn two_asserts_of_a_source_stop_at_once(rt: HostRuntime) {
-    let flow = flow_of(&rt, TWO_ASSERTS);
+    let CutCircuit { flow, .. } = circuit_of(&rt, TWO_ASSERTS);
     let gate = Meeting::of(strand_of(&rt, &flow, 2), strand_of(&rt, &flow, 4));
     let outcome = on_workers(&rt, &flow, &[1], &gate);
     same(&rt, gate.entered(), (1, 1, 0));
@@ -109,13 +108,27 @@ template LessThan(n) {
 component main {public [in]} = LessThan(8);
 ";
 
-// Only workers call the gate. Cells 0 to 3 are the 1, the output and the two inputs.
+/// What comes out of the comparison of two numbers, each strand of which a worker has run once.
+fn compared<R: Threads + Wait + AllocGlobal + Sync + Abort>(
+    rt: &R,
+    left: u64,
+    right: u64,
+    less: u64,
+) {
+    let CutCircuit { flow, homes, .. } = circuit_of(rt, LESS_THAN);
+    let gate = Counts::of(rt, flow.graph.strands);
+    let outcome = on_workers(rt, &flow, &[left, right], &gate);
+    assert!(rt; gate.are_all_once());
+    assert!(rt; matches!(&outcome, Outcome::Done(_)));
+    // signal 1 is the output
+    let out = homes.as_slice().get(1).copied().expect(rt, "a signal");
+    has(rt, &outcome, &[(0, Some(1)), (out as usize, Some(less))]);
+}
+
+// Only workers call the gate.
 #[test]
 fn each_strand_of_a_source_is_run_by_a_worker(rt: HostRuntime) {
-    let flow = flow_of(&rt, LESS_THAN);
-    let gate = Counts::of(&rt, flow.graph.strands);
-    let outcome = on_workers(&rt, &flow, &[3, 5], &gate);
-    assert!(rt; gate.are_all_once());
-    has(&rt, &outcome, &[(0, Some(1))]);
-    assert!(rt; matches!(&outcome, Outcome::Done(_)));
+    compared(&rt, 3, 5, 1);
+    compared(&rt, 5, 3, 0);
+    compared(&rt, 5, 5, 0);
 }
