@@ -54,6 +54,7 @@ impl<N> Expr<N> {
 }
 
 impl<N: Drop> Expr<N> {
+    /// It stands in a box, since it is much larger than most expressions.
     pub fn anonymous(alloc: Global, component: Anonymous<N>) -> Result<Expr<N>, AllocError>
         ensures { IfOk result (λ e. bare e ≡ bare_anonymous component) }
     {

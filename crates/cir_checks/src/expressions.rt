@@ -1,6 +1,6 @@
 //! The faults of expressions.
 ghost use Rattle.std.specs.Prelude.{◌≡◌};
-ghost use Rattle.cir_ast.specs.Tree.{bare, bare_exprs, bare_inputs, bare_anonymous, as_accessors};
+ghost use Rattle.cir_ast.specs.Tree.{bare, bare_exprs, bare_inputs, as_accessors};
 ghost use Rattle.cir_ast.specs.Tree.{as_named};
 ghost use Rattle.cir_checks.specs.Faults.{no_names};
 ghost use Rattle.cir_checks.specs.Uses.{inputs_count, inputs_in, value_fault, nameless_fault};

@@ -120,7 +120,7 @@ fn refusal_at(
 {
     let file = match files.get(site.file as usize) {
         Some(name) => Text::from_slice(alloc, name.as_slice())?,
-        None => Text::new(alloc),
+        None => Text::new(),
     };
     let path = Text::from_slice(alloc, path)?;
     Ok(Refusal {

@@ -66,7 +66,7 @@ pub fn assign_copy(alloc: Global, w: &Written) -> Result<Assign, AllocError>
     let value = given_copy(alloc, w.given)?;
     let accessors = accessors_copy(alloc, w.accessors)?;
     let place = Place {
-        name: Text::new(alloc),
+        name: Text::new(),
         meant: Meant::Variable(w.variable),
         accessors,
     };

@@ -23,7 +23,6 @@ use crate::trimmed::tight;
 use cir_ast::Blank;
 use cir_ast::marked::{Accessor, Expr, NamedInput, Place};
 use cir_token::{Reserved, Symbol, Text, TokenKind};
-use items::Items;
 use std::alloc::Global;
 
 /// What begins with a parenthesis.
@@ -304,7 +303,7 @@ impl<'a> Reader<'a> {
                 })
             }
             TokenKind::Name(name) => {
-                let name = Items::from_slice(alloc, name.as_slice())?;
+                let name = Text::from_slice(alloc, name.as_slice())?;
                 self.rest = rest;
                 let found = self.named(alloc, inner, name)?;
                 Ok(found)

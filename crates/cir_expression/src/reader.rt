@@ -6,7 +6,6 @@ ghost use Rattle.cir_expression.specs.Answers.{kinds, Reads, Passes, begins_inpu
 
 use cir_ast::marked::Arrow;
 use cir_token::{Reserved, Symbol, Text, Token, TokenKind};
-use items::Items;
 use std::alloc::{AllocError, AllocFailed, Global};
 
 /// Why no tree was read.
@@ -125,7 +124,7 @@ impl<'a> Reader<'a> {
         };
         match &token.kind {
             TokenKind::Name(name) => {
-                let name = Items::from_slice(alloc, name.as_slice())?;
+                let name = Text::from_slice(alloc, name.as_slice())?;
                 self.rest = rest;
                 Ok(name)
             }

@@ -19,6 +19,7 @@ use crate::world::{Grouping, Row, World};
 use cir_arrays::{Datum, Filling, add_array, elements, made_elements};
 use cir_ast::Text;
 use cir_ast::program::{Direction, Spot};
+use smallvec::SmallVec;
 use std::alloc::{AllocError, Global};
 
 /// How many variables, signals and components a body declares; its parameters aren't counted.
@@ -123,12 +124,12 @@ pub fn declare_signal(
     Ok(())
 }
 
-fn marks(alloc: Global, dims: &[u64], direction: Direction) -> Result<Vec<bool>, AllocError>
+fn marks(alloc: Global, dims: &[u64], direction: Direction) -> Result<SmallVec<bool, 8>, AllocError>
     ensures { IfOk result (λ marks. marks.items
         ≡ replicate (made_count dims.now) (M.is_input direction)) }
 {
     let is_input = matches!(direction, Direction::Input);
-    vec![in alloc; is_input; made_elements(dims) as usize]
+    SmallVec::from_elem(alloc, is_input, made_elements(dims) as usize)
 }
 
 /// A component's elements aren't created yet.

@@ -4,6 +4,7 @@ ghost use Rattle.cir_arrays.specs.Made.{made_count};
 
 use cir_ast::Text;
 use cir_ast::program::{Direction, Spot};
+use smallvec::SmallVec;
 
 /// A declared signal: the number of its first element, and which elements are written.
 #[derive(Drop)]
@@ -15,7 +16,7 @@ pub struct SignalEntry {
     pub dims: Vec<u64>,
     pub first: u128,
     /// None of an array that is too large.
-    pub written: Vec<bool>,
+    pub written: SmallVec<bool, 8>,
     pub ghost sized: { length written.items ≡ made_count dims.items },
 }
 
@@ -40,7 +41,7 @@ impl SignalEntry {
     pub fn is_written(&self, place: u64) -> bool
         ensures { result ≡ M.is_written (signal_of self.now) place }
     {
-        match self.written.get(place as usize) {
+        match self.written.as_slice().get(place as usize) {
             Some(written) => *written,
             None => true,
         }
@@ -62,7 +63,7 @@ impl SignalEntry {
         ensures { signal_of self.new ≡ marked (signal_of self.old) place }
     {
         if place < self.written.len() as u64 {
-            self.written[place as usize] = true;
+            self.written.as_mut_slice()[place as usize] = true;
         }
     }
 

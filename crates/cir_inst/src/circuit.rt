@@ -279,6 +279,6 @@ fn file_name(alloc: Global, program: &Program, file: u32) -> Result<Text, AllocE
             let copy = Text::from_slice(alloc, name.as_slice())?;
             Ok(copy)
         }
-        None => Ok(Text::new(alloc)),
+        None => Ok(Text::new()),
     }
 }

@@ -2,7 +2,7 @@
 ghost use Rattle.std.specs.Prelude.{◌≡◌, [], ◌∷◌, ◌++◌, map, IfOk, OnOk};
 ghost use Rattle.cir_ast.specs.declared.program.Meant.TheVariants as meant_as;
 ghost use Rattle.cir_ast.specs.declared.operators.Direction.TheVariants as direction_as;
-ghost use Rattle.cir_ast.specs.Tree.{bare, bare_place, bare_inputs, bare_simple, bare_anonymous};
+ghost use Rattle.cir_ast.specs.Tree.{bare, bare_place, bare_inputs, bare_simple};
 ghost use Rattle.cir_ast.specs.Tree.{Created, Call, bare_exprs, bare_statement, bare_signal};
 ghost use Rattle.cir_ast.specs.Tree.{as_statements};
 ghost use Rattle.cir_ast.specs.Program.{bare_program};
@@ -102,7 +102,8 @@ pub fn create(
     let template = text(alloc, &a.name)?;
     let arguments = exprs(alloc, a.arguments.as_slice())?;
     let call = Expr::Call(a.parallel, template, a.meant, arguments);
-    let created = Components::Created(Items::of(name), Meant::Component(own.number), call);
+    let name = Text::from_slice(alloc, name.as_slice())?;
+    let created = Components::Created(name, Meant::Component(own.number), call);
     before.push(Simple::Components(created))?;
     Ok(())
 }

@@ -40,6 +40,7 @@ use cir_execute::log as execute_log;
 use cir_frame::{Frame, World};
 use cir_values::{Side, side_of};
 use items::Items;
+use numbers::Numbers;
 use std::alloc::{AllocError, Global};
 use wit_circuit::LogPart;
 
@@ -95,7 +96,7 @@ fn asserted<C: Fn(Spot, u32, Vec<Datum>, &mut World) -> Result<Datum, Fault>>(
             plain_step(
                 here,
                 Doing::Asserts(condition),
-                Items::new(here.alloc()),
+                Numbers::new(here.alloc()),
                 &inside.frame,
                 &mut inside.cells,
                 &mut whole.made,
@@ -190,7 +191,7 @@ fn line_step<C: Fn(Spot, u32, Vec<Datum>, &mut World) -> Result<Datum, Fault>>(
 #[derive(Drop)]
 struct Line {
     parts: Items<LogPart>,
-    targets: Items<u32>,
+    targets: Numbers,
     next: u32,
 }
 
@@ -251,7 +252,7 @@ fn line_from(alloc: Global, arguments: &[LogArgument], first: u32) -> Result<Lin
 {
     let mut line = Line {
         parts: Items::new(alloc),
-        targets: Items::new(alloc),
+        targets: Numbers::new(alloc),
         next: first,
     };
     for argument in arguments {

@@ -24,6 +24,7 @@ use cir_evaluate::Here;
 use cir_execute::Rest;
 use cir_frame::{Frame, World};
 use items::Items;
+use numbers::Numbers;
 use wit_circuit::{LogPart, MadeStep, StepPlace};
 
 /// So many elements of a variable.
@@ -61,7 +62,7 @@ pub struct Making<'a, 'b> {
     /// Variables that had other values before: of what is left where a condition isn't known,
     /// those that it may assign.
     pub befores: &'a [Before],
-    pub targets: Items<u32>,
+    pub targets: Numbers,
     pub line: Option<Items<LogPart>>,
 }
 
@@ -124,7 +125,7 @@ pub fn make_step<C: Fn(Spot, u32, Vec<Datum>, &mut World) -> Result<Datum, Fault
 pub fn plain_step<C: Fn(Spot, u32, Vec<Datum>, &mut World) -> Result<Datum, Fault>>(
     here: &Here<C>,
     doing: Doing,
-    targets: Items<u32>,
+    targets: Numbers,
     frame: &Frame,
     cells: &mut Cells,
     made: &mut Made,

@@ -17,6 +17,7 @@ use cir_frame::Frame;
 use cir_has::{Arrays, add_keys};
 use cir_rules::CallTable;
 use items::Items;
+use numbers::Numbers;
 use std::alloc::{AllocError, Global};
 use wit_code::Step;
 use wit_sourced::{Input, Named, Shape, Sought};
@@ -72,7 +73,7 @@ fn code_named<'x>(
     told: &Told<'x>,
     named: &Named<'x>,
     step: &StepTask<'x>,
-    targets: Items<u32>,
+    targets: Numbers,
     keys: &mut CallTable,
 ) -> Result<Step, AllocError>
     ensures grows { OnOk result (Grows (map made_of keys.old.calls.items)
@@ -101,7 +102,7 @@ pub fn code_of<'x>(
     alloc: Global,
     told: &Told<'x>,
     step: &StepTask<'x>,
-    targets: Items<u32>,
+    targets: Numbers,
     keys: &mut CallTable,
 ) -> Result<Step, AllocError>
     ensures grows { OnOk result (Grows (map made_of keys.old.calls.items)

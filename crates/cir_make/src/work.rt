@@ -27,7 +27,7 @@ use cir_evaluate::Here;
 use cir_execute::Rest;
 use cir_frame::World;
 use cir_rules::CallTable;
-use items::Items;
+use numbers::Numbers;
 use std::alloc::{AllocError, Global};
 use wit_code::Step;
 use wit_named::names_of;
@@ -86,7 +86,7 @@ fn code_at<C: Fn(Spot, u32, Vec<Datum>, &mut World) -> Result<Datum, Fault>>(
     here: &Here<C>,
     standing: &Standing,
     task: Task,
-    targets: Items<u32>,
+    targets: Numbers,
     keys: &mut CallTable,
     world: &mut World,
 ) -> Result<Step, AllocError>
@@ -128,7 +128,7 @@ pub fn code_for<C: Fn(Spot, u32, Vec<Datum>, &mut World) -> Result<Datum, Fault>
     here: &Here<C>,
     standing: &Standing,
     doing: Doing,
-    targets: Items<u32>,
+    targets: Numbers,
     keys: &mut CallTable,
     world: &mut World,
 ) -> Result<Step, AllocError>

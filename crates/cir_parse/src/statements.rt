@@ -21,7 +21,6 @@ use cir_ast::{Blank, Text};
 use cir_expression::{Reader, Stop, tight};
 use cir_simple_statement::{assign, simple, variables};
 use cir_token::{Reserved, Symbol, TokenKind};
-use items::Items;
 use std::alloc::Global;
 
 /// What stands between quotes.
@@ -34,7 +33,7 @@ pub fn words(alloc: Global, reader: &mut Reader) -> Result<Text, Stop>
     };
     match &token.kind {
         TokenKind::Str(words) => {
-            let words = Items::from_slice(alloc, words.as_slice())?;
+            let words = Text::from_slice(alloc, words.as_slice())?;
             reader.rest = rest;
             Ok(words)
         }

@@ -1,7 +1,4 @@
-use items::Items;
-
-/// A name, a string or a path, as its bytes.
-pub type Text = Items<u8>;
+use text::Text;
 
 /// A token: what it is, the offset of its first byte, and the number of its bytes.
 #[derive(Drop)]

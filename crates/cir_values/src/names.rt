@@ -4,9 +4,13 @@ ghost use Rattle.cir_values.specs.Names.{IsNameOf, IsNamed, brackets};
 ghost use Rattle.cir_values.specs.Places.{elements, place_of};
 ghost use Rattle.cir_values.specs.Reading.{bracket_at, read_from};
 
-use crate::signals::{SignalName, Text};
-use items::Items;
+use crate::signals::SignalName;
+use itoa::Buffer;
 use std::alloc::{AllocError, Global};
+use text::Text;
+
+/// The bytes of the longest index in its brackets.
+const LONGEST: usize = 22;
 
 /// The name of an element: the declared name, followed by the element's indices.
 pub fn name_of(alloc: Global, name: &SignalName) -> Result<Text, AllocError>
@@ -74,17 +78,24 @@ fn indices(alloc: Global, dims: &[u64], place: u32) -> Result<Vec<u64>, AllocErr
 pub fn indexed(alloc: Global, declared: &[u8], index: &[u64]) -> Result<Text, AllocError>
     ensures { IfOk result (λ text. text ≡ declared.now ++ brackets index.now) }
 {
-    let mut text = Vec::from_slice(alloc, declared)?;
-    for i in index {
-        push_bracket(alloc, &mut text, *i)?;
+    if index.is_empty() {
+        return Text::from_slice(alloc, declared);
     }
-    Ok(Items::of(text))
+    let room = index.len().saturating_mul(LONGEST);
+    let mut text = Vec::with_capacity(alloc, declared.len().saturating_add(room))?;
+    text.extend_from_slice(declared)?;
+    for i in index {
+        push_bracket(&mut text, *i)?;
+    }
+    Text::from_slice(alloc, text.as_slice())
 }
 
-fn push_bracket(alloc: Global, text: &mut Vec<u8>, i: u64) -> Result<(), AllocError>
+fn push_bracket(text: &mut Vec<u8>, i: u64) -> Result<(), AllocError>
     ensures { OnOk result (text.new.items ≡ text.old.items ++ (91 ∷ (decimal i ++ (93 ∷ [])))) }
 {
-    let piece = format!(in alloc; "[{i}]")?;
-    text.extend_from_slice(piece.as_bytes())?;
+    let mut digits = Buffer::new();
+    text.push(b'[')?;
+    text.extend_from_slice(digits.format(i).as_bytes())?;
+    text.push(b']')?;
     Ok(())
 }

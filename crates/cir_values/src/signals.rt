@@ -4,9 +4,7 @@ ghost use Rattle.cir_values.specs.Names.{HasName, NamesSignal};
 use crate::names::name_of;
 use items::Items;
 use std::alloc::{AllocError, Global};
-
-/// The bytes of a name.
-pub type Text = Items<u8>;
+use text::Text;
 
 /// The signals of a circuit, in the order of their numbers: main's outputs, its public inputs, its
 /// private inputs, then all others. Signal 0, which stands for 1, has no entry.

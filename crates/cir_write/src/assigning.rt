@@ -37,7 +37,7 @@ use cir_evaluate::Here;
 use cir_frame::{Frame, World};
 use cir_make::{Body, Cast, Doing, Inside, Source, VariableCells, Whole, plain_step};
 use gold_field::Gold;
-use items::Items;
+use numbers::Numbers;
 use std::alloc::{AllocError, Global};
 
 /// A variable is written. It is a step where an element that it writes isn't known afterwards.
@@ -198,10 +198,10 @@ fn all_places(alloc: Global, old: &Datum) -> Result<Vec<u64>, AllocError>
 }
 
 /// So many numbers from one on.
-pub fn numbers(alloc: Global, first: u32, count: u64) -> Result<Items<u32>, AllocError>
+pub fn numbers(alloc: Global, first: u32, count: u64) -> Result<Numbers, AllocError>
     ensures { IfOk result (λ numbers. numbers ≡ numbers_from first count) }
 {
-    let mut numbers = Items::new(alloc);
+    let mut numbers = Numbers::new(alloc);
     for at in 0..count {
         numbers.push(number(first, at)?)?;
     }

@@ -22,7 +22,7 @@ use cir_cost::{Cost, stepped};
 use cir_evaluate::{Here, number};
 use cir_frame::World;
 use cir_make::{Body, Cast, Doing, Inside, Whole, plain_step};
-use items::Items;
+use numbers::Numbers;
 
 /// `left === right`
 pub fn equal<C, M>(
@@ -75,7 +75,7 @@ fn compare<C: Fn(Spot, u32, Vec<Datum>, &mut World) -> Result<Datum, Fault>>(
 {
     let x = number(here, left, &inside.frame, &mut whole.world)?;
     let y = number(here, right, &inside.frame, &mut whole.world)?;
-    let targets = Items::new(here.alloc());
+    let targets = Numbers::new(here.alloc());
     plain_step(
         here,
         Doing::Compares(left, right),

@@ -34,7 +34,7 @@ use cir_cost::stepped;
 use cir_evaluate::{Here, datum};
 use cir_frame::{Frame, Target, World};
 use cir_make::{Body, Cast, Cells, Doing, Inside, Run, Whole, plain_step};
-use items::Items;
+use numbers::Numbers;
 use std::alloc::{AllocError, Global};
 
 /// A signal is written, and constrained by `<==`. A write of no signal is no step.
@@ -131,7 +131,7 @@ fn targets(
     target: &Target,
     value: &Datum,
     cells: &Cells,
-) -> Result<Items<u32>, AllocError>
+) -> Result<Numbers, AllocError>
     ensures { (x : Emission) (first count : ℕ) → HaveCells x cells.now
         → run_of target.now.reach.part ≡ (first, count) → IfOk result (λ targets. targets
         ≡ map (wire_cell (ports_of target.now.part x) target.now.number)
@@ -139,7 +139,7 @@ fn targets(
 {
     let (first, count) = target.run();
     let rows = find_rows(cells, target.part, target.number);
-    let mut targets = Items::new(alloc);
+    let mut targets = Numbers::new(alloc);
     for at in 0..count.min(item_count(value)) {
         let place = first.checked_add(at).ok_or(AllocError)?;
         targets.push(cell(rows, place)?)?;

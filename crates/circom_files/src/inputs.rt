@@ -13,6 +13,7 @@ ghost use Rattle.circom_files.specs.Steps.{WereRead};
 
 use crate::outcome::Witness;
 use crate::stop::Stop;
+use cir_ast::Text;
 use circom_words::{BadInput, Refusal};
 use gold_field::Gold;
 use iden_files::{FileFault, R1cs, read_r1cs, read_wtns};
@@ -39,7 +40,7 @@ pub fn bytes_in<S: Store>(alloc: Global, store: &mut S, name: &str) -> Result<Ve
     match store.read(alloc, name)? {
         Some(bytes) => Ok(bytes),
         None => Err(Stop::Refused(Refusal::NoSuchFile {
-            name: Items::from_slice(alloc, name.as_bytes())?,
+            name: Text::from_slice(alloc, name.as_bytes())?,
         })),
     }
 }
@@ -75,7 +76,7 @@ fn refused(alloc: Global, name: &str, fault: FileFault) -> Stop
     ensures { Refuses name.now fault result }
 {
     match fault {
-        FileFault::At { cause, offset } => match Items::from_slice(alloc, name.as_bytes()) {
+        FileFault::At { cause, offset } => match Text::from_slice(alloc, name.as_bytes()) {
             Ok(name) => Stop::Refused(Refusal::BadFile {
                 name,
                 cause,
@@ -156,7 +157,7 @@ fn refused_publics(alloc: Global, fault: InputFault) -> Stop
 {
     match fault {
         InputFault::OutOfMemory => Stop::OutOfMemory,
-        InputFault::BadNumber { index, .. } => match Items::from_slice(alloc, b"public") {
+        InputFault::BadNumber { index, .. } => match Text::from_slice(alloc, b"public") {
             Ok(name) => Stop::Refused(Refusal::BadInput(BadInput::BadNumber { name, index })),
             Err(_) => Stop::OutOfMemory,
         },

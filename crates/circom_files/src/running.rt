@@ -62,6 +62,6 @@ fn name_at(alloc: Global, inputs: &[InputShape], place: u32) -> Result<Text, All
 {
     match inputs.get(place as usize) {
         Some(input) => Text::from_slice(alloc, input.name.as_slice()),
-        None => Ok(Text::new(alloc)),
+        None => Ok(Text::new()),
     }
 }

@@ -73,7 +73,7 @@ fn name_at(alloc: Global, names: &[Text], number: u32) -> Result<Text, AllocErro
 {
     match names.get(number as usize) {
         Some(name) => Ok(Text::from_slice(alloc, name.as_slice())?),
-        None => Ok(Text::new(alloc)),
+        None => Ok(Text::new()),
     }
 }
 

@@ -13,6 +13,7 @@ ghost use Rattle.circom_gold.specs.Source.{Codes, IsCoded, IsStopOf, KnowsSource
 ghost use Rattle.circom_gold.specs.Source.{SourcesBy, GivesSteps};
 ghost use Rattle.circom_words.specs.Words.{Options as MeantOptions, meant_options};
 
+use cir_ast::Text;
 use cir_body::circuit_code;
 use cir_compile::{CompileFault, Level, file_from};
 use cir_inst::Circuit;
@@ -22,7 +23,6 @@ use circom_files::{Stop, bytes_in, input_from};
 use circom_words::{BadInput, Options, Refusal};
 use gold_field::Gold;
 use iden_files::R1cs;
-use items::Items;
 use out_io::Store;
 use std::alloc::Global;
 use wit_circuit::CircuitCode;
@@ -99,7 +99,7 @@ pub fn stop_of(alloc: Global, name: &str, fault: CompileFault) -> Stop
     ensures { IsStopOf name.now fault result }
 {
     match fault {
-        CompileFault::Missing => match Items::from_slice(alloc, name.as_bytes()) {
+        CompileFault::Missing => match Text::from_slice(alloc, name.as_bytes()) {
             Ok(name) => Stop::Refused(Refusal::NoSuchFile { name }),
             Err(_) => Stop::OutOfMemory,
         },
@@ -129,7 +129,7 @@ pub fn start_in<S: Store>(
     match coded.loaded.known(name) {
         Known::Source => Err(Stop::Refused(Refusal::BadInput(BadInput::NotJson))),
         Known::Missing => Err(Stop::Refused(Refusal::NoSuchFile {
-            name: Items::from_slice(alloc, name.as_bytes())?,
+            name: Text::from_slice(alloc, name.as_bytes())?,
         })),
         Known::Nothing => {
             let bytes = bytes_in(alloc, store, name)?;

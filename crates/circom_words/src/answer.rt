@@ -1,15 +1,15 @@
+use cir_ast::Text;
 use iden_files::FileCause;
-use items::Items;
 
 /// Why a command refuses what it was given.
 #[derive(Drop)]
 pub enum Refusal {
     NoSuchFile {
-        name: Items<u8>,
+        name: Text,
     },
     /// What is wrong with a file, and the place of the byte where it is.
     BadFile {
-        name: Items<u8>,
+        name: Text,
         cause: FileCause,
         offset: u64,
     },
@@ -23,21 +23,10 @@ pub enum Refusal {
 #[derive(Drop)]
 pub enum BadInput {
     NotJson,
-    Missing {
-        name: Items<u8>,
-    },
-    UnknownSignal {
-        key: Items<u8>,
-    },
-    WrongCount {
-        name: Items<u8>,
-        has: u64,
-        wants: u32,
-    },
-    BadNumber {
-        name: Items<u8>,
-        index: u64,
-    },
+    Missing { name: Text },
+    UnknownSignal { key: Text },
+    WrongCount { name: Text, has: u64, wants: u32 },
+    BadNumber { name: Text, index: u64 },
 }
 
 /// What `check` finds.

@@ -10,7 +10,7 @@ use crate::checks::same;
 use flow_board::{Answers, Board, Words, WorkSeat};
 use flow_core::{Graph, GraphFault};
 use gold_field::Gold;
-use items::Items;
+use numbers::Numbers;
 use std::alloc::{AllocError, Global};
 use std::process::Abort;
 use std::snapshot::Snapshot;
@@ -24,12 +24,12 @@ impl Answers for Chain {
     ghost flow = { λ a. chain a.0.value };
 }
 
-fn two_lists(alloc: Global, first: u32, second: u32) -> Result<Vec<Items<u32>>, AllocError>
+fn two_lists(alloc: Global, first: u32, second: u32) -> Result<Vec<Numbers>, AllocError>
     ensures { IfOk result (λ lists. lists.items ≡ (first ∷ []) ∷ (second ∷ []) ∷ []) }
 {
     let mut lists = Vec::new(alloc);
-    lists.push(Items::from_slice(alloc, &[first])?)?;
-    lists.push(Items::from_slice(alloc, &[second])?)?;
+    lists.push(Numbers::from_slice(alloc, &[first])?)?;
+    lists.push(Numbers::from_slice(alloc, &[second])?)?;
     Ok(lists)
 }
 
@@ -270,12 +270,12 @@ impl Answers for Pair {
     ghost flow = { λ a. pair a.0.value };
 }
 
-fn two_empty_lists(alloc: Global) -> Result<Vec<Items<u32>>, AllocError>
+fn two_empty_lists(alloc: Global) -> Result<Vec<Numbers>, AllocError>
     ensures { IfOk result (λ lists. lists.items ≡ [] ∷ [] ∷ []) }
 {
     let mut lists = Vec::new(alloc);
-    lists.push(Items::new(alloc))?;
-    lists.push(Items::new(alloc))?;
+    lists.push(Numbers::new(alloc))?;
+    lists.push(Numbers::new(alloc))?;
     Ok(lists)
 }
 

@@ -1,15 +1,15 @@
 use crate::checks::same;
 use flow_core::{Event, Graph, GraphFault, State, quiet, step};
 use gold_field::Gold;
-use items::Items;
+use numbers::Numbers;
 use std::alloc::{AllocError, Global};
 use std::marker::Model;
 use std::process::Abort;
 
-fn lists(alloc: Global, rows: &[&[u32]]) -> Result<Vec<Items<u32>>, AllocError> {
+fn lists(alloc: Global, rows: &[&[u32]]) -> Result<Vec<Numbers>, AllocError> {
     let mut lists = Vec::new(alloc);
     for row in rows {
-        lists.push(Items::from_slice(alloc, row)?)?;
+        lists.push(Numbers::from_slice(alloc, row)?)?;
     }
     Ok(lists)
 }

@@ -1,5 +1,5 @@
 use crate::checks::same;
-use cir_values::{InputShape, Signals};
+use cir_values::{InputShape, Signals, Text};
 use gold_field::Gold;
 use items::Items;
 use std::process::Abort;
@@ -8,7 +8,7 @@ use wit_input::{InputFault, read_input, read_publics, write_publics};
 // `in[2][2]` behind one output.
 fn shape<R: AllocGlobal + Abort>(rt: &R) -> InputShape {
     InputShape {
-        name: Items::from_slice(rt.alloc(), b"in").expect(rt, "memory"),
+        name: Text::from_slice(rt.alloc(), b"in").expect(rt, "memory"),
         first: 2,
         count: 4,
     }

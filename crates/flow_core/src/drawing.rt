@@ -8,6 +8,7 @@ ghost use Rattle.flow_core.specs.Drawn.{IsClaimed};
 use crate::graph::Graph;
 use crate::linking::{Linked, link_all};
 use items::Items;
+use numbers::Numbers;
 use std::alloc::{AllocError, Global};
 
 /// Why there is no graph.
@@ -47,7 +48,7 @@ fn mark(marks: &mut [u32], cells: &[u32], tag: u32, bound: u32) -> bool
 }
 
 /// Whether each list names each cell once, and in range. The marks are blank before.
-fn names_once(marks: &mut [u32], lists: &[Items<u32>]) -> bool
+fn names_once(marks: &mut [u32], lists: &[Numbers]) -> bool
     requires blank { (c : ℕ) → slice_index marks.old c ≡ 0 }
     requires narrow { length lists.now < 4294967296 }
     ensures { IsTrue result ↔ NamesOnce (length marks.old) lists.now }
@@ -63,7 +64,7 @@ fn names_once(marks: &mut [u32], lists: &[Items<u32>]) -> bool
 
 /// Gives each cell one more than the strand that writes it as its mark, and leaves it 0 where none
 /// does; false where a list names a cell twice or out of range, or two lists name one.
-fn claim(marks: &mut [u32], writes: &[Items<u32>]) -> bool
+fn claim(marks: &mut [u32], writes: &[Numbers]) -> bool
     requires blank { (c : ℕ) → slice_index marks.old c ≡ 0 }
     requires narrow { length writes.now < 4294967296 }
     ensures { MatchBool result (IsClaimed marks.new writes.now)
@@ -78,7 +79,7 @@ fn claim(marks: &mut [u32], writes: &[Items<u32>]) -> bool
 }
 
 /// Whether what strands read names each cell once, and in range.
-fn reads_once(alloc: Global, cells: u32, reads: &[Items<u32>]) -> Result<bool, AllocError>
+fn reads_once(alloc: Global, cells: u32, reads: &[Numbers]) -> Result<bool, AllocError>
     requires { length reads.now < 4294967296 }
     ensures { IfOk result (λ b. IsTrue b ↔ NamesOnce cells reads.now) }
 {
@@ -88,7 +89,7 @@ fn reads_once(alloc: Global, cells: u32, reads: &[Items<u32>]) -> Result<bool, A
 }
 
 /// The marks of the strands that write the cells, if they can be had.
-fn claimed(alloc: Global, cells: u32, writes: &[Items<u32>]) -> Result<Option<Vec<u32>>, AllocError>
+fn claimed(alloc: Global, cells: u32, writes: &[Numbers]) -> Result<Option<Vec<u32>>, AllocError>
     requires { length writes.now < 4294967296 }
     ensures some { IfOk result (λ o. IfSome o (λ marks. IsClaimed marks.items writes.now
         × (length marks.items ≡ cells))) }
@@ -109,8 +110,8 @@ impl Graph {
     pub fn new(
         alloc: Global,
         cells: u32,
-        reads: Vec<Items<u32>>,
-        writes: Vec<Items<u32>>,
+        reads: Vec<Numbers>,
+        writes: Vec<Numbers>,
     ) -> Result<Graph, GraphFault>
         ensures cells { IfOk result (λ g. g.cells ≡ cells) }
         ensures reads { IfOk result (λ g. g.reads ≡ reads.items) }

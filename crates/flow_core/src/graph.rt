@@ -1,4 +1,5 @@
 use items::Items;
+use numbers::Numbers;
 use std::marker::Model;
 
 /// Which strand reads and writes which cells, and which strands wait for which.
@@ -11,13 +12,13 @@ pub struct Graph {
     /// The number of cells.
     pub cells: u32,
     /// The cells that a strand reads.
-    pub reads: Items<Items<u32>>,
+    pub reads: Items<Numbers>,
     /// The cells that a strand writes, in the order in which it publishes them.
-    pub writes: Items<Items<u32>>,
+    pub writes: Items<Numbers>,
     /// The strands that write a cell which a strand reads: all of them have smaller numbers.
-    pub preds: Items<Items<u32>>,
+    pub preds: Items<Numbers>,
     /// The strands that have a strand among their predecessors, rising.
-    pub succs: Items<Items<u32>>,
+    pub succs: Items<Numbers>,
 }
 
 impl Model for Graph {

@@ -6,7 +6,7 @@ ghost use Rattle.std.specs.List.Sorted.{IsStrictlyIncreasing};
 ghost use Rattle.flow_core.specs.Counts.{IsIn, times};
 ghost use Rattle.flow_core.specs.Drawn.{row, Links, LinksLate, AreLinked, IsLate};
 
-use items::Items;
+use numbers::Numbers;
 use std::alloc::{AllocError, Global};
 
 /// Whether a list ends in a number.
@@ -21,7 +21,7 @@ fn ends_in(list: &[u32], strand: u32) -> bool
 }
 
 /// Puts a number behind one of the lists.
-fn push_at(lists: &mut [Items<u32>], at: u32, strand: u32) -> Result<(), AllocError>
+fn push_at(lists: &mut [Numbers], at: u32, strand: u32) -> Result<(), AllocError>
     requires { at < length lists.old }
     ensures { IfOk result (λ _. lists.new ≡ slice_set lists.old at
         (row lists.old at ++ strand ∷ [])) }
@@ -36,10 +36,10 @@ fn push_at(lists: &mut [Items<u32>], at: u32, strand: u32) -> Result<(), AllocEr
 fn link(
     alloc: Global,
     marks: &[u32],
-    succs: &mut [Items<u32>],
+    succs: &mut [Numbers],
     strand: u32,
     cells: &[u32],
-) -> Result<Option<Items<u32>>, AllocError>
+) -> Result<Option<Numbers>, AllocError>
     requires near { (c : ℕ) → IsIn c cells.now → c < length marks.now }
     requires narrow { strand < length succs.old }
     requires rises { (q : ℕ) → IsStrictlyIncreasing (row succs.old q) }
@@ -49,7 +49,7 @@ fn link(
     ensures none { IfOk result (λ o. MatchOption o (LinksLate marks.now strand cells.now)
         (λ _. ⊤)) }
 {
-    let mut preds = Items::new(alloc);
+    let mut preds = Numbers::new(alloc);
     for cell in cells {
         let writer = marks[*cell as usize];
         if writer == 0 {
@@ -70,16 +70,16 @@ fn link(
 /// The predecessors and the successors of each strand.
 #[derive(Drop)]
 pub struct Linked {
-    pub preds: Vec<Items<u32>>,
-    pub succs: Vec<Items<u32>>,
+    pub preds: Vec<Numbers>,
+    pub succs: Vec<Numbers>,
 }
 
-fn empty_lists(alloc: Global, count: usize) -> Result<Vec<Items<u32>>, AllocError>
+fn empty_lists(alloc: Global, count: usize) -> Result<Vec<Numbers>, AllocError>
     ensures { IfOk result (λ lists. lists.items ≡ replicate count []) }
 {
     let mut lists = Vec::with_capacity(alloc, count)?;
     for made in 0..count {
-        lists.push(Items::new(alloc))?;
+        lists.push(Numbers::new(alloc))?;
     }
     Ok(lists)
 }
@@ -89,9 +89,9 @@ fn empty_lists(alloc: Global, count: usize) -> Result<Vec<Items<u32>>, AllocErro
 fn link_rows(
     alloc: Global,
     marks: &[u32],
-    reads: &[Items<u32>],
-    succs: &mut [Items<u32>],
-) -> Result<Option<Vec<Items<u32>>>, AllocError>
+    reads: &[Numbers],
+    succs: &mut [Numbers],
+) -> Result<Option<Vec<Numbers>>, AllocError>
     requires near { (k c : ℕ) → IsIn c (row reads.now k) → c < length marks.now }
     requires narrow { length reads.now < 4294967296 }
     requires empty { succs.old ≡ replicate (length reads.now) [] }
@@ -114,7 +114,7 @@ fn link_rows(
 pub fn link_all(
     alloc: Global,
     marks: &[u32],
-    reads: &[Items<u32>],
+    reads: &[Numbers],
 ) -> Result<Option<Linked>, AllocError>
     requires near { (k c : ℕ) → IsIn c (row reads.now k) → c < length marks.now }
     requires narrow { length reads.now < 4294967296 }

@@ -3,6 +3,7 @@ ghost use Rattle.flow_samples.specs.Links.{adds, IsLink};
 
 use gold_field::{Gold, Op2};
 use items::Items;
+use numbers::Numbers;
 use std::alloc::{AllocError, Global};
 use wit_code::{Op, Proc, Step, is_well_formed};
 use wit_flow::{Flow, cut};
@@ -59,8 +60,8 @@ fn step(alloc: Global, link: Link, at: u32) -> Result<Option<Step>, AllocError>
     }
     Ok(Some(Step {
         code,
-        reads: Items::from_slice(alloc, &[link.from])?,
-        writes: Items::from_slice(alloc, &[at + 1])?,
+        reads: Numbers::from_slice(alloc, &[link.from])?,
+        writes: Numbers::from_slice(alloc, &[at + 1])?,
     }))
 }
 

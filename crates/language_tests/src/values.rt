@@ -1,7 +1,7 @@
 ghost use Rattle.std.specs.Prelude.{◌≡◌, [], ◌∷◌};
 
 use crate::checks::same;
-use cir_values::{Class, Shape, SignalName, Signals, class_of, flat};
+use cir_values::{Class, Shape, SignalName, Signals, Text, class_of, flat};
 use gold_field::Op2;
 use items::Items;
 use std::process::Abort;
@@ -31,7 +31,7 @@ fn places_go_by_rows(rt: HostRuntime) {
 fn one_signal<R: AllocGlobal + Abort>(rt: &R, base: &[u8], place: u32) -> Signals
     ensures { result.names ≡ record { instance = 0; base = base.now; place = place } ∷ [] }
 {
-    let base = Items::from_slice(rt.alloc(), base).expect(rt, "memory");
+    let base = Text::from_slice(rt.alloc(), base).expect(rt, "memory");
     let name = SignalName {
         instance: 0,
         base,

@@ -1,5 +1,6 @@
 use gold_field::{Gold, Op1, Op2};
 use items::Items;
+use numbers::Numbers;
 
 /// One instruction. A slot is a place of the running frame, named by its number; `d` is the slot
 /// that gets the result, and `t` a place of the code.
@@ -55,8 +56,8 @@ pub struct Proc {
 #[derive(Drop)]
 pub struct Step {
     pub code: Proc,
-    pub reads: Items<u32>,
-    pub writes: Items<u32>,
+    pub reads: Numbers,
+    pub writes: Numbers,
 }
 
 /// Where code stands: in a step, which reads so many numbers, or in a procedure.

@@ -6,6 +6,7 @@ ghost use Rattle.wit_flow.specs.Run.{reads_at, writes_at};
 
 use crate::flow::{Source, Strand};
 use items::Items;
+use numbers::Numbers;
 use std::alloc::{AllocError, Global};
 use std::mem;
 use wit_code::Step;
@@ -22,13 +23,13 @@ pub struct Mark {
 #[derive(Drop)]
 pub struct Draft {
     pub strands: Items<Strand>,
-    pub reads: Items<Items<u32>>,
-    pub writes: Items<Items<u32>>,
+    pub reads: Items<Numbers>,
+    pub writes: Items<Numbers>,
     pub sources: Items<Items<Source>>,
     pub first: u32,
     pub count: u32,
-    pub open_reads: Items<u32>,
-    pub open_writes: Items<u32>,
+    pub open_reads: Numbers,
+    pub open_writes: Numbers,
     /// The last mark of each cell.
     pub marks: Items<Mark>,
 }
@@ -62,8 +63,8 @@ impl Draft {
             sources: Items::new(alloc),
             first: 0,
             count: 0,
-            open_reads: Items::new(alloc),
-            open_writes: Items::new(alloc),
+            open_reads: Numbers::new(alloc),
+            open_writes: Numbers::new(alloc),
             marks: Items::of(marks),
         })
     }
@@ -196,8 +197,8 @@ impl Draft {
         requires { next_of self.old < 4294967296 }
         ensures { IfOk result (λ _. IsClosed self.old self.new) }
     {
-        let reads = mem::replace(&mut self.open_reads, Items::new(alloc));
-        let writes = mem::replace(&mut self.open_writes, Items::new(alloc));
+        let reads = mem::replace(&mut self.open_reads, Numbers::new(alloc));
+        let writes = mem::replace(&mut self.open_writes, Numbers::new(alloc));
         self.strands.push(Strand {
             first: self.first,
             count: self.count,

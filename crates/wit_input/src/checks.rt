@@ -11,8 +11,7 @@ ghost use Rattle.wit_input.specs.declared.fault.InputFault.TheVariants.{OutOfMem
 use crate::fault::InputFault;
 use crate::names::NameSet;
 use crate::values::values_in;
-use cir_values::InputShape;
-use items::Items;
+use cir_values::{InputShape, Text};
 use serde_json::{Map, Value};
 use std::alloc::{AllocError, Global};
 use std::{slice, str};
@@ -77,7 +76,7 @@ pub(crate) fn all_known(
     for (key, _) in members.iter() {
         if !names.contains(key.as_bytes()) {
             return Err(InputFault::UnknownSignal {
-                key: Items::from_slice(alloc, key.as_bytes())?,
+                key: Text::from_slice(alloc, key.as_bytes())?,
             });
         }
     }

@@ -5,7 +5,6 @@ ghost use Rattle.wit_run.specs.Lines.{behind_space, cells_in, part_text, line_te
 
 use cir_ast::Text;
 use gold_field::Gold;
-use items::Items;
 use std::alloc::{AllocError, Global};
 use wit_circuit::{LogLine, LogPart};
 
@@ -81,7 +80,7 @@ fn line_of(alloc: Global, parts: &[LogPart], held: Held<'_>) -> Result<Text, All
     for (place, part) in parts.iter().enumerate() {
         push_at(alloc, &mut text, place, part, held)?;
     }
-    Ok(Items::of(text))
+    Text::from_slice(alloc, text.as_slice())
 }
 
 fn push_before(

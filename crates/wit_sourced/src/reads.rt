@@ -6,14 +6,14 @@ ghost use Rattle.wit_sourced.specs.Told.{AreTold};
 
 use crate::slots::narrow;
 use crate::sources::{Input, Source};
-use items::Items;
+use numbers::Numbers;
 use std::alloc::{AllocError, Global};
 use std::collections::BTreeMap;
 
 /// The cells, each once, and where each of them stands.
 #[derive(Drop)]
 pub struct Reads {
-    pub cells: Items<u32>,
+    pub cells: Numbers,
     places: BTreeMap<u32, u32>,
     ghost told: { AreTold places cells },
 }
@@ -23,7 +23,7 @@ impl Reads {
     pub fn of(alloc: Global, list: &[Source]) -> Result<Reads, AllocError>
         ensures { IfOk result (λ reads. reads.cells ≡ R.cells_read (map source_of list.now)) }
     {
-        let mut cells = Items::new(alloc);
+        let mut cells = Numbers::new(alloc);
         let mut places = BTreeMap::new(alloc);
         for source in list {
             add_cell(&mut cells, &mut places, source.input)?;
@@ -41,7 +41,7 @@ impl Reads {
         }
     }
 
-    pub fn into_cells(self) -> Items<u32>
+    pub fn into_cells(self) -> Numbers
         ensures { result ≡ self.cells }
     {
         let Reads { cells, .. } = self;
@@ -51,7 +51,7 @@ impl Reads {
 
 /// A cell that isn't there is one more.
 fn add_cell(
-    cells: &mut Items<u32>,
+    cells: &mut Numbers,
     places: &mut BTreeMap<u32, u32>,
     input: Input,
 ) -> Result<(), AllocError>

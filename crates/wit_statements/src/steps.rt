@@ -13,6 +13,7 @@ use crate::slots::most_named;
 use crate::tasks::{Task, emit_task};
 use cir_rules::CallTable;
 use items::Items;
+use numbers::Numbers;
 use std::alloc::{AllocError, Global};
 use wit_code::Proc;
 use wit_emit::{Ground, Knowing};
@@ -24,7 +25,7 @@ pub fn emit_step<'a>(
     keys: &'a CallTable,
     step: &'a StepTask<'a>,
     sources: &'a Sources<'a>,
-) -> Result<(Proc, Items<u32>), AllocError>
+) -> Result<(Proc, Numbers), AllocError>
     ensures code { (called : Calls) → AreTold called step.now.calls.now → IfOk result (λ r. r.0
         ≡ T.step_code (T.step_ground (map made_of keys.now.calls.items)
         (step_sources step.now.components.now called sources.now) (task_of step.now.task))
@@ -51,7 +52,7 @@ fn emit_loaded(
     ground: &Ground,
     sources: &Sources,
     task: Task,
-) -> Result<(Proc, Items<u32>), AllocError>
+) -> Result<(Proc, Numbers), AllocError>
     ensures code { IfOk result (λ r. r.0 ≡ T.step_code (ground_of ground.now)
         (sources_in (ground_of ground.now) sources.now) (task_of task.entry)) }
     ensures reads { IfOk result (λ r. r.1 ≡ R.cells_read

@@ -1,4 +1,4 @@
-use Rattle.std.proofs.Common.{◌≡◌, List, Bool, true, false, ◌+◌, [], ap, sym, ◌∙◌, arith}
+use Rattle.std.proofs.Common.{◌≡◌, List, Bool, true, false, ◌+◌, [], ap, sym, ◌∙◌}
 use Rattle.std.proofs.lemmas.Bool.{eqb-true}
 use Rattle.std.proofs.lemmas.List.{nil_from_length}
 use Rattle.cir_meaning.specs.Frame.{is_written}
@@ -10,7 +10,7 @@ pub returns-then-is_empty : goal.returns-then-is_empty
 returns-then-is_empty c =
     let ws : List Bool = c.args.entry.now.written.items in
     let none = eqb-true _ _ (sym c.if-is_empty.ensures) in
-    let e : ws ≡ [] = nil_from_length ws (omega (arith, none, c.args.entry.now.written.ok)) in
+    let e : ws ≡ [] = nil_from_length ws none in
     unmarked c.args.entry.now e _
 
 pub loop-k-preserved : goal.loop-k-preserved

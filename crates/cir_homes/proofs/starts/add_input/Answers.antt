@@ -1,4 +1,4 @@
-use Rattle.std.proofs.Common.{◌≡◌, ◌∙◌, ℕ, List, ◌++◌, length, map, ap, arith, sym, subst}
+use Rattle.std.proofs.Common.{◌≡◌, ◌∙◌, ℕ, List, ◌++◌, length, map, ap, sym, subst}
 use Rattle.std.specs.Prelude.{OnOk}
 use Rattle.std.proofs.lemmas.List.{append-nil}
 use Rattle.cir_ast.specs.Program.{bare_main}
@@ -15,7 +15,7 @@ returns-then-is_chosen c =
     let new = c.add_elements.new.starts.items in
     let r = c.add_elements.result in
     let many : c.len.result ≡ length c.in-Some.entry.written.items =
-    omega (arith, c.len.ensures, c.in-Some.entry.written.ok) in
+    c.len.ensures.value in
     subst (λ (l : List ℕ). OnOk r (new ≡ starts ++ l))
     (sym (chosen_is (is_chosen (bare_main c.args.main.now) c.args.public)
     (wires_by c.args.ports.now) c.args.n c.args.signal.now c.in-Some.entry _ c.in-Some.is

@@ -9,8 +9,8 @@ use Rattle.cir_lift.proofs.made.create.Goals as goal
 pub returns : goal.returns
 returns c =
     let own : List ℕ = own_name c.args.own.index in
-    let named : c.of.result ≡ c.args.a.now.name ++ own =
-    c.of.ensures
+    let named : c.in_ok-name-2.name ≡ c.args.a.now.name ++ own =
+    c.in_ok-name-2.ensures ∙ c.as_slice-4.ensures.value
     ∙ c.in_ok-extend_from_slice.ensures.items
     ∙ ap (λ l. l ++ c.as_slice-2.result.now) (c.in_ok-name.ensures.items ∙ c.as_slice.ensures)
     ∙ ap (λ l. c.args.a.now.name ++ l) (c.as_slice-2.ensures ∙ c.in_ok-own_part.ensures) in

@@ -17,7 +17,7 @@ returns-clause-array c = λ wires n same.
       each = λ k i h.
           wired_each wires n rows (length e.written.items) k i same
           (subst (λ m. cond (nat_lt k m) (cell_input (cell_in rows k)) None ≡ Some i)
-          (ap (λ (l : List Bool). length l) c.as_slice-3.ensures.value) h);
+          (ap (λ (l : List Bool). length l) c.as_slice-3.ensures) h);
       small = ap is_too_large (c.as_slice-2.ensures.value ∙ sym c.as_slice.ensures.value)
           ∙ sym c.is_too_large.ensures ∙ c.if-is_too_large.false;
     }

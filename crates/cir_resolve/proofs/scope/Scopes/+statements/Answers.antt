@@ -33,7 +33,8 @@ statement-returns-in_err-for_loop-in-For-clause-named t c =
     ap (λ f. named_statement (state_of c.args.self.now) (bare_form c.args.statement.now.spot f))
     e.is
     ∙ for_named (state_of c.args.self.now) c.args.statement.now.spot e.first.value _ e.condition _
-    e.step.value _ e.body.value c.deref_mut-in-For.result.now _ first e.condition-is step body stops)
+    e.step.value _ e.body.value c.deref_mut-in-For.result.now _ first e.condition-is step body
+    stops)
 
 pub statement-returns-in_ok-for_loop-in-For-clause-named :
     goal.statement-returns-in_ok-for_loop-in-For-clause-named
