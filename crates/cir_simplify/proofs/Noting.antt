@@ -9,14 +9,14 @@ use Rattle.std.proofs.lemmas.List.Sums.{sum_by-set}
 use Rattle.std.proofs.lemmas.List.Elements.{Contains-append_left, Contains-push, All-get_or}
 use Rattle.std.proofs.lemmas.List.Elements.{All-same}
 use Rattle.std.specs.List.{Contains}
-use Rattle.std.specs.BTreeSet.{BTreeSet, contains}
-use Rattle.std.specs.Ordering.{nat_cmp}
 use Rattle.gold_field.specs.declared.form.Term.{Term}
 use Rattle.gold_field.specs.declared.form.Constraint.{Constraint}
 use Rattle.cir_lc.proofs.Forms.{IsNaming}
 use Rattle.cir_simplify.specs.declared.types.Rules.{Rules}
+use Rattle.cir_simplify.specs.declared.state.Ready.{Ready}
 use Rattle.cir_simplify.specs.Shape.{names, names_in, pivot, terms_in}
 use Rattle.cir_simplify.specs.Index.{row, held, empty, IsGood, IsIndexed, NotesForm, Notes, Queues}
+use Rattle.cir_simplify.specs.Index.{IsWaiting}
 
 pub or_cases : (a b : Bool) → a || b ≡ true → (a ≡ true) ⊎ (b ≡ true)
 or_cases true b h = inl refl
@@ -137,7 +137,7 @@ row_set rows i q j l =
     ]
 
 pub set_indexed : (r : Rules) (rows : List Constraint) (i : ℕ) (q : Constraint)
-    (h k : List (List ℕ)) (queue now : BTreeSet ℕ) (count n : ℕ) → i < length rows
+    (h k : List (List ℕ)) (queue now : Ready) (count n : ℕ) → i < length rows
     → IsGood r.bound q → Notes (row rows i) q i h k → Queues r q i queue now
     → n + terms_in (row rows i) ≡ count + terms_in q → IsIndexed r rows h queue count
     → IsIndexed r (set rows i q) k now n
@@ -155,7 +155,7 @@ set_indexed r rows i q h k queue now count n l g f u c x = record {
       elim (row_set rows i q j l) [
         | inl (same, is) ↦
             let here : IsSome (pivot r q) = subst (λ (z : Constraint). IsSome (pivot r z)) is e in
-            subst (λ (z : ℕ). contains nat_cmp now z ≡ true) (sym same) (u.adds here)
+            subst (IsWaiting now) (sym same) (u.adds here)
         | inr (apart, is) ↦
             u.keeps j (x.ready j (subst (λ (z : Constraint). IsSome (pivot r z)) is e))
       ];

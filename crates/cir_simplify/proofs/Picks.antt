@@ -1,7 +1,9 @@
 -- The term for whose signal a constraint is solved.
 use Rattle.std.proofs.Common.{◌≡◌, ℕ, zero, suc, ◌+◌, ◌<◌, ◌≤◌, Bool, true, false, ◌&&◌, cond}
 use Rattle.std.proofs.Common.{nat_lt, nat_le, List, [], ◌∷◌, length, get_or, Option, Some, None}
-use Rattle.std.proofs.Common.{arith, refl, ap, sym, ◌∙◌, inl, inr, ◌⊎◌}
+use Rattle.std.proofs.Common.{IsSome, IfSome, slice_get, arith, refl, ap, sym, ◌∙◌, inl, inr, ◌⊎◌}
+use Rattle.std.proofs.lemmas.Bool.{cases_eq, cases_lt}
+use Rattle.std.proofs.lemmas.List.{get_or_past}
 use Rattle.std.proofs.lemmas.List.Elements.{All-head, All-tail}
 use Rattle.std.specs.List.{list_any}
 use Rattle.std.specs.BTreeMap.{is_at}
@@ -13,9 +15,12 @@ use Rattle.gold_field.specs.declared.gold.TheConstants.{P}
 use Rattle.gold_field.specs.Rises.{RisesFrom}
 use Rattle.cir_lc.specs.Terms.{IsWithin}
 use Rattle.cir_simplify.specs.declared.types.Rules.{Rules}
+use Rattle.cir_simplify.specs.declared.state.Ready.{Ready}
 use Rattle.cir_simplify.specs.Shape.{greatest, unless_later, pivot, has_no_terms, fits}
 use Rattle.cir_simplify.specs.Turn.{first_pivot, or_later}
-use Rattle.cir_simplify.specs.Index.{row, IsGood, IsReady}
+use Rattle.cir_simplify.specs.Index.{row, empty, IsGood, IsReady, IsNoneBefore}
+use Rattle.cir_simplify.proofs.Starting.{pivot_empty, some_none}
+use Rattle.cir_simplify.proofs.Noting.{or_cases}
 
 rises_low : (low : ℕ) (ts : List Term) (m : ℕ) (t : Term) → RisesFrom low ts → m < length ts
     → t ≡ get_or ts m t → low ≤ t.signal
@@ -128,10 +133,10 @@ picked r n k t g h =
     by_tests false b c e p = cc
 
 -- nothing below the least place of the worklist can be solved
-pub below_none : (r : Rules) (rows : List Constraint) (queue : BTreeSet ℕ) (k : ℕ)
-    → IsReady r rows queue → IsLowerBound nat_cmp queue k → (j : ℕ) → j < k
-    → pivot r (row rows j) ≡ None
-below_none r rows queue k h b j l = by_pivot (pivot r (row rows j)) refl
+pub below_none : (r : Rules) (rows : List Constraint) (ready : Ready) (k : ℕ)
+    → IsReady r rows ready → IsLowerBound nat_cmp ready.again k → k < ready.next
+    → IsNoneBefore r rows k
+below_none r rows ready k h b m j l = by_pivot (pivot r (row rows j)) refl
   where
     gt_false : (k j : ℕ) → j < k → is_gt (nat_cmp k j) ≡ false → ⊥
     gt_false k j l e = grind (arith, l, e)
@@ -139,9 +144,40 @@ below_none r rows queue k h b j l = by_pivot (pivot r (row rows j)) refl
     by_pivot : (o : Option Term) → pivot r (row rows j) ≡ o → o ≡ None
     by_pivot None e = refl
     by_pivot (Some t) e =
-        let here : contains nat_cmp queue j ≡ true = h j (rw e refl) in
-        let not_above : is_gt (nat_cmp k j) ≡ false = b j here in
-        absurd (gt_false k j l not_above)
+        elim (h j (rw e refl)) [
+          | inl g ↦ absurd (omega (arith, g, l, m))
+          | inr here ↦ absurd (gt_false k j l (b j here))
+        ]
+
+-- the first key of a set is what is taken out
+pub popped : (o : Option ℕ) (ks ms : List ℕ) (k : ℕ) → slice_get ks 0 ≡ Some k
+    → (0 < length ks → IsSome o) → IfSome o (λ j. ks ≡ j ∷ ms) → ks ≡ k ∷ ms
+popped o [] ms k f v r = cc
+popped None (q ∷ ks) ms k f v r = let e : false ≡ true = v (omega arith) in cc
+popped (Some j) (q ∷ ks) ms k f v r = cc
+
+-- the first place before `next` goes where its constraint can't be solved
+pub ready_less : (r : Rules) (rows : List Constraint) (before now : Ready) (k : ℕ)
+    → now.next ≡ before.next → before.again.keys ≡ k ∷ now.again.keys
+    → (before.next ≤ k) ⊎ (pivot r (row rows k) ≡ None) → IsReady r rows before
+    → IsReady r rows now
+ready_less r rows before now k e u g h j p =
+    elim (h j p) [
+      | inl l ↦ inl (omega (arith, l, e))
+      | inr here ↦ elim (or_cases (is_at (nat_cmp j) k) (contains nat_cmp now.again j)
+          (sym (ap (list_any (is_at (nat_cmp j))) u) ∙ here)) [
+            | inl same ↦ elim g [
+              | inl l ↦ inl (omega (arith, l, e, same_key j k same))
+              | inr none ↦
+                  absurd (some_none (pivot r (row rows j))
+                  (ap (λ (i : ℕ). pivot r (row rows i)) (same_key j k same) ∙ none) p)
+            ]
+            | inr there ↦ inr there
+          ]
+    ]
+  where
+    same_key : (j k : ℕ) → is_at (nat_cmp j) k ≡ true → j ≡ k
+    same_key j k h = grind (arith, h)
 
 pub first_at : (r : Rules) (rows : List Constraint) (i : ℕ) (t : Term) → i < length rows
     → ((j : ℕ) → j < i → pivot r (row rows j) ≡ None) → pivot r (row rows i) ≡ Some t
@@ -158,19 +194,38 @@ first_none r [] h = refl
 first_none r (k ∷ ks) h = ap (λ (o : Option Term). or_later o k.c (first_pivot r ks)) (h 0)
     ∙ first_none r ks (λ j. h (suc j))
 
--- the worklist is empty
-pub ready_none : (r : Rules) (rows : List Constraint) (queue : BTreeSet ℕ) → IsReady r rows queue
-    → length queue.keys ≡ 0 → first_pivot r rows ≡ None
-ready_none r rows queue h e = first_none r rows (λ j. by_pivot j (pivot r (row rows j)) refl)
-  where
-    none : (ks : List ℕ) → length ks ≡ 0 → ks ≡ []
-    none [] g = refl
-    none (k ∷ ks) g = absurd (omega arith)
+-- one constraint more can't be solved
+pub none_more : (r : Rules) (rows : List Constraint) (n : ℕ) → IsNoneBefore r rows n
+    → pivot r (row rows n) ≡ None → IsNoneBefore r rows (n + 1)
+none_more r rows n h e j l =
+    elim (cases_eq j n) [
+      | inl same ↦ ap (λ (i : ℕ). pivot r (row rows i)) same ∙ e
+      | inr apart ↦ h j (omega (arith, l, apart))
+    ]
 
-    by_pivot : (j : ℕ) (o : Option Term) → pivot r (row rows j) ≡ o → o ≡ None
-    by_pivot j None g = refl
-    by_pivot j (Some t) g =
-        let here : contains nat_cmp queue j ≡ true = h j (rw g refl) in
-        let gone : contains nat_cmp queue j ≡ false =
-        ap (list_any (is_at (nat_cmp j))) (none queue.keys e) in
-        cc
+-- so the worklist can begin behind it
+pub ready_behind : (r : Rules) (rows : List Constraint) (before now : Ready)
+    → IsReady r rows before → pivot r (row rows before.next) ≡ None
+    → now.next ≡ before.next + 1 → now.again ≡ before.again → IsReady r rows now
+ready_behind r rows before now h e n a j p =
+    elim (h j p) [
+      | inl l ↦ elim (cases_eq j before.next) [
+        | inl same ↦
+            absurd (some_none (pivot r (row rows j)) (ap (λ (i : ℕ). pivot r (row rows i)) same
+            ∙ e) p)
+        | inr apart ↦ inl (omega (arith, l, n, apart))
+      ]
+      | inr here ↦ inr (ap (λ (s : BTreeSet ℕ). contains nat_cmp s j) a ∙ here)
+    ]
+
+-- no constraint of the list can be solved
+pub all_none : (r : Rules) (rows : List Constraint) (n : ℕ) → length rows ≤ n
+    → IsNoneBefore r rows n → first_pivot r rows ≡ None
+all_none r rows n l h = first_none r rows each
+  where
+    each : (j : ℕ) → pivot r (row rows j) ≡ None
+    each j =
+        elim (cases_lt j n) [
+          | inl k ↦ h j k
+          | inr k ↦ ap (pivot r) (get_or_past rows j empty (omega (arith, l, k))) ∙ pivot_empty r
+        ]

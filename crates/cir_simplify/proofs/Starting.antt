@@ -4,12 +4,12 @@ use Rattle.std.proofs.Common.{List, [], ◌∷◌, ◌++◌, length, sum_by, set
 use Rattle.std.proofs.Common.{None, IsSome, arith, refl, ap, sym, subst, ◌∙◌, inl, inr}
 use Rattle.std.proofs.Common.{length-append}
 use Rattle.std.proofs.lemmas.List.Sums.{sum_by-cons}
-use Rattle.std.specs.BTreeSet.{BTreeSet}
 use Rattle.gold_field.specs.declared.form.Term.{Term}
 use Rattle.gold_field.specs.declared.form.Constraint.{Constraint}
 use Rattle.cir_lc.specs.Normal.{IsConstraintWithin}
 use Rattle.cir_lc.specs.Sparse.{IsNormalForm, IsRising}
 use Rattle.cir_simplify.specs.declared.types.Rules.{Rules}
+use Rattle.cir_simplify.specs.declared.state.Ready.{Ready}
 use Rattle.cir_simplify.specs.Shape.{names_in, pivot, terms_in, fits}
 use Rattle.cir_simplify.specs.Index.{row, empty, IsGood, IsIndexed}
 use Rattle.cir_simplify.proofs.Linear.{empty_good}
@@ -38,7 +38,7 @@ either_same false o = refl
 pub pivot_empty : (r : Rules) → pivot r empty ≡ None
 pivot_empty r = either_same (nat_le 0 1024 && fits r.level []) None
 
-some_none : (o : Option Term) → o ≡ None → IsSome o → ⊥
+pub some_none : (o : Option Term) → o ≡ None → IsSome o → ⊥
 some_none None e h = cc
 some_none (Some t) e h = cc
 
@@ -48,11 +48,11 @@ sum_empty (k ∷ ks) h =
     sum_by-cons terms_in k ks ∙ omega (arith, ap terms_in (h 0), sum_empty ks (λ i. h (suc i)))
 
 pub blank_indexed : (r : Rules) (rows : List Constraint) (holders : List (List ℕ))
-    (queue : BTreeSet ℕ) → ((i : ℕ) → row rows i ≡ empty) → length holders ≡ r.bound
+    (queue : Ready) → queue.next ≡ 0 → ((i : ℕ) → row rows i ≡ empty) → length holders ≡ r.bound
     → IsIndexed r rows holders queue 0
-blank_indexed r rows holders queue h l = record {
+blank_indexed r rows holders queue z h l = record {
   noted = λ i x e. let none : names_in x (row rows i) ≡ false = ap (names_in x) (h i) in cc;
-  ready = λ i e. absurd (some_none (pivot r (row rows i)) (ap (pivot r) (h i) ∙ pivot_empty r) e);
+  ready = λ i e. inl (omega (arith, z));
   counted = sym (sum_empty rows h);
   good = λ i. subst (IsGood r.bound) (sym (h i)) (empty_good r.bound);
   signals = l;

@@ -1,9 +1,9 @@
 -- What the index says of the constraints. A place whose constraint is gone has the empty one.
-use Rattle.std.specs.Prelude.{◌≡◌, ℕ, zero, suc, ◌<◌, true, List, [], ◌∷◌, ◌++◌, length, map}
+use Rattle.std.specs.Prelude.{◌≡◌, ℕ, ◌<◌, ◌≤◌, true, List, [], length, map}
 use Rattle.std.specs.Prelude.{sum_by, slice_index, slice_index_or, Option, Some, None, IsSome}
-use Rattle.std.specs.Prelude.{Result, Ok, Err, ◌⊎◌, if◌then◌else◌, nat_le}
+use Rattle.std.specs.Prelude.{Result, Ok, Err, ◌⊎◌}
 use Rattle.std.specs.List.{Contains}
-use Rattle.std.specs.BTreeSet.{BTreeSet, contains}
+use Rattle.std.specs.BTreeSet.{contains}
 use Rattle.std.specs.Ordering.{nat_cmp}
 use Rattle.gold_field.specs.declared.form.Term.{Term}
 use Rattle.gold_field.specs.declared.form.Constraint.{Constraint}
@@ -13,6 +13,7 @@ use Rattle.cir_lc.specs.Sparse.{IsNormalForm, IsRising}
 use Rattle.cir_lc.specs.Substitution.{substitute}
 use Rattle.cir_simplify.specs.declared.types.Rules.{Rules}
 use Rattle.cir_simplify.specs.declared.types.Solved.{Solved}
+use Rattle.cir_simplify.specs.declared.state.Ready.{Ready}
 use Rattle.cir_simplify.specs.declared.types.SimpFault.{SimpFault}
 use Rattle.cir_simplify.specs.Shape.{names, names_in, pivot, terms_in}
 use Rattle.cir_simplify.specs.Answer.{AnswersFault}
@@ -38,12 +39,20 @@ pub record IsGood (n : ℕ) (k : Constraint) : Type 0 where
 abbrev pub IsNoted : List Constraint → List (List ℕ) → Type 0
 IsNoted rows holders = (i x : ℕ) → names_in x (row rows i) ≡ true → Contains (held holders x) i
 
+-- the worklist has all places from one on, and some before it
+abbrev pub IsWaiting : Ready → ℕ → Type 0
+IsWaiting ready i = (ready.next ≤ i) ⊎ (contains nat_cmp ready.again i ≡ true)
+
 -- the worklist has the places of the constraints that can be solved, perhaps more
-abbrev pub IsReady : Rules → List Constraint → BTreeSet ℕ → Type 0
-IsReady r rows ready = (i : ℕ) → IsSome (pivot r (row rows i)) → contains nat_cmp ready i ≡ true
+abbrev pub IsReady : Rules → List Constraint → Ready → Type 0
+IsReady r rows ready = (i : ℕ) → IsSome (pivot r (row rows i)) → IsWaiting ready i
+
+-- no constraint before the place can be solved
+abbrev pub IsNoneBefore : Rules → List Constraint → ℕ → Type 0
+IsNoneBefore r rows n = (i : ℕ) → i < n → pivot r (row rows i) ≡ None
 
 pub record IsIndexed (r : Rules) (rows : List Constraint) (holders : List (List ℕ))
-    (queue : BTreeSet ℕ) (count : ℕ) : Type 0 where
+    (queue : Ready) (count : ℕ) : Type 0 where
   pub noted : IsNoted rows holders
   pub ready : IsReady r rows queue
   pub counted : count ≡ sum_by terms_in rows
@@ -62,9 +71,9 @@ pub record Notes (old new : Constraint) (i : ℕ) (before now : List (List ℕ))
   pub notes : (x : ℕ) → names_in x new ≡ true → Contains (held now x) i ⊎ (names_in x old ≡ true)
 
 -- the worklist keeps its places, and has the place where the constraint can be solved
-pub record Queues (r : Rules) (k : Constraint) (i : ℕ) (before now : BTreeSet ℕ) : Type 0 where
-  pub keeps : (j : ℕ) → contains nat_cmp before j ≡ true → contains nat_cmp now j ≡ true
-  pub adds : IsSome (pivot r k) → contains nat_cmp now i ≡ true
+pub record Queues (r : Rules) (k : Constraint) (i : ℕ) (before now : Ready) : Type 0 where
+  pub keeps : (j : ℕ) → IsWaiting before j → IsWaiting now j
+  pub adds : IsSome (pivot r k) → IsWaiting now i
 
 -- the substitution was made at the places of the list, and nowhere else
 pub record IsPartly (n x : ℕ) (by : List Term) (before now : List Constraint)

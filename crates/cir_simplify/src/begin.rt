@@ -3,11 +3,11 @@ ghost use Rattle.cir_lc.specs.Normal.{IsConstraintWithin};
 ghost use Rattle.cir_lc.specs.Sparse.{IsNormalForm};
 ghost use Rattle.cir_simplify.specs.Index.{row, empty, IsIndexed};
 
-use crate::state::{Rows, set};
+use crate::places::Places;
+use crate::state::{Ready, Rows, set};
 use crate::types::Rules;
 use cir_lc::in_order;
 use gold_field::{Constraint, Lc};
-use items::Items;
 use std::alloc::{AllocError, Global};
 use std::collections::BTreeSet;
 
@@ -39,7 +39,10 @@ fn blank(alloc: Global, count: usize, rules: Rules) -> Result<Rows, AllocError>
     Ok(Rows {
         rows,
         holders,
-        ready: BTreeSet::new(alloc),
+        ready: Ready {
+            next: 0,
+            again: BTreeSet::new(alloc),
+        },
         terms: 0,
     })
 }
@@ -66,12 +69,12 @@ pub(crate) fn nothing(alloc: Global) -> Constraint
     }
 }
 
-fn no_lists(alloc: Global, count: usize) -> Result<Vec<Items<usize>>, AllocError>
+fn no_lists(alloc: Global, count: usize) -> Result<Vec<Places>, AllocError>
     ensures { IfOk result (λ v. length v.items ≡ count) }
 {
     let mut lists = Vec::with_capacity(alloc, count)?;
     for k in 0..count {
-        lists.push(Items::new(alloc))?;
+        lists.push(Places::new(alloc))?;
     }
     Ok(lists)
 }

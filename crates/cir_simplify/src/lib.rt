@@ -5,6 +5,7 @@
 mod begin;
 mod laws;
 mod pick;
+mod places;
 mod row;
 mod solving;
 mod state;

@@ -11,11 +11,11 @@ ghost use Rattle.std.specs.List.Sorted.{IsStrictlyIncreasing};
 
 use crate::begin::nothing;
 use crate::pick::pivot;
+use crate::places::Places;
 use crate::row::{sum, terms};
 use crate::types::Rules;
 use cir_lc::subst;
 use gold_field::{Constraint, Lc, Term};
-use items::Items;
 use std::alloc::{AllocError, Global};
 use std::collections::BTreeSet;
 
@@ -23,9 +23,16 @@ use std::collections::BTreeSet;
 #[derive(Drop)]
 pub(crate) struct Rows {
     pub(crate) rows: Vec<Constraint>,
-    pub(crate) holders: Vec<Items<usize>>,
-    pub(crate) ready: BTreeSet<usize>,
+    pub(crate) holders: Vec<Places>,
+    pub(crate) ready: Ready,
     pub(crate) terms: u64,
+}
+
+/// The worklist: all places from `next` on, and those before it whose constraints changed since.
+#[derive(Drop)]
+pub(crate) struct Ready {
+    pub(crate) next: usize,
+    pub(crate) again: BTreeSet<usize>,
 }
 
 /// A place in a form that isn't before the terms of lower signals.
@@ -47,7 +54,7 @@ fn is_at(terms: &[Term], place: usize, signal: u32) -> bool
 }
 
 // Adds the place to a signal's list.
-fn push_at(holders: &mut Vec<Items<usize>>, x: usize, i: usize) -> Result<(), AllocError>
+fn push_at(holders: &mut Vec<Places>, x: usize, i: usize) -> Result<(), AllocError>
     requires { x < length holders.old.items }
     ensures { OnOk result (holders.new.items
         ≡ slice_set holders.old.items x (held holders.old.items x ++ i ∷ [])) }
@@ -56,7 +63,7 @@ fn push_at(holders: &mut Vec<Items<usize>>, x: usize, i: usize) -> Result<(), Al
     Ok(())
 }
 
-fn held_at(holders: &Vec<Items<usize>>, x: usize) -> &Items<usize>
+fn held_at(holders: &Vec<Places>, x: usize) -> &Places
     requires { x < length holders.now.items }
     ensures { result.now ≡ held holders.now.items x }
 {
@@ -64,12 +71,7 @@ fn held_at(holders: &Vec<Items<usize>>, x: usize) -> &Items<usize>
 }
 
 // Notes the place at each signal of the new form that the old one lacks, by one walk over both.
-fn note_form(
-    holders: &mut Vec<Items<usize>>,
-    new: &Lc,
-    old: &Lc,
-    i: usize,
-) -> Result<(), AllocError>
+fn note_form(holders: &mut Vec<Places>, new: &Lc, old: &Lc, i: usize) -> Result<(), AllocError>
     requires { SignalsBelow (length holders.old.items) new.now }
     ensures { OnOk result (NotesForm old.now new.now i holders.old.items holders.new.items) }
 {
@@ -85,7 +87,7 @@ fn note_form(
 }
 
 fn note(
-    holders: &mut Vec<Items<usize>>,
+    holders: &mut Vec<Places>,
     new: &Constraint,
     old: &Constraint,
     i: usize,
@@ -101,16 +103,11 @@ fn note(
     Ok(())
 }
 
-fn queue(
-    ready: &mut BTreeSet<usize>,
-    rules: Rules,
-    q: &Constraint,
-    i: usize,
-) -> Result<(), AllocError>
+fn queue(ready: &mut Ready, rules: Rules, q: &Constraint, i: usize) -> Result<(), AllocError>
     ensures { OnOk result (Queues rules q.now i ready.old ready.new) }
 {
-    if pivot(rules, q).is_some() {
-        ready.insert(i)?;
+    if i < ready.next && pivot(rules, q).is_some() {
+        ready.again.insert(i)?;
     }
     Ok(())
 }

@@ -3,16 +3,15 @@ ghost use Rattle.std.specs.Prelude.{MatchOption};
 ghost use Rattle.cir_lc.specs.Terms.{IsWithin};
 ghost use Rattle.cir_simplify.specs.Turn.{first_pivot, solution as solution_of, turns as turns_of};
 ghost use Rattle.cir_simplify.specs.Index.{row, IsReady, IsIndexed, IsFirst, IsTurn, Answers};
-ghost use Rattle.cir_simplify.specs.Index.{shown};
+ghost use Rattle.cir_simplify.specs.Index.{IsNoneBefore, shown};
 
 use crate::pick::pivot;
 use crate::row::solution;
-use crate::state::{Rows, at, replace_all};
+use crate::state::{Ready, Rows, at, replace_all};
 use crate::types::{Rules, SimpFault, Solved};
 use gold_field::{Constraint, Lc, Term};
 use items::Items;
 use std::alloc::{AllocError, Global};
-use std::collections::BTreeSet;
 
 /// The most terms of a list.
 pub(crate) const MOST_TERMS: u64 = 8388608;
@@ -24,24 +23,54 @@ pub(crate) struct Found {
     pub(crate) term: Term,
 }
 
-// The first constraint that is solved. What else stood before it in the worklist is out of date,
-// and goes.
-fn first(ready: &mut BTreeSet<usize>, rows: &Vec<Constraint>, rules: Rules) -> Option<Found>
+// The first constraint that is solved, of those that changed since their place was passed. What
+// else stood there before it is out of date, and goes.
+fn first_again(ready: &mut Ready, rows: &Vec<Constraint>, rules: Rules) -> Option<Found>
+    requires { IsReady rules rows.now.items ready.old }
+    ensures ready { IsReady rules rows.now.items ready.new }
+    ensures found { MatchOption result (IsNoneBefore rules rows.now.items ready.new.next)
+        (λ f. IsFirst rules rows.now.items f.place f.term) }
+{
+    while let Some(place) = ready.again.first() {
+        let place = *place;
+        if place < ready.next && place < rows.len() {
+            if let Some(term) = pivot(rules, at(rows, place)) {
+                return Some(Found { place, term });
+            }
+        }
+        ready.again.pop_first();
+    }
+    None
+}
+
+// The first constraint that is solved, where none is that was passed.
+fn first_behind(ready: &mut Ready, rows: &Vec<Constraint>, rules: Rules) -> Option<Found>
+    requires ready { IsReady rules rows.now.items ready.old }
+    requires before { IsNoneBefore rules rows.now.items ready.old.next }
+    ensures ready { IsReady rules rows.now.items ready.new }
+    ensures found { MatchOption result (first_pivot rules rows.now.items ≡ None)
+        (λ f. IsFirst rules rows.now.items f.place f.term) }
+{
+    while ready.next < rows.len() {
+        let place = ready.next;
+        if let Some(term) = pivot(rules, at(rows, place)) {
+            return Some(Found { place, term });
+        }
+        ready.next += 1;
+    }
+    None
+}
+
+fn first(ready: &mut Ready, rows: &Vec<Constraint>, rules: Rules) -> Option<Found>
     requires { IsReady rules rows.now.items ready.old }
     ensures ready { IsReady rules rows.now.items ready.new }
     ensures found { MatchOption result (first_pivot rules rows.now.items ≡ None)
         (λ f. IsFirst rules rows.now.items f.place f.term) }
 {
-    while let Some(place) = ready.first() {
-        let place = *place;
-        if place < rows.len() {
-            if let Some(term) = pivot(rules, at(rows, place)) {
-                return Some(Found { place, term });
-            }
-        }
-        ready.pop_first();
+    if let Some(found) = first_again(ready, rows, rules) {
+        return Some(found);
     }
-    None
+    first_behind(ready, rows, rules)
 }
 
 /// Solves the first constraint that fits, and puts what it says of its signal in everywhere.
