@@ -73,19 +73,6 @@ loop-site-preserved g c = record {
   store = reads_on _ _ _ _ _ _ _ _ _ c.loop-site.invariant.store c.follow.ensures.store;
 }
 
-pub loop-site-preserved-in_ok-follow : goal.loop-site-preserved-in_ok-follow
-loop-site-preserved-in_ok-follow g c = record {
-  loading =
-      goes_on (g.S.Store.contents c.args.store.now)
-      (g.S.Store.contents c.loop-site.store) c.args.name.now (option_copied c.args.library)
-      (record c.loop-site.loading { pending = c.pop.new.self }) c.in-Some-pop.site c.follow.new.self
-      (left_of c.loop-site.loading)
-      c.loop-site.invariant.store.same c.loop-site.invariant.loading
-      (top_of c.loop-site.loading.pending c.pop.new.self c.in-Some-pop.site
-      c.in-Some-pop.ensures.items) c.in_ok-follow.ensures.follows;
-  store = reads_on _ _ _ _ _ _ _ _ _ c.loop-site.invariant.store c.follow.ensures.store;
-}
-
 pub returns-clause-reaches : goal.returns-clause-reaches
 returns-clause-reaches g c =
     ends _ c.args.name.now (option_copied c.args.library) c.loop-site.loading.names
