@@ -18,8 +18,9 @@ use crate::body::Body;
 use cir_arrays::{Datum, Fault, Meaning, Want, all_known, reach_of};
 use cir_ast::program::{Accessor, Expr, Meant, Spot};
 use cir_ast::{Form, Kind, Text};
+use cir_declare::{add_part, opened};
 use cir_evaluate::{Here, arguments_in, indices_in, reading};
-use cir_frame::{ComponentEntry, Frame, SignalEntry, World, add_part, opened};
+use cir_frame::{ComponentEntry, Frame, SignalEntry, World};
 use cir_values::indexed;
 use std::alloc::{AllocError, Global};
 

@@ -21,10 +21,9 @@ use cir_ast::program::{
     DeclaredComponent, DeclaredSignal, DeclaredVariable, Direction, Expr, Meant, SignalValue, Spot,
 };
 use cir_ast::{Kind, Text};
+use cir_declare::{NewSignal, declare_component, declare_signal, declare_variable};
 use cir_evaluate::{Context, Here, dims_in};
-use cir_frame::{
-    Frame, NewSignal, SignalEntry, World, declare_component, declare_signal, declare_variable,
-};
+use cir_frame::{Frame, SignalEntry, World};
 
 /// The number of what is declared.
 pub fn declared_number<C>(here: &Here<C>, meant: Meant) -> Result<u32, Fault>

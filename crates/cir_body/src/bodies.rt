@@ -27,7 +27,8 @@ use crate::statement::execute_all;
 use cir_arrays::{Counts, Datum, Fault, Site};
 use cir_ast::Kind;
 use cir_ast::program::{Spot, Template};
-use cir_frame::{Grouping, Room, World, begun};
+use cir_declare::{Room, begun};
+use cir_frame::{Grouping, World};
 use cir_homes::homes_inside;
 use cir_inst::{
     MOST_OPEN, Opening, Place, all_ended, call_function, context_in, more_than, new_instance,

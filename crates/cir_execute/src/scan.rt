@@ -19,8 +19,9 @@ use cir_ast::program::{
     Assign, DeclaredVariable, Expr, First, FirstForm, Meant, Simple, Spot, Statement,
     StatementForm, Step,
 };
+use cir_declare::declare_variable;
 use cir_evaluate::{Here, dims_in, number};
-use cir_frame::{Frame, World, declare_variable};
+use cir_frame::{Frame, World};
 
 /// Scans a statement in the order of execution; all branches are scanned.
 #[cycle(scanning)]

@@ -1,5 +1,4 @@
 pub mod SignalsRead
 pub mod Numbered
 pub mod Marking
-pub mod Opening
 pub mod Targeting

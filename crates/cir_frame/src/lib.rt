@@ -2,7 +2,6 @@
 //! the whole program has made so far.
 #![tactic(auto)]
 
-mod declaring;
 mod entries;
 mod frame;
 mod reading;
@@ -10,9 +9,6 @@ mod signal;
 mod world;
 mod writing;
 
-pub use declaring::{
-    NewSignal, Room, add_part, begun, declare_component, declare_signal, declare_variable, opened,
-};
 pub use frame::{ComponentEntry, Frame, Part};
 pub use reading::{
     Reading, Root, Source, inner_source, number_of, part_at, read_datum, read_number, source_of,

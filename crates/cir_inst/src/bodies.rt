@@ -24,9 +24,10 @@ use cir_arrays::{Counts, Datum, Fault, Site};
 use cir_assign::Body;
 use cir_ast::program::{Function, Program, Spot, Template};
 use cir_ast::{Kind, Text};
+use cir_declare::{Room, begun};
 use cir_evaluate::Context;
 use cir_execute::{Flow, execute_all};
-use cir_frame::{Frame, Grouping, Part, Room, SignalEntry, World, begun};
+use cir_frame::{Frame, Grouping, Part, SignalEntry, World};
 use std::alloc::{AllocError, Global};
 
 /// How many calls may be open.

@@ -15,8 +15,9 @@ ghost use Rattle.cir_make.specs.Shows.{SameBody, Shows};
 use cir_arrays::{Datum, Fault};
 use cir_assign::declared_number;
 use cir_ast::program::{DeclaredComponent, Spot};
+use cir_declare::declare_component;
 use cir_evaluate::{Here, dims_in};
-use cir_frame::{Frame, World, declare_component};
+use cir_frame::{Frame, World};
 use cir_make::{Body, Cast, Inside, Whole};
 
 pub fn components<C, M>(

@@ -21,8 +21,9 @@ use cir_arrays::{Datum, Fault};
 use cir_assign::{Creation, created_at, may_be, path_of, template_call};
 use cir_ast::program::{Accessor, Expr, Meant, Spot};
 use cir_ast::{Form, Kind, Text};
+use cir_declare::{add_part, declare_component, opened};
 use cir_evaluate::{arguments_in, indices_in};
-use cir_frame::{World, add_part, declare_component, opened};
+use cir_frame::World;
 use cir_make::{Body, Cast, Inside, PartCells, Whole};
 use std::alloc::AllocError;
 

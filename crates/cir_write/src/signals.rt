@@ -16,8 +16,9 @@ use cir_arrays::{Datum, Fault, made_elements};
 use cir_assign::Wiring;
 use cir_ast::Kind;
 use cir_ast::program::{DeclaredSignal, Direction, Meant, SignalValue, Spot};
+use cir_declare::{NewSignal, declare_signal};
 use cir_evaluate::{Here, dims_in};
-use cir_frame::{NewSignal, World, declare_signal};
+use cir_frame::World;
 use cir_make::{Body, Cast, Inside, Run, Whole};
 use std::alloc::{AllocError, Global};
 

@@ -16,8 +16,9 @@ use crate::setting::set;
 use cir_arrays::{Datum, Fault, Filling};
 use cir_assign::{Given, Placed, declared_number};
 use cir_ast::program::{DeclaredVariable, Spot};
+use cir_declare::declare_variable;
 use cir_evaluate::{Here, dims_in};
-use cir_frame::{Frame, World, declare_variable};
+use cir_frame::{Frame, World};
 use cir_make::{Body, Cast, Inside, VariableCells, Whole};
 
 pub fn variables<C, M>(

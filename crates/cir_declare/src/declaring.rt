@@ -12,13 +12,10 @@ ghost use Rattle.cir_frame.specs.Missing.{missing_in};
 ghost use Rattle.cir_arrays.specs.Shown.{datum_of, filling_of};
 ghost use Rattle.cir_frame.specs.Shown.{Declares, frame_of, part_of, signals_of, state_of};
 
-use crate::entries::undeclared;
-use crate::frame::{ComponentEntry, Frame, Part};
-use crate::signal::SignalEntry;
-use crate::world::{Grouping, Row, World};
 use cir_arrays::{Datum, Filling, add_array, elements, made_elements};
 use cir_ast::Text;
 use cir_ast::program::{Direction, Spot};
+use cir_frame::{ComponentEntry, Frame, Grouping, Part, Row, SignalEntry, World};
 use smallvec::SmallVec;
 use std::alloc::{AllocError, Global};
 
@@ -49,6 +46,17 @@ pub fn begun(alloc: Global, arguments: Vec<Datum>, room: Room) -> Result<Frame, 
         components,
         parts: Vec::new(alloc),
     })
+}
+
+/// Entries that aren't declared yet.
+fn undeclared<T: Drop>(alloc: Global, count: u32) -> Result<Vec<Option<T>>, AllocError>
+    ensures { IfOk result (λ entries. entries.items ≡ replicate count None) }
+{
+    let mut entries = Vec::with_capacity(alloc, count as usize)?;
+    for _n in 0..count {
+        entries.push(None)?;
+    }
+    Ok(entries)
 }
 
 /// A variable begins with the same value in each element.

@@ -3,7 +3,7 @@ use Rattle.std.specs.Prelude.{replicate}
 use Rattle.std.proofs.lemmas.List.{length-replicate}
 use Rattle.cir_arrays.specs.Made.{made_count}
 use Rattle.cir_frame.proofs.Numbered.{none_first, made_same}
-use Rattle.cir_frame.proofs.declaring.declare_component.Goals as goal
+use Rattle.cir_declare.proofs.declaring.declare_component.Goals as goal
 
 pub invariant_of-entry : goal.invariant_of-entry
 invariant_of-entry c =

@@ -2,7 +2,7 @@ use Rattle.std.proofs.Common.{◌≡◌, ◌<◌, length, refl, arith}
 use Rattle.std.proofs.lemmas.List.{map_push, length-map}
 use Rattle.cir_frame.specs.Shown.{component_of, part_of}
 use Rattle.cir_frame.proofs.Numbered.{same_entry, no_entry, entry_past, put_seen}
-use Rattle.cir_frame.proofs.declaring.add_part.Goals as goal
+use Rattle.cir_declare.proofs.declaring.add_part.Goals as goal
 
 pub returns-else-n-len : goal.returns-else-n-len
 returns-else-n-len c =

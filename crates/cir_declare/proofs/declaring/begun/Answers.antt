@@ -1,7 +1,7 @@
 use Rattle.std.proofs.Common.{◌≡◌, refl, arith}
 use Rattle.cir_frame.specs.Shown.{signal_of, component_of}
 use Rattle.cir_frame.proofs.Numbered.{none_seen}
-use Rattle.cir_frame.proofs.declaring.begun.Goals as goal
+use Rattle.cir_declare.proofs.declaring.begun.Goals as goal
 
 pub returns : goal.returns
 returns c =

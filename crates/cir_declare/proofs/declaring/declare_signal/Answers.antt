@@ -8,7 +8,7 @@ use Rattle.cir_arrays.specs.Made.{made_count}
 use Rattle.cir_frame.specs.Shown.{group_of, row_of, sizes_of}
 use Rattle.cir_frame.specs.declared.world.Row.{Row}
 use Rattle.cir_frame.proofs.Numbered.{made_same, more_standing, standing_sum}
-use Rattle.cir_frame.proofs.declaring.declare_signal.Goals as goal
+use Rattle.cir_declare.proofs.declaring.declare_signal.Goals as goal
 
 pub returns-clause-state : goal.returns-clause-state
 returns-clause-state c =

@@ -1,5 +1,5 @@
 use Rattle.std.proofs.Common.{refl}
-use Rattle.cir_frame.proofs.declaring.declare_variable.Goals as goal
+use Rattle.cir_declare.proofs.declaring.declare_variable.Goals as goal
 
 pub returns-clause-state : goal.returns-clause-state
 returns-clause-state c =

@@ -1,8 +1,8 @@
 use Rattle.std.proofs.Common.{◌≡◌, ℕ, ◌<◌, List, Option, length, ◌∙◌, arith}
 use Rattle.std.proofs.lemmas.List.{length-set}
 use Rattle.cir_frame.specs.declared.signal.SignalEntry.{SignalEntry}
-use Rattle.cir_frame.proofs.Opening.{missing_next, opened_next, rest_next}
-use Rattle.cir_frame.proofs.declaring.opened.Goals as goal
+use Rattle.cir_declare.proofs.Opening.{missing_next, opened_next, rest_next}
+use Rattle.cir_declare.proofs.declaring.opened.Goals as goal
 
 pub loop-n-preserved : goal.loop-n-preserved
 loop-n-preserved c =

@@ -3,7 +3,7 @@ use Rattle.std.specs.Prelude.{◌*◌, ◌^◌, ◌-◌}
 use Rattle.cir_meaning.specs.Declaring as D
 use Rattle.cir_frame.specs.Missing.{missing_in}
 use Rattle.cir_frame.specs.Shown.{signals_of}
-use Rattle.cir_frame.proofs.declaring.opened.Given as goal
+use Rattle.cir_declare.proofs.declaring.opened.Given as goal
 
 abbrev pub invariant-loop-n : goal.invariant-loop-n
 invariant-loop-n l = record {
