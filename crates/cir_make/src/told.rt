@@ -24,7 +24,7 @@ use wit_sourced::{Input, Named, Shape, Sought};
 use wit_sources::{Collected, Inputs, sources_of};
 use wit_statements::{StepTask, emit_step};
 
-/// What is told of the names of a step: its arrays, and which it may have.
+/// What is known of the names of a step: the body that it stands in, and its arrays.
 #[derive(Clone, Copy)]
 pub struct Told<'a> {
     pub frame: &'a Frame,

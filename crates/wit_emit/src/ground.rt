@@ -78,6 +78,7 @@ impl Ground<'_> {
         }
     }
 
+    /// None for a component that isn't declared.
     fn dims_of(&self, component: u32) -> &[u64]
         ensures { result.now ≡ (ground_of self.now).components component }
     {

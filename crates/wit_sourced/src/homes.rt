@@ -89,7 +89,7 @@ impl<'a> Scope<'a> {
         Ok(())
     }
 
-    /// The same homes, for what is declared since.
+    /// The same homes again. What an inner block declares is placed in the copy.
     pub fn copied(&self, alloc: Global) -> Result<Scope<'a>, AllocError>
         ensures { IfOk result (λ s. scope_of s ≡ scope_of self.now) }
     {

@@ -51,6 +51,7 @@ pub struct Sources<'a> {
 }
 
 impl<'a> Named<'a> {
+    /// The shapes with homes in a row, in their order.
     pub fn of(alloc: Global, shapes: Items<Shape<'a>>) -> Result<Named<'a>, AllocError>
         ensures { IfOk result (λ named. named.shapes ≡ shapes.entry) }
     {

@@ -2,8 +2,8 @@
 use std::collections::BTreeMap;
 use wit_sourced::Sources;
 
-/// The sources so far, where in the list the source of a slot stands, and whether each reading so
-/// far has a source.
+/// The sources so far; where in the list the source of a slot stands, but for the first few, which
+/// are looked through; and whether each reading so far has a source.
 #[derive(Drop)]
 pub struct Found<'a> {
     pub sources: Sources<'a>,

@@ -170,7 +170,7 @@ pub struct StepTask<'a> {
 }
 
 impl<'a> StepTask<'a> {
-    /// There is no memory where a call is left out.
+    /// Answers want of memory, too, where `calls` leave out a call that stands in the task.
     pub fn of(
         alloc: Global,
         task: Task<'a>,
