@@ -94,6 +94,32 @@ fn two_asserts_of_a_source_stop_at_once(rt: HostRuntime) {
     same(&rt, assert_at(&outcome), Some(2));
 }
 
+static THREE_LINKS: &str = "template Link() {
+  signal input x; signal input k; signal output y; y <== x * x + k;
+}
+template Links(n) {
+  signal input s; signal input k[8]; signal output out; component l[n];
+  for (var i = 0; i < n; i++) { l[i] = Link(); l[i].k <== k[i % 8]; l[i].x <== s; }
+  out <== l[n - 1].y;
+}
+component main = Links(3);
+";
+
+/// How many steps a flow has, and how many strands.
+fn has_sizes(rt: &impl Abort, flow: &Flow, steps: usize, strands: u32) {
+    same(rt, flow.steps.len(), steps);
+    same(rt, flow.graph.strands, strands);
+}
+
+// A step joins the strand before it where it reads what a step of that strand writes.
+#[test]
+fn steps_of_a_source_join_strands(rt: HostRuntime) {
+    let CutCircuit { flow: links, .. } = circuit_of(&rt, THREE_LINKS);
+    has_sizes(&rt, &links, 10, 6);
+    let CutCircuit { flow: asserts, .. } = circuit_of(&rt, TWO_ASSERTS);
+    has_sizes(&rt, &asserts, 6, 4);
+}
+
 static LESS_THAN: &str = "template Num2Bits(n) {
   signal input in; signal output out[n]; var lc1 = 0; var e2 = 1;
   for (var i = 0; i < n; i++) {
