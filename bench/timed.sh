@@ -7,6 +7,7 @@ trap 'rm -rf "$folder"' EXIT
 # These words have no reading.
 "$top/circom_gold" > /dev/null || [ $? -eq 64 ]
 program=$top/crates/circom_cli/out/circom_cli
+. "$top/allocator.sh"
 cd "$folder"
 
 # nanoseconds BEGINNING: the least nanoseconds of RUNS compilations of source.circom, whose line must begin so.
