@@ -7,48 +7,28 @@ use Rattle.cir_ast.specs.declared.operators.Binary.{Binary as BinaryOp}
 use Rattle.cir_ast.specs.declared.operators.Compound.{Compound as CompoundOp}
 use Rattle.cir_ast.specs.declared.operators.Arrow.{Arrow}
 use Rattle.cir_ast.specs.declared.operators.Direction.{Direction}
-use Rattle.cir_ast.specs.declared.marked.Expr.{Expr as CodeExpr, Row_of-Expr, end_of-Expr}
-use Rattle.cir_ast.specs.declared.marked.Expr.{more_of-Expr}
+use Rattle.cir_ast.specs.declared.marked as code
+use Rattle.cir_ast.specs.declared.marked.Expr.{Row_of-Expr, end_of-Expr, more_of-Expr}
 use Rattle.cir_ast.specs.declared.marked.Expr.TheVariants as expr
-use Rattle.cir_ast.specs.declared.marked.Accessor.{Accessor as CodeAccessor}
 use Rattle.cir_ast.specs.declared.marked.Accessor.TheVariants as accessor
-use Rattle.cir_ast.specs.declared.marked.Place.{Place as CodePlace, Row_of-Accessor}
-use Rattle.cir_ast.specs.declared.marked.Place.{end_of-Accessor, more_of-Accessor}
-use Rattle.cir_ast.specs.declared.marked.Anonymous.{Anonymous as CodeAnonymous}
-use Rattle.cir_ast.specs.declared.marked.Inputs.{Inputs as CodeInputs, Row_of-NamedInput}
-use Rattle.cir_ast.specs.declared.marked.Inputs.{end_of-NamedInput, more_of-NamedInput}
+use Rattle.cir_ast.specs.declared.marked.Place.{Row_of-Accessor, end_of-Accessor, more_of-Accessor}
+use Rattle.cir_ast.specs.declared.marked.Inputs.{Row_of-NamedInput, end_of-NamedInput}
+use Rattle.cir_ast.specs.declared.marked.Inputs.{more_of-NamedInput}
 use Rattle.cir_ast.specs.declared.marked.Inputs.TheVariants as inputs
-use Rattle.cir_ast.specs.declared.marked.NamedInput.{NamedInput as CodeInput}
-use Rattle.cir_ast.specs.declared.marked.DeclaredVariable.{DeclaredVariable as CodeVariable}
-use Rattle.cir_ast.specs.declared.marked.SignalValue.{SignalValue as CodeValue}
 use Rattle.cir_ast.specs.declared.marked.SignalValue.TheVariants as value
-use Rattle.cir_ast.specs.declared.marked.DeclaredSignal.{DeclaredSignal as CodeSignal}
-use Rattle.cir_ast.specs.declared.marked.DeclaredComponent.{DeclaredComponent as CodeComponent}
 use Rattle.cir_ast.specs.declared.marked.Components.TheVariants as components
-use Rattle.cir_ast.specs.declared.marked.Assign.{Assign as CodeAssign}
 use Rattle.cir_ast.specs.declared.marked.Assign.TheVariants as assign
-use Rattle.cir_ast.specs.declared.marked.Target.{Target as CodeTarget}
 use Rattle.cir_ast.specs.declared.marked.Target.TheVariants as target
-use Rattle.cir_ast.specs.declared.marked.Slot.{Slot as CodeSlot}
 use Rattle.cir_ast.specs.declared.marked.Slot.TheVariants as slot
-use Rattle.cir_ast.specs.declared.marked.Source.{Source as CodeSource}
 use Rattle.cir_ast.specs.declared.marked.Source.TheVariants as source
-use Rattle.cir_ast.specs.declared.marked.FirstForm.{FirstForm as CodeFirst}
 use Rattle.cir_ast.specs.declared.marked.FirstForm.TheVariants as first
-use Rattle.cir_ast.specs.declared.marked.LogArgument.{LogArgument as CodeArgument}
 use Rattle.cir_ast.specs.declared.marked.LogArgument.TheVariants as argument
-use Rattle.cir_ast.specs.declared.marked.Simple.{Simple as CodeSimple}
 use Rattle.cir_ast.specs.declared.marked.Simple.TheVariants as simple
-use Rattle.cir_ast.specs.declared.marked.Block.{Block as CodeBlock, Block', Row_of-Statement}
-use Rattle.cir_ast.specs.declared.marked.Block.{end_of-Statement, more_of-Statement}
-use Rattle.cir_ast.specs.declared.marked.Statement.{Statement as CodeStatement}
-use Rattle.cir_ast.specs.declared.marked.StatementForm.{StatementForm as CodeForm}
+use Rattle.cir_ast.specs.declared.marked.Block.{Block', Row_of-Statement, end_of-Statement}
+use Rattle.cir_ast.specs.declared.marked.Block.{more_of-Statement}
 use Rattle.cir_ast.specs.declared.marked.StatementForm.TheVariants as statement
 use Rattle.cir_ast.specs.declared.marked.Definition.TheVariants as definition
-use Rattle.cir_ast.specs.declared.marked.Item.{Item as CodeItem}
-use Rattle.cir_ast.specs.declared.marked.ItemForm.{ItemForm as CodeItemForm}
 use Rattle.cir_ast.specs.declared.marked.ItemForm.TheVariants as item
-use Rattle.cir_ast.specs.declared.marked.File.{File as CodeFile}
 
 mutual
   pub data Expr (N : Type 0) : Type 0 where
@@ -180,7 +160,7 @@ File S N = List (Item S N)
 
 -- what the program's own trees stand for
 abbrev mutual
-  pub bare : {N : Type 0} → CodeExpr N → Expr N
+  pub bare : {N : Type 0} → code.Expr.Expr N → Expr N
   bare (expr.Number n) = Number n
   bare (expr.Place' name meant _ row) = Place name meant (bare_accessors row)
   bare (expr.Call' parallel name meant _ row) = Call parallel name meant (bare_row row)
@@ -201,7 +181,7 @@ abbrev mutual
   bare_accessors (more_of-Accessor (accessor.Index e) rest) = index (bare e) (bare_accessors rest)
   bare_accessors (more_of-Accessor (accessor.Member name) rest) = member name (bare_accessors rest)
 
-  pub bare_inputs : {N : Type 0} → CodeInputs N → Inputs N
+  pub bare_inputs : {N : Type 0} → code.Inputs.Inputs N → Inputs N
   bare_inputs (inputs.Listed' _ row) = Listed (bare_row row)
   bare_inputs (inputs.Named' _ row) = Named (bare_named row)
 
@@ -210,12 +190,12 @@ abbrev mutual
   bare_named (more_of-NamedInput name arrow e rest) = named name arrow (bare e) (bare_named rest)
 
 -- lists as the tree has them
-abbrev pub as_accessors : {N : Type 0} → List (CodeAccessor N) → Accessors N
+abbrev pub as_accessors : {N : Type 0} → List (code.Accessor.Accessor N) → Accessors N
 as_accessors [] = done
 as_accessors (accessor.Index e ∷ rest) = index (bare e) (as_accessors rest)
 as_accessors (accessor.Member name ∷ rest) = member name (as_accessors rest)
 
-abbrev pub as_named : {N : Type 0} → List (CodeInput N) → NamedInputs N
+abbrev pub as_named : {N : Type 0} → List (code.NamedInput.NamedInput N) → NamedInputs N
 as_named [] = unnamed
 as_named (i ∷ rest) = named i.name i.arrow (bare i.value) (as_named rest)
 
@@ -223,11 +203,11 @@ abbrev pub as_exprs : {N : Type 0} → List (Expr N) → Exprs N
 as_exprs [] = none
 as_exprs (e ∷ es) = more e (as_exprs es)
 
-abbrev pub bare_exprs : {N : Type 0} → List (CodeExpr N) → Exprs N
+abbrev pub bare_exprs : {N : Type 0} → List (code.Expr.Expr N) → Exprs N
 bare_exprs es = as_exprs (map bare es)
 
 -- a place, as an expression
-abbrev pub bare_place : {N : Type 0} → CodePlace N → Expr N
+abbrev pub bare_place : {N : Type 0} → code.Place.Place N → Expr N
 bare_place p = bare (expr.Place p)
 
 -- the indices and members of an expression that is a place
@@ -235,19 +215,19 @@ abbrev pub accessors_of : {N : Type 0} → Expr N → Accessors N
 accessors_of (Place name meant accessors) = accessors
 accessors_of _ = done
 
-abbrev pub place_accessors : {N : Type 0} → CodePlace N → Accessors N
+abbrev pub place_accessors : {N : Type 0} → code.Place.Place N → Accessors N
 place_accessors p = accessors_of (bare_place p)
 
 -- an anonymous component, as an expression
-abbrev pub bare_anonymous : {N : Type 0} → CodeAnonymous N → Expr N
+abbrev pub bare_anonymous : {N : Type 0} → code.Anonymous.Anonymous N → Expr N
 bare_anonymous a =
     Anonymous a.parallel a.name a.meant (bare_exprs a.arguments) (bare_inputs a.inputs)
 
-abbrev pub bare_value : {N : Type 0} → Option (CodeExpr N) → Option (Expr N)
+abbrev pub bare_value : {N : Type 0} → Option (code.Expr.Expr N) → Option (Expr N)
 bare_value None = None
 bare_value (Some e) = Some (bare e)
 
-abbrev pub bare_variable : {N : Type 0} → CodeVariable N → Variable N
+abbrev pub bare_variable : {N : Type 0} → code.DeclaredVariable.DeclaredVariable N → Variable N
 bare_variable v =
     record {
       name = v.name;
@@ -256,11 +236,11 @@ bare_variable v =
       value = bare_value v.value;
     }
 
-abbrev pub bare_signal_value : {N : Type 0} → CodeValue N → SignalValue N
+abbrev pub bare_signal_value : {N : Type 0} → code.SignalValue.SignalValue N → SignalValue N
 bare_signal_value value.Nothing = Nothing
 bare_signal_value (value.Given arrow e) = Given arrow (bare e)
 
-abbrev pub bare_signal : {N : Type 0} → CodeSignal N → Signal N
+abbrev pub bare_signal : {N : Type 0} → code.DeclaredSignal.DeclaredSignal N → Signal N
 bare_signal s =
     record {
       name = s.name;
@@ -269,41 +249,41 @@ bare_signal s =
       value = bare_signal_value s.value;
     }
 
-abbrev pub bare_component : {N : Type 0} → CodeComponent N → Component N
+abbrev pub bare_component : {N : Type 0} → code.DeclaredComponent.DeclaredComponent N → Component N
 bare_component c = record { name = c.name; meant = c.meant; dimensions = bare_exprs c.dimensions }
 
-abbrev pub bare_assign : {N : Type 0} → CodeAssign N → Assign N
+abbrev pub bare_assign : {N : Type 0} → code.Assign.Assign N → Assign N
 bare_assign (assign.Set p e) = Set p.name p.meant (place_accessors p) (bare e)
 bare_assign (assign.Compound p op e) = Compound p.name p.meant (place_accessors p) op (bare e)
 bare_assign (assign.Left p arrow e) = Left p.name p.meant (place_accessors p) arrow (bare e)
 bare_assign (assign.Increment p) = Increment p.name p.meant (place_accessors p)
 bare_assign (assign.Decrement p) = Decrement p.name p.meant (place_accessors p)
 
-abbrev pub bare_first : {N : Type 0} → CodeFirst N → First N
+abbrev pub bare_first : {N : Type 0} → code.FirstForm.FirstForm N → First N
 bare_first (first.Vars v) = FirstVars (map bare_variable v.variables)
 bare_first (first.Assign a) = FirstAssign (bare_assign a)
 
-abbrev pub bare_argument : {N : Type 0} → CodeArgument N → LogArgument N
+abbrev pub bare_argument : {N : Type 0} → code.LogArgument.LogArgument N → LogArgument N
 bare_argument (argument.Words w) = Words w
 bare_argument (argument.Value e) = LogValue (bare e)
 
-abbrev pub bare_slot : {N : Type 0} → CodeSlot N → Slot N
+abbrev pub bare_slot : {N : Type 0} → code.Slot.Slot N → Slot N
 bare_slot (slot.Place p) = SlotPlace p.name p.meant (place_accessors p)
 bare_slot slot.Discard = SlotDiscard
 
-abbrev pub bare_target : {N : Type 0} → CodeTarget N → Target N
+abbrev pub bare_target : {N : Type 0} → code.Target.Target N → Target N
 bare_target target.Discard = Discard
 bare_target (target.Tuple slots) = Slots (map bare_slot slots)
 
-abbrev pub bare_source : {N : Type 0} → CodeSource N → Source N
+abbrev pub bare_source : {N : Type 0} → code.Source.Source N → Source N
 bare_source (source.One e) = One (bare e)
 bare_source (source.Tuple es) = Values (map bare es)
 
-abbrev pub bare_alone : {N : Type 0} → CodeAnonymous N → Simple N
+abbrev pub bare_alone : {N : Type 0} → code.Anonymous.Anonymous N → Simple N
 bare_alone a =
     Alone a.parallel a.name a.meant (bare_exprs a.arguments) (bare_inputs a.inputs)
 
-abbrev pub bare_simple : {N : Type 0} → CodeSimple N → Simple N
+abbrev pub bare_simple : {N : Type 0} → code.Simple.Simple N → Simple N
 bare_simple (simple.Vars v) = Vars (map bare_variable v.variables)
 bare_simple (simple.Signals s) = Signals s.direction (map bare_signal s.signals)
 bare_simple (simple.Components (components.Declared cs)) = Declared (map bare_component cs)
@@ -316,7 +296,7 @@ bare_simple (simple.TargetRight s arrow t) = TargetRight (bare_source s) arrow (
 bare_simple (simple.Anonymous a) = bare_alone a.value
 
 abbrev mutual
-  pub bare_form : {S N : Type 0} → S → CodeForm S N → Statement S N
+  pub bare_form : {S N : Type 0} → S → code.StatementForm.StatementForm S N → Statement S N
   bare_form spot (statement.Block b) = Block spot (bare_block b)
   bare_form spot (statement.If' c _ at s) = If spot (bare c) (bare_form at s)
   bare_form spot (statement.IfElse' c _ at s _ after t) =
@@ -330,7 +310,7 @@ abbrev mutual
   bare_form spot (statement.Log arguments) = Log spot (map bare_argument arguments)
   bare_form spot (statement.Simple s) = Ended spot (bare_simple s)
 
-  pub bare_block : {S N : Type 0} → CodeBlock S N → Statements S N
+  pub bare_block : {S N : Type 0} → code.Block.Block S N → Statements S N
   bare_block (Block' _ row) = bare_statement_row row
 
   pub bare_statement_row : {S N : Type 0} {n : _} → Row_of-Statement S N n → Statements S N
@@ -338,7 +318,7 @@ abbrev mutual
   bare_statement_row (more_of-Statement spot form rest) =
       then_more (bare_form spot form) (bare_statement_row rest)
 
-abbrev pub bare_statement : {S N : Type 0} → CodeStatement S N → Statement S N
+abbrev pub bare_statement : {S N : Type 0} → code.Statement.Statement S N → Statement S N
 bare_statement s = bare_form s.spot s.form
 
 -- a list as the tree has it
@@ -346,7 +326,7 @@ abbrev pub as_statements : {S N : Type 0} → List (Statement S N) → Statement
 as_statements [] = empty
 as_statements (s ∷ ss) = then_more s (as_statements ss)
 
-abbrev pub bare_item_form : {S N : Type 0} → S → CodeItemForm S N → Item S N
+abbrev pub bare_item_form : {S N : Type 0} → S → code.ItemForm.ItemForm S N → Item S N
 bare_item_form spot (item.Pragma p) = Pragma spot p.major p.minor p.patch
 bare_item_form spot (item.Include i) = Include spot i.name
 bare_item_form spot (item.Definition (definition.Template t)) =
@@ -355,8 +335,8 @@ bare_item_form spot (item.Definition (definition.Function f)) =
     Function spot f.name f.parameters (bare_block f.body)
 bare_item_form spot (item.Main m) = Main spot m.public m.template m.meant (bare_exprs m.arguments)
 
-abbrev pub bare_item : {S N : Type 0} → CodeItem S N → Item S N
+abbrev pub bare_item : {S N : Type 0} → code.Item.Item S N → Item S N
 bare_item i = bare_item_form i.spot i.form
 
-abbrev pub bare_file : {S N : Type 0} → CodeFile S N → File S N
+abbrev pub bare_file : {S N : Type 0} → code.File.File S N → File S N
 bare_file f = map bare_item f.items

@@ -14,6 +14,7 @@ use items::Items;
 use std::alloc::{AllocError, Global};
 
 impl<N> Place<N> {
+    #[tactic(auto, using(crate::proofs::Rows::accessors_are))]
     pub fn of(name: Text, meant: N, accessors: Items<Accessor<N>>) -> Place<N>
         ensures { bare_place result ≡ PlaceTree name meant (as_accessors accessors) }
     {
@@ -26,12 +27,14 @@ impl<N> Place<N> {
 }
 
 impl<N> Inputs<N> {
+    #[tactic(auto, using(crate::proofs::Rows::exprs_are))]
     pub fn listed(values: Items<Expr<N>>) -> Inputs<N>
         ensures { bare_inputs result ≡ Listed (bare_exprs values) }
     {
         Inputs::Listed(values)
     }
 
+    #[tactic(auto, using(crate::proofs::Rows::named_are))]
     pub fn named(inputs: Items<NamedInput<N>>) -> Inputs<N>
         ensures { bare_inputs result ≡ Named (as_named inputs) }
     {
@@ -40,12 +43,14 @@ impl<N> Inputs<N> {
 }
 
 impl<N> Expr<N> {
+    #[tactic(auto, using(crate::proofs::Rows::exprs_are))]
     pub fn call(parallel: bool, name: Text, meant: N, arguments: Items<Expr<N>>) -> Expr<N>
         ensures { bare result ≡ Call parallel name meant (bare_exprs arguments) }
     {
         Expr::Call(parallel, name, meant, arguments)
     }
 
+    #[tactic(auto, using(crate::proofs::Rows::exprs_are))]
     pub fn array(elements: Items<Expr<N>>) -> Expr<N>
         ensures { bare result ≡ Array (bare_exprs elements) }
     {
@@ -55,6 +60,7 @@ impl<N> Expr<N> {
 
 impl<N: Drop> Expr<N> {
     /// It stands in a box, since it is much larger than most expressions.
+    #[tactic(auto, using(crate::proofs::Rows::anonymous_is))]
     pub fn anonymous(alloc: Global, component: Anonymous<N>) -> Result<Expr<N>, AllocError>
         ensures { IfOk result (λ e. bare e ≡ bare_anonymous component) }
     {
