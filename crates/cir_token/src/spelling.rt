@@ -2,30 +2,13 @@
 ghost use Rattle.std.specs.Prelude.{◌≡◌};
 ghost use Rattle.cir_token.specs.Spelling.{reserved_bytes, symbol_bytes};
 
+use crate::token::Reserved::*;
 use crate::token::{Reserved, Symbol};
 
 /// Every reserved word.
 pub const RESERVED_WORDS: [Reserved; 20] = [
-    Reserved::Pragma,
-    Reserved::Include,
-    Reserved::Template,
-    Reserved::Function,
-    Reserved::Parallel,
-    Reserved::Component,
-    Reserved::Main,
-    Reserved::Public,
-    Reserved::Signal,
-    Reserved::Input,
-    Reserved::Output,
-    Reserved::Var,
-    Reserved::If,
-    Reserved::Else,
-    Reserved::For,
-    Reserved::While,
-    Reserved::Return,
-    Reserved::Assert,
-    Reserved::Log,
-    Reserved::Bus,
+    Pragma, Include, Template, Function, Parallel, Component, Main, Public, Signal, Input, Output,
+    Var, If, Else, For, While, Return, Assert, Log, Bus,
 ];
 
 /// Every symbol, the longest first.
