@@ -1,258 +1,254 @@
--- What the first byte of a spelling says of it.
-use Rattle.std.proofs.Common.{◌≡◌, ◌≢◌, ◌⊎◌, inl, inr, ℕ, ◌<◌, true, List, [], ◌∷◌, ◌++◌, length}
-use Rattle.std.proofs.Common.{get_or, refl, sym, ap, subst, ◌∙◌, arith}
-use Rattle.std.specs.Prelude.{◌&&◌, codes}
-use Rattle.std.specs.List.{list_all}
-use Rattle.std.proofs.lemmas.Bool.{false≢true}
-use Rattle.std.proofs.lemmas.Bool.Decides.{nat_tests}
-use Rattle.std.proofs.lemmas.List.{get_or_append_left}
-use Rattle.cir_lexer.specs.Bytes.{is_blank, is_mark, is_letter, is_digit, is_name_byte}
-use Rattle.cir_lexer.specs.Class.{class_of}
-use Rattle.cir_lexer.specs.Steps.{IsWordClass}
-use Rattle.cir_lexer.specs.Spelling.{is_identifier, IsSpelling, IsDecimal, IsHexadecimal}
-use Rattle.cir_lexer.specs.Spelling.{IsQuotable}
-use Rattle.cir_token.specs.Spelling.{reserved_bytes, symbol_bytes}
+-- What the first byte of a spelling says of it, and what the searches in the tables find.
+use Rattle.std.proofs.Common.{◌≡◌, ◌≢◌, inl, inr, ℕ, ◌<◌, Bool, true, false, List, [], ◌∷◌, ◌++◌}
+use Rattle.std.proofs.Common.{cond, length, refl, sym, ap, ◌∙◌, arith, ◌+◌, ◌*◌, ◌≤◌, get_or, drop}
+use Rattle.std.proofs.Common.{subst, Option, Some, None, nat_eq}
+use Rattle.std.specs.Prelude.{◌&&◌, ◌==◌, nat_le, fold, filter, MatchOption, All, ⊤}
+use Rattle.std.specs.List.{list_all, find, starts_with}
+use Rattle.std.proofs.lemmas.Bool.{false≢true, and_parts, cond-true, cond-false, leb-true}
+use Rattle.std.proofs.lemmas.Bool.Decides.{nat_tests, Decides-eqb}
+use Rattle.std.proofs.lemmas.List.{get_or_append_left, drop_more}
+use Rattle.cir_lexer.specs.Bytes.{is_blank, is_mark, is_letter, is_digit, digit_value}
+use Rattle.cir_lexer.specs.Class.{class_of, first_class, words_from, symbols_from}
+use Rattle.cir_lexer.specs.Spelling.{is_identifier, IsSpelling}
 use Rattle.cir_lexer.specs.Reading.{BeginsComment}
-use Rattle.cir_lexer.proofs.Reach.{by_test, and_both}
 use Rattle.cir_lexer.specs.declared.class.Class.{Class}
-use Rattle.cir_lexer.specs.declared.class.Class.TheVariants.{Blank, Letter, Mark, Digit, Quote}
-use Rattle.cir_lexer.specs.declared.class.Class.TheVariants.{Other}
+use Rattle.cir_token.specs.Spelling.{reserved_bytes, symbol_bytes}
 use Rattle.cir_token.specs.declared.token.TokenKind.{TokenKind}
-use Rattle.cir_token.specs.declared.token.TokenKind.TheVariants.{Reserved as Word, Name, Underscore}
-use Rattle.cir_token.specs.declared.token.TokenKind.TheVariants.{Number, Str, Symbol as Sign}
+use Rattle.cir_token.specs.declared.token.TokenKind.TheVariants as token
 use Rattle.cir_token.specs.declared.token.Symbol.{Symbol}
-use Rattle.cir_token.specs.declared.token.Symbol.TheVariants.{ConstrainLeft, ConstrainRight}
-use Rattle.cir_token.specs.declared.token.Symbol.TheVariants.{AssignLeft, AssignRight, Constrain}
-use Rattle.cir_token.specs.declared.token.Symbol.TheVariants.{StarStarEqual, ShiftLeftEqual}
-use Rattle.cir_token.specs.declared.token.Symbol.TheVariants.{ShiftRightEqual, PlusEqual}
-use Rattle.cir_token.specs.declared.token.Symbol.TheVariants.{MinusEqual, StarEqual, SlashEqual}
-use Rattle.cir_token.specs.declared.token.Symbol.TheVariants.{BackslashEqual, PercentEqual}
-use Rattle.cir_token.specs.declared.token.Symbol.TheVariants.{AmpersandEqual, BarEqual, CaretEqual}
-use Rattle.cir_token.specs.declared.token.Symbol.TheVariants.{AmpersandAmpersand, BarBar}
-use Rattle.cir_token.specs.declared.token.Symbol.TheVariants.{EqualEqual, BangEqual, LessEqual}
-use Rattle.cir_token.specs.declared.token.Symbol.TheVariants.{GreaterEqual, ShiftLeft, ShiftRight}
-use Rattle.cir_token.specs.declared.token.Symbol.TheVariants.{StarStar, PlusPlus, MinusMinus, Less}
-use Rattle.cir_token.specs.declared.token.Symbol.TheVariants.{Greater, Plus, Minus, Star, Slash}
-use Rattle.cir_token.specs.declared.token.Symbol.TheVariants.{Backslash, Percent, Ampersand, Bar}
-use Rattle.cir_token.specs.declared.token.Symbol.TheVariants.{Caret, Bang, Tilde, Equal, Question}
-use Rattle.cir_token.specs.declared.token.Symbol.TheVariants.{Colon, Comma, Semicolon, Dot}
-use Rattle.cir_token.specs.declared.token.Symbol.TheVariants.{OpenParenthesis, CloseParenthesis}
-use Rattle.cir_token.specs.declared.token.Symbol.TheVariants.{OpenBracket, CloseBracket, OpenBrace}
-use Rattle.cir_token.specs.declared.token.Symbol.TheVariants.{CloseBrace}
 use Rattle.cir_token.specs.declared.token.Reserved.{Reserved}
-use Rattle.cir_token.specs.declared.token.Reserved.TheVariants.{Pragma, Include, Template, Function}
-use Rattle.cir_token.specs.declared.token.Reserved.TheVariants.{Parallel, Component, Main, Public}
-use Rattle.cir_token.specs.declared.token.Reserved.TheVariants.{Signal, Input, Output, Var, If}
-use Rattle.cir_token.specs.declared.token.Reserved.TheVariants.{Else, For, While, Return, Assert}
-use Rattle.cir_token.specs.declared.token.Reserved.TheVariants.{Log, Bus}
+use Rattle.std.specs.Cmp.Lexicographic.{pointwise, same_text}
+use Rattle.std.proofs.Math.Nat.{mul-le-mul_left}
+use Rattle.std.proofs.lemmas.Slice.Eq.{starts_is, bytes_eq-Decides}
+use Rattle.std.proofs.lemmas.List.Elements.{All-nil, All-cons, All-head, All-tail}
+use Rattle.std.proofs.lemmas.List.Sums.{AllPass-from_list_all}
+use Rattle.cir_lexer.specs.Lengths.{IsLongestSymbol}
+use Rattle.cir_token.specs.declared.spelling.TheConstants.{SYMBOLS, RESERVED_WORDS}
+use Rattle.cir_lexer.specs.declared.class.Class.TheVariants as class
+use Rattle.cir_token.specs.declared.token.Symbol.TheVariants as symbol
+use Rattle.cir_token.specs.declared.token.Reserved.TheVariants as word
 
-abbrev pub first_class : List ℕ → Class
-first_class text = class_of (get_or text 0 0)
+pub by_test : {P : Type 0} (b : Bool) → (b ≡ true → P) → (b ≡ false → P) → P
+by_test true yes_is no_is = yes_is refl
+by_test false yes_is no_is = no_is refl
 
-pub symbol_first : (symbol : Symbol) → (first_class (symbol_bytes symbol) ≡ Other)
-    × (0 < length (symbol_bytes symbol))
+pub symbol_first : (s : Symbol) → (first_class (symbol_bytes s) ≡ class.Other)
+    × (0 < length (symbol_bytes s))
 unfolding is_blank is_letter is_mark is_digit
-symbol_first ConstrainLeft = (refl, omega arith)
-symbol_first ConstrainRight = (refl, omega arith)
-symbol_first AssignLeft = (refl, omega arith)
-symbol_first AssignRight = (refl, omega arith)
-symbol_first Constrain = (refl, omega arith)
-symbol_first StarStarEqual = (refl, omega arith)
-symbol_first ShiftLeftEqual = (refl, omega arith)
-symbol_first ShiftRightEqual = (refl, omega arith)
-symbol_first PlusEqual = (refl, omega arith)
-symbol_first MinusEqual = (refl, omega arith)
-symbol_first StarEqual = (refl, omega arith)
-symbol_first SlashEqual = (refl, omega arith)
-symbol_first BackslashEqual = (refl, omega arith)
-symbol_first PercentEqual = (refl, omega arith)
-symbol_first AmpersandEqual = (refl, omega arith)
-symbol_first BarEqual = (refl, omega arith)
-symbol_first CaretEqual = (refl, omega arith)
-symbol_first AmpersandAmpersand = (refl, omega arith)
-symbol_first BarBar = (refl, omega arith)
-symbol_first EqualEqual = (refl, omega arith)
-symbol_first BangEqual = (refl, omega arith)
-symbol_first LessEqual = (refl, omega arith)
-symbol_first GreaterEqual = (refl, omega arith)
-symbol_first ShiftLeft = (refl, omega arith)
-symbol_first ShiftRight = (refl, omega arith)
-symbol_first StarStar = (refl, omega arith)
-symbol_first PlusPlus = (refl, omega arith)
-symbol_first MinusMinus = (refl, omega arith)
-symbol_first Less = (refl, omega arith)
-symbol_first Greater = (refl, omega arith)
-symbol_first Plus = (refl, omega arith)
-symbol_first Minus = (refl, omega arith)
-symbol_first Star = (refl, omega arith)
-symbol_first Slash = (refl, omega arith)
-symbol_first Backslash = (refl, omega arith)
-symbol_first Percent = (refl, omega arith)
-symbol_first Ampersand = (refl, omega arith)
-symbol_first Bar = (refl, omega arith)
-symbol_first Caret = (refl, omega arith)
-symbol_first Bang = (refl, omega arith)
-symbol_first Tilde = (refl, omega arith)
-symbol_first Equal = (refl, omega arith)
-symbol_first Question = (refl, omega arith)
-symbol_first Colon = (refl, omega arith)
-symbol_first Comma = (refl, omega arith)
-symbol_first Semicolon = (refl, omega arith)
-symbol_first Dot = (refl, omega arith)
-symbol_first OpenParenthesis = (refl, omega arith)
-symbol_first CloseParenthesis = (refl, omega arith)
-symbol_first OpenBracket = (refl, omega arith)
-symbol_first CloseBracket = (refl, omega arith)
-symbol_first OpenBrace = (refl, omega arith)
-symbol_first CloseBrace = (refl, omega arith)
+symbol_first symbol.ConstrainLeft = (refl, omega arith)
+symbol_first _ = (refl, omega arith)
 
-pub reserved_first : (word : Reserved) → (first_class (reserved_bytes word) ≡ Letter)
-    × (is_identifier (reserved_bytes word) ≡ true)
+pub reserved_identifier : (w : Reserved) → is_identifier (reserved_bytes w) ≡ true
+unfolding is_letter is_mark is_digit
+reserved_identifier word.Pragma = refl
+reserved_identifier _ = refl
+
+word_class : (c : ℕ) (more rest : Bool) → cond (is_mark c) more (is_letter c && rest) ≡ true
+    → class_of c ≡ class.Word
 unfolding is_blank is_letter is_mark is_digit
-reserved_first Pragma = (refl, refl)
-reserved_first Include = (refl, refl)
-reserved_first Template = (refl, refl)
-reserved_first Function = (refl, refl)
-reserved_first Parallel = (refl, refl)
-reserved_first Component = (refl, refl)
-reserved_first Main = (refl, refl)
-reserved_first Public = (refl, refl)
-reserved_first Signal = (refl, refl)
-reserved_first Input = (refl, refl)
-reserved_first Output = (refl, refl)
-reserved_first Var = (refl, refl)
-reserved_first If = (refl, refl)
-reserved_first Else = (refl, refl)
-reserved_first For = (refl, refl)
-reserved_first While = (refl, refl)
-reserved_first Return = (refl, refl)
-reserved_first Assert = (refl, refl)
-reserved_first Log = (refl, refl)
-reserved_first Bus = (refl, refl)
+word_class c more rest e = grind (arith, nat_tests)
 
-letter_class : (c : ℕ) → is_letter c ≡ true → class_of c ≡ Letter
-unfolding is_blank is_letter is_mark is_digit
-letter_class c e = grind (arith, nat_tests)
-
-mark_class : (c : ℕ) → is_mark c ≡ true → class_of c ≡ Mark
-unfolding is_blank is_letter is_mark is_digit
-mark_class c e = grind (arith, nat_tests)
-
-digit_class : (c : ℕ) → is_digit c ≡ true → class_of c ≡ Digit
+digit_class : (c : ℕ) → is_digit c ≡ true → class_of c ≡ class.Digit
 unfolding is_blank is_letter is_mark is_digit
 digit_class c e = grind (arith, nat_tests)
 
--- the class in which a token's first byte is
-abbrev FitsClass : TokenKind → Class → Type 0
-FitsClass (Word _) class = IsWordClass class
-FitsClass (Name _) class = IsWordClass class
-FitsClass Underscore class = class ≡ Mark
-FitsClass (Number _) class = class ≡ Digit
-FitsClass (Str _) class = class ≡ Quote
-FitsClass (Sign _) class = class ≡ Other
-
-identifier_first : (bytes : List ℕ) → is_identifier bytes ≡ true → IsWordClass (first_class bytes)
-    × (0 < length bytes)
+pub identifier_first : (bytes : List ℕ) → is_identifier bytes ≡ true
+    → (first_class bytes ≡ class.Word) × (0 < length bytes)
 identifier_first [] e = absurd (false≢true e)
-identifier_first (c ∷ cs) e = by_test (is_mark c)
-    (λ m. (subst IsWordClass (sym (mark_class c m)) tt, omega arith))
-    (λ m. let both : (is_letter c && list_all is_name_byte cs) ≡ true = rw m at e
-    in (subst IsWordClass (sym (letter_class c (and_both _ _ both).0)) tt, omega arith))
+identifier_first (c ∷ cs) e = (word_class c _ _ e, omega arith)
 
 digits_first : (bytes : List ℕ) → bytes ≢ [] → list_all is_digit bytes ≡ true
-    → (first_class bytes ≡ Digit) × (0 < length bytes)
+    → (first_class bytes ≡ class.Digit) × (0 < length bytes)
 digits_first [] n e = absurd (n refl)
-digits_first (c ∷ cs) n e = (digit_class c (and_both _ _ e).0, omega arith)
+digits_first (c ∷ cs) n e = (digit_class c (and_parts (is_digit c) _ e).0, omega arith)
+
+-- the class of a token's first byte
+abbrev pub kind_class : TokenKind → Class
+kind_class (token.Number _) = class.Digit
+kind_class (token.Str _) = class.Quote
+kind_class (token.Symbol _) = class.Other
+kind_class _ = class.Word
 
 -- a spelling has bytes, and its first one is of its token's class
 pub spelled_first : (bytes : List ℕ) (kind : TokenKind) → IsSpelling bytes kind
-    → FitsClass kind (first_class bytes) × (0 < length bytes)
+    → (first_class bytes ≡ kind_class kind) × (0 < length bytes)
 unfolding is_blank is_letter is_mark is_digit
-spelled_first bytes (Word word) e =
-    rw e (identifier_first (reserved_bytes word) (reserved_first word).1)
-spelled_first bytes (Name name) e = let n : bytes ≡ name = e.0 in rw n (identifier_first name e.1)
-spelled_first bytes Underscore e = rw e (refl, omega arith)
-spelled_first bytes (Number value) (inl d) = digits_first bytes d.some d.digits
-spelled_first bytes (Number value) (inr h) =
-    let n : bytes ≡ 48 ∷ 120 ∷ h.digits = h.spelled in rw n (refl, omega arith)
-spelled_first bytes (Str body) e =
-    let n : bytes ≡ 34 ∷ (body ++ 34 ∷ []) = e.0 in rw n (refl, omega arith)
-spelled_first bytes (Sign symbol) e = rw e (symbol_first symbol)
+spelled_first bytes (token.Reserved w) e =
+    rw e (identifier_first (reserved_bytes w) (reserved_identifier w))
+spelled_first bytes (token.Name name) e = identifier_first bytes (ap is_identifier e.0 ∙ e.1)
+spelled_first bytes token.Underscore e = rw e (refl, omega arith)
+spelled_first bytes (token.Number value) (inl d) = digits_first bytes d.some d.digits
+spelled_first bytes (token.Number value) (inr h) = rw h.spelled (refl, omega arith)
+spelled_first bytes (token.Str body) e = rw e.0 (refl, omega arith)
+spelled_first bytes (token.Symbol s) e = rw e (symbol_first s)
 
--- the first byte of a front is that of the text
-pub front_class : (front after : List ℕ) → 0 < length front
-    → first_class (front ++ after) ≡ first_class front
-front_class front after l = ap class_of (get_or_append_left front after 0 0 l)
+-- so is that of a text that begins with it
+pub text_class : (text front after : List ℕ) (kind : TokenKind) → text ≡ front ++ after
+    → IsSpelling front kind → first_class text ≡ kind_class kind
+text_class text front after kind e s =
+    let first = spelled_first front kind s in
+    ap first_class e ∙ ap class_of (get_or_append_left front after 0 0 first.1) ∙ first.0
 
--- a word's spelling: an identifier, or the mark alone
-pub word_front : (bytes : List ℕ) (kind : TokenKind) → IsWordClass (first_class bytes)
-    → IsSpelling bytes kind → (is_identifier bytes ≡ true) ⊎ (bytes ≡ codes "_")
-word_front bytes (Word word) w e = inl (ap is_identifier e ∙ (reserved_first word).1)
-word_front bytes (Name name) w e = inl (ap is_identifier e.0 ∙ e.1)
-word_front bytes Underscore w e = inr e
-word_front bytes (Number value) w e =
-    absurd (subst IsWordClass (spelled_first bytes (Number value) e).0 w)
-word_front bytes (Str body) w e = absurd (subst IsWordClass (spelled_first bytes (Str body) e).0 w)
-word_front bytes (Sign symbol) w e =
-    absurd (subst IsWordClass (spelled_first bytes (Sign symbol) e).0 w)
-
-pub digit_front : (bytes : List ℕ) (kind : TokenKind) → first_class bytes ≡ Digit
-    → IsSpelling bytes kind → (value : ℕ) × (IsDecimal bytes value ⊎ IsHexadecimal bytes value)
-digit_front bytes (Word word) c e =
-    absurd (subst IsWordClass c (spelled_first bytes (Word word) e).0)
-digit_front bytes (Name name) c e =
-    absurd (subst IsWordClass c (spelled_first bytes (Name name) e).0)
-digit_front bytes Underscore c e =
-    let o : first_class bytes ≡ Mark = (spelled_first bytes Underscore e).0 in cc
-digit_front bytes (Number value) c e = (value, e)
-digit_front bytes (Str body) c e =
-    let o : first_class bytes ≡ Quote = (spelled_first bytes (Str body) e).0 in cc
-digit_front bytes (Sign symbol) c e =
-    let o : first_class bytes ≡ Other = (spelled_first bytes (Sign symbol) e).0 in cc
-
-pub quote_front : (bytes : List ℕ) (kind : TokenKind) → first_class bytes ≡ Quote
-    → IsSpelling bytes kind → (body : List ℕ) × (bytes ≡ 34 ∷ (body ++ 34 ∷ [])) × IsQuotable body
-quote_front bytes (Word word) c e =
-    absurd (subst IsWordClass c (spelled_first bytes (Word word) e).0)
-quote_front bytes (Name name) c e =
-    absurd (subst IsWordClass c (spelled_first bytes (Name name) e).0)
-quote_front bytes Underscore c e =
-    let o : first_class bytes ≡ Mark = (spelled_first bytes Underscore e).0 in cc
-quote_front bytes (Number value) c e =
-    let o : first_class bytes ≡ Digit = (spelled_first bytes (Number value) e).0 in cc
-quote_front bytes (Str body) c e = (body, e.0, e.1)
-quote_front bytes (Sign symbol) c e =
-    let o : first_class bytes ≡ Other = (spelled_first bytes (Sign symbol) e).0 in cc
-
-pub other_front : (bytes : List ℕ) (kind : TokenKind) → first_class bytes ≡ Other
-    → IsSpelling bytes kind → (symbol : Symbol) × (bytes ≡ symbol_bytes symbol)
-other_front bytes (Word word) c e =
-    absurd (subst IsWordClass c (spelled_first bytes (Word word) e).0)
-other_front bytes (Name name) c e =
-    absurd (subst IsWordClass c (spelled_first bytes (Name name) e).0)
-other_front bytes Underscore c e =
-    let o : first_class bytes ≡ Mark = (spelled_first bytes Underscore e).0 in cc
-other_front bytes (Number value) c e =
-    let o : first_class bytes ≡ Digit = (spelled_first bytes (Number value) e).0 in cc
-other_front bytes (Str body) c e =
-    let o : first_class bytes ≡ Quote = (spelled_first bytes (Str body) e).0 in cc
-other_front bytes (Sign symbol) c e = (symbol, e)
-
-pub blank_front : (bytes : List ℕ) (kind : TokenKind) → first_class bytes ≡ Blank
-    → ¬ IsSpelling bytes kind
-blank_front bytes (Word word) c e = subst IsWordClass c (spelled_first bytes (Word word) e).0
-blank_front bytes (Name name) c e = subst IsWordClass c (spelled_first bytes (Name name) e).0
-blank_front bytes Underscore c e =
-    let o : first_class bytes ≡ Mark = (spelled_first bytes Underscore e).0 in cc
-blank_front bytes (Number value) c e =
-    let o : first_class bytes ≡ Digit = (spelled_first bytes (Number value) e).0 in cc
-blank_front bytes (Str body) c e =
-    let o : first_class bytes ≡ Quote = (spelled_first bytes (Str body) e).0 in cc
-blank_front bytes (Sign symbol) c e =
-    let o : first_class bytes ≡ Other = (spelled_first bytes (Sign symbol) e).0 in cc
+abbrev pub is_other : Class → Bool
+is_other class.Other = true
+is_other _ = false
 
 -- a comment begins with a byte of the class of symbols
-pub no_comment : (text : List ℕ) → first_class text ≢ Other → ¬ BeginsComment text
+pub no_comment : (text : List ℕ) → is_other (first_class text) ≡ false → ¬ BeginsComment text
 unfolding is_blank is_letter is_mark is_digit
-no_comment text n (inl (rest, e)) = n (ap first_class e)
-no_comment text n (inr (rest, e)) = n (ap first_class e)
+no_comment text n (inl (rest, e)) = false≢true (sym n ∙ ap (λ t. is_other (first_class t)) e)
+no_comment text n (inr (rest, e)) = false≢true (sym n ∙ ap (λ t. is_other (first_class t)) e)
+
+module _ {X : Type 0} (p : X → Bool) where
+  head_found : (x : X) (xs : List X) (r : Option X) → p x ≡ true → find p (x ∷ xs) ≡ r → Some x ≡ r
+  head_found x xs r t e = sym (cond-true _ _ _ t) ∙ e
+
+  later_found : (x : X) (xs : List X) (r : Option X) → p x ≡ false → find p (x ∷ xs) ≡ r
+      → find p xs ≡ r
+  later_found x xs r f e = sym (cond-false _ _ _ f) ∙ e
+
+  -- what a search finds passes its test, and what all in the list do
+  found_is : (P : X → Type 0) (xs : List X) (y : X) → All P xs → find p xs ≡ Some y
+      → P y × (p y ≡ true)
+  found_is P [] y a e = cc
+  found_is P (x ∷ xs) y a e = by_test (p x)
+      (λ t. let h : Some x ≡ Some y = head_found x xs (Some y) t e in let g : x ≡ y = cc in
+      subst (λ z. P z × (p z ≡ true)) g (All-head P x xs a, t))
+      (λ f. found_is P xs y (All-tail P x xs a) (later_found x xs (Some y) f e))
+
+  -- where none is found, all fail
+  none_found : (xs : List X) → find p xs ≡ None → All (λ x. p x ≡ false) xs
+  none_found [] e = All-nil (λ x. p x ≡ false)
+  none_found (x ∷ xs) e = by_test (p x)
+      (λ t. let h : Some x ≡ None = head_found x xs None t e in cc)
+      (λ f. All-cons (λ x. p x ≡ false) x xs f (none_found xs (later_found x xs None f e)))
+
+  -- a search among those that pass a test which all that it looks for pass
+  find_filter : (q : X → Bool) → ((x : X) → p x ≡ true → q x ≡ true) → (xs : List X)
+      → find p (filter q xs) ≡ find p xs
+  find_filter q h [] = refl
+  find_filter q h (x ∷ xs) = by_test (q x)
+      (λ t. rw t (ap (λ r. cond (p x) (Some x) r) (find_filter q h xs)))
+      (λ f. rw f (find_filter q h xs ∙ sym (cond-false (p x) _ _
+      (by_test (p x) (λ t. absurd (false≢true (sym f ∙ h x t))) (λ g. g)))))
+
+abbrev no_longer : Symbol → Symbol → Bool
+no_longer x y = nat_le (length (symbol_bytes y)) (length (symbol_bytes x))
+
+abbrev falls : List Symbol → Bool
+falls [] = true
+falls (x ∷ xs) = list_all (no_longer x) (x ∷ xs) && falls xs
+
+-- in a list with no symbol longer than one before it, the first that passes is the longest
+find_longest : (p q : Symbol → Bool) (xs : List Symbol) (x y : Symbol) → falls xs ≡ true
+    → find p xs ≡ Some x → find q xs ≡ Some y → p y ≡ true
+    → length (symbol_bytes y) ≤ length (symbol_bytes x)
+find_longest p q [] x y f e g t = cc
+find_longest p q (z ∷ zs) x y f e g t = by_test (p z)
+    (λ b. let h : Some z ≡ Some x = head_found p z zs (Some x) b e in let i : z ≡ x = cc in
+    let le = found_is q (λ s. no_longer z s ≡ true) (z ∷ zs) y
+    (AllPass-from_list_all (no_longer z) (z ∷ zs) (and_parts _ (falls zs) f).0) g in
+    omega (arith, leb-true _ _ le.0, ap (λ s. length (symbol_bytes s)) i))
+    (λ b. by_test (q z)
+    (λ c. let h : Some z ≡ Some y = head_found q z zs (Some y) c g in let i : z ≡ y = cc
+    in absurd (false≢true (sym b ∙ ap p i ∙ t)))
+    (λ c. find_longest p q zs x y (and_parts _ (falls zs) f).1 (later_found p z zs (Some x) b e)
+    (later_found q z zs (Some y) c g) t))
+
+-- the bytes are those of this word, or of this symbol
+abbrev is_word : List ℕ → Reserved → Bool
+is_word bytes w = pointwise nat_eq (reserved_bytes w) bytes
+
+abbrev is_symbol : List ℕ → Symbol → Bool
+is_symbol bytes s = pointwise nat_eq (symbol_bytes s) bytes
+
+abbrev pub word_of : List ℕ → Option Reserved
+word_of bytes = find (is_word bytes) RESERVED_WORDS
+
+pub word_back : (w : Reserved) → word_of (reserved_bytes w) ≡ Some w
+word_back word.Pragma = refl
+word_back _ = refl
+
+abbrev pub symbol_of : List ℕ → Option Symbol
+symbol_of bytes = find (is_symbol bytes) SYMBOLS
+
+pub symbol_back : (s : Symbol) → symbol_of (symbol_bytes s) ≡ Some s
+symbol_back symbol.ConstrainLeft = refl
+symbol_back _ = refl
+
+find_word : (name : List ℕ) (r : Option Reserved) → r ≡ word_of name
+    → MatchOption r ((w : Reserved) → name ≢ reserved_bytes w) (λ w. name ≡ reserved_bytes w)
+find_word name None e = λ w o.
+    let fails = found_is (is_word (reserved_bytes w)) (λ v. is_word name v ≡ false) RESERVED_WORDS w
+    (none_found (is_word name) RESERVED_WORDS (sym e)) (word_back w) in
+    false≢true (sym fails.0 ∙ (bytes_eq-Decides (reserved_bytes w) name).1 (sym o))
+find_word name (Some w) e =
+    let found = found_is (is_word name) (λ v. ⊤) RESERVED_WORDS w (λ k d l. tt) (sym e) in
+    sym (same_text _ _ (sym found.1))
+
+-- the reserved word among those with the first byte of the name
+pub reserved_is : (name : List ℕ) (words : List Reserved) (r : Option Reserved)
+    → words ≡ words_from (get_or name 0 0) → r ≡ find (is_word name) words
+    → MatchOption r ((w : Reserved) → name ≢ reserved_bytes w) (λ w. name ≡ reserved_bytes w)
+reserved_is name words r f e = find_word name r
+    (e ∙ ap (find (is_word name)) f
+    ∙ find_filter (is_word name) (λ w. get_or (reserved_bytes w) 0 0 == get_or name 0 0)
+    (λ w t. (Decides-eqb (get_or (reserved_bytes w) 0 0) (get_or name 0 0)).1
+    (ap (λ b. get_or b 0 0) (same_text (reserved_bytes w) name (sym t)))) RESERVED_WORDS)
+
+module _ (text : List ℕ) where
+  -- the text begins with this symbol
+  abbrev begins : Symbol → Bool
+  begins s = starts_with nat_eq text (symbol_bytes s)
+
+  begins_is : (s : Symbol) → (begins s ≡ true
+      → text ≡ symbol_bytes s ++ drop (length (symbol_bytes s)) text)
+      × ((rest : List ℕ) → text ≡ symbol_bytes s ++ rest → begins s ≡ true)
+  begins_is s = starts_is Decides-eqb text (symbol_bytes s) (begins s) refl
+
+  -- the first symbol of the table that the text begins with is the longest
+  first_symbol : (r : Option Symbol) → r ≡ find begins SYMBOLS
+      → MatchOption r ((s : Symbol) (after : List ℕ) → text ≢ symbol_bytes s ++ after)
+      (λ s. IsLongestSymbol text s)
+  first_symbol None e = λ s after o.
+      let fails = found_is (is_symbol (symbol_bytes s)) (λ t. begins t ≡ false) SYMBOLS s
+      (none_found begins SYMBOLS (sym e)) (symbol_back s) in
+      false≢true (sym fails.0 ∙ (begins_is s).1 after o)
+  first_symbol (Some s) e =
+      record {
+        begins = (begins_is s).0 (found_is begins (λ t. ⊤) SYMBOLS s (λ k d l. tt) (sym e)).1;
+        longest = λ other rest o.
+            find_longest begins (is_symbol (symbol_bytes other)) SYMBOLS s other refl (sym e)
+            (symbol_back other) ((begins_is other).1 rest o);
+      }
+
+  same_first : (s : Symbol) → begins s ≡ true
+      → (get_or (symbol_bytes s) 0 0 == get_or text 0 0) ≡ true
+  same_first s t = (Decides-eqb _ _).1
+      (sym (get_or_append_left (symbol_bytes s) _ 0 0 (symbol_first s).1)
+      ∙ sym (ap (λ b. get_or b 0 0) ((begins_is s).0 t)))
+
+  -- and so among those with its first byte
+  pub symbol_is : (symbols : List Symbol) (r : Option Symbol)
+      → symbols ≡ symbols_from (get_or text 0 0) → r ≡ find begins symbols
+      → MatchOption r ((s : Symbol) (after : List ℕ) → text ≢ symbol_bytes s ++ after)
+      (λ s. IsLongestSymbol text s)
+  symbol_is symbols r f e = first_symbol r
+      (e ∙ ap (find begins) f
+      ∙ find_filter begins (λ s. get_or (symbol_bytes s) 0 0 == get_or text 0 0) same_first SYMBOLS)
+
+-- numbers grow with their digits
+number_grows : (base : ℕ) (digits : List ℕ) (n : ℕ) → 1 ≤ base
+    → n ≤ fold (λ m c. m * base + digit_value c) n digits
+number_grows base [] n l = omega arith
+number_grows base (c ∷ cs) n l = let h : n * 1 ≤ n * base = mul-le-mul_left n l in
+    omega (arith, number_grows base cs (n * base + digit_value c) l, h)
+
+-- a digit that comes makes the number no smaller
+pub number_ahead : (base : ℕ) (digits : List ℕ) (i value number : ℕ) → 1 ≤ base → i < length digits
+    → fold (λ m c. m * base + digit_value c) value (drop i digits) ≡ number
+    → value * base + digit_value (get_or digits i 0) ≤ number
+number_ahead base digits i value number l h e =
+    let more = value * base + digit_value (get_or digits i 0) in
+    let same = ap (fold (λ m c. m * base + digit_value c) value) (drop_more digits i 0 h) in
+    omega (arith, number_grows base (drop (i + 1) digits) more l, sym same ∙ e)

@@ -1,31 +1,26 @@
 -- What the first byte of a token or a gap can be.
-use Rattle.std.specs.Prelude.{ℕ, ◌==◌, if◌then◌else◌, Option, Some, None}
+use Rattle.std.specs.Prelude.{ℕ, ◌==◌, ◌||◌, if◌then◌else◌, List, get_or, filter}
+use Rattle.cir_token.specs.Spelling.{reserved_bytes, symbol_bytes}
+use Rattle.cir_token.specs.declared.spelling.TheConstants.{SYMBOLS, RESERVED_WORDS}
+use Rattle.cir_token.specs.declared.token.Reserved.{Reserved}
 use Rattle.cir_token.specs.declared.token.Symbol.{Symbol}
-use Rattle.cir_token.specs.declared.token.Symbol.TheVariants.{OpenParenthesis, CloseParenthesis}
-use Rattle.cir_token.specs.declared.token.Symbol.TheVariants.{OpenBracket, CloseBracket, OpenBrace}
-use Rattle.cir_token.specs.declared.token.Symbol.TheVariants.{CloseBrace, Comma, Semicolon, Dot}
 use Rattle.cir_lexer.specs.Bytes.{is_blank, is_letter, is_digit, is_mark}
 use Rattle.cir_lexer.specs.declared.class.Class.{Class}
-use Rattle.cir_lexer.specs.declared.class.Class.TheVariants.{Blank, Letter, Mark, Digit, Quote}
-use Rattle.cir_lexer.specs.declared.class.Class.TheVariants.{Other}
+use Rattle.cir_lexer.specs.declared.class.Class.TheVariants.{Blank, Word, Digit, Quote, Other}
 
 abbrev pub class_of : ℕ → Class
 class_of c =
     if is_blank c then Blank else
-    (if is_letter c then Letter else
-    (if is_mark c then Mark else
-    (if is_digit c then Digit else
-    (if c == 34 then Quote else Other))))
+    (if is_letter c || is_mark c then Word else
+    (if is_digit c then Digit else (if c == 34 then Quote else Other)))
 
--- the symbol of this one byte, where no other symbol begins with it
-abbrev pub alone : ℕ → Option Symbol
-alone c =
-    if c == 40 then Some OpenParenthesis else
-    (if c == 41 then Some CloseParenthesis else
-    (if c == 44 then Some Comma else
-    (if c == 59 then Some Semicolon else
-    (if c == 91 then Some OpenBracket else
-    (if c == 93 then Some CloseBracket else
-    (if c == 123 then Some OpenBrace else
-    (if c == 125 then Some CloseBrace else
-    (if c == 46 then Some Dot else None))))))))
+abbrev pub first_class : List ℕ → Class
+first_class text = class_of (get_or text 0 0)
+
+-- the reserved words that begin with this byte
+abbrev pub words_from : ℕ → List Reserved
+words_from c = filter (λ word. get_or (reserved_bytes word) 0 0 == c) RESERVED_WORDS
+
+-- the symbols that begin with this byte, the longest first
+abbrev pub symbols_from : ℕ → List Symbol
+symbols_from c = filter (λ symbol. get_or (symbol_bytes symbol) 0 0 == c) SYMBOLS

@@ -4,4 +4,3 @@ pub mod Spelling
 pub mod Reading
 pub mod Lengths
 pub mod Steps
-pub mod Tables

@@ -8,8 +8,8 @@ ghost use Rattle.cir_lexer.specs.Class.{class_of};
 #[derive(Clone, Copy)]
 pub(crate) enum Class {
     Blank,
-    Letter,
-    Mark,
+    /// Of an identifier or of `_`.
+    Word,
     Digit,
     Quote,
     Other,
@@ -20,10 +20,8 @@ pub(crate) fn class_of(byte: u8) -> Class
 {
     if is_blank(byte) {
         Class::Blank
-    } else if is_letter(byte) {
-        Class::Letter
-    } else if is_mark(byte) {
-        Class::Mark
+    } else if is_letter(byte) || is_mark(byte) {
+        Class::Word
     } else if is_digit(byte) {
         Class::Digit
     } else if byte == b'"' {

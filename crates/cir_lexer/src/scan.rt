@@ -1,56 +1,50 @@
 //! How far what stands at the front of a text reaches.
-ghost use Rattle.std.specs.Prelude.{◌≡◌, ◌≢◌, ℕ, ◌+◌, ◌<◌, ◌≤◌, ◌^◌, ◌++◌, ◌==◌, nat_eq, List};
-ghost use Rattle.std.specs.Prelude.{length, slice_index, IfSome, IfNone};
+ghost use Rattle.std.specs.Prelude.{◌≡◌, ◌≢◌, ℕ, ◌+◌, ◌<◌, ◌≤◌, ◌^◌, ◌++◌, ◌==◌, nat_eq, true, not};
+ghost use Rattle.std.specs.Prelude.{List, length, drop, IfSome, IfNone, MatchOption};
 ghost use Rattle.std.specs.List.{prefix_len, find, starts_with};
 ghost use Rattle.std.specs.Cmp.Lexicographic.{pointwise};
 ghost use Rattle.std.specs.Option.{SomeIff};
 ghost use Rattle.cir_lexer.specs.Bytes.{is_mark, is_name_byte, is_digit, is_hexadecimal};
-ghost use Rattle.cir_lexer.specs.Lengths.{identifier_len, lettered_len, IsLongestSymbol};
-ghost use Rattle.cir_lexer.specs.Lengths.{is_quotable, is_in_line, begins_pair, begins_hexadecimal};
-ghost use Rattle.cir_lexer.specs.Lengths.{close_at};
+ghost use Rattle.cir_lexer.specs.Class.{first_class};
+ghost use Rattle.cir_lexer.specs.Lengths.{identifier_len, is_quotable, is_in_line, begins_pair};
+ghost use Rattle.cir_lexer.specs.Lengths.{begins_hexadecimal, IsFirstClose, IsLongestSymbol};
+ghost use Rattle.cir_lexer.specs.Reading.{Closes, IsLineComment, IsBlockComment, IsQuotation};
+ghost use Rattle.cir_lexer.specs.Reading.{IsFault};
 ghost use Rattle.cir_lexer.specs.Spelling.{number_in};
-ghost use Rattle.cir_lexer.specs.Class.{alone};
 ghost use Rattle.cir_token.specs.Spelling.{reserved_bytes, symbol_bytes};
 ghost use Rattle.cir_token.specs.declared.token.Reserved.{Reserved};
 ghost use Rattle.cir_token.specs.declared.token.Symbol.{Symbol};
-ghost use Rattle.cir_token.specs.declared.spelling.TheConstants.{RESERVED_WORDS};
-ghost use Rattle.cir_token.specs.declared.spelling.TheConstants.{SYMBOLS};
 
-use crate::class::{digit_value, is_digit, is_hexadecimal, is_letter, is_mark, is_name_byte};
+use crate::class::{
+    Class, digit_value, is_digit, is_hexadecimal, is_letter, is_mark, is_name_byte,
+};
 use crate::tables::{symbols_from, words_from};
-use cir_token::{Reserved, Symbol};
+use cir_token::{LexCause, Reserved, Symbol};
 
-fn marks_len(text: &[u8]) -> usize
-    ensures { result ≡ prefix_len is_mark text.now }
-{
-    text.iter().take_while(|byte| is_mark(**byte)).count()
-}
-
+#[tactic(auto, using(crate::proofs::Taking::prefixes))]
 fn name_bytes_len(text: &[u8]) -> usize
-    ensures { result ≡ prefix_len is_name_byte text.now }
+    ensures value { result ≡ prefix_len is_name_byte text.now }
+    ensures within { result ≤ length text.now }
 {
     text.iter().take_while(|byte| is_name_byte(**byte)).count()
 }
 
-/// The length of a letter and the name bytes behind it, 0 where there is no letter.
-#[tactic(auto, using(crate::proofs::Reach::prefix_within))]
-fn lettered_len(text: &[u8]) -> usize
-    ensures { result ≡ lettered_len text.now }
+/// The first byte that's neither `$` nor `_`.
+fn behind_marks(text: &[u8]) -> Option<u8>
+    ensures { result ≡ find (λ c. not (is_mark c)) text.now }
 {
-    match text.split_first() {
-        Some((first, rest)) if is_letter(*first) => 1 + name_bytes_len(rest),
-        _ => 0,
-    }
+    text.iter().copied().find(|byte| !is_mark(*byte))
 }
 
 /// The length of the identifier at the front, 0 where there is none.
-#[tactic(auto, using(crate::proofs::Reach::prefix_within))]
 pub(crate) fn identifier_len(text: &[u8]) -> usize
-    ensures { result ≡ identifier_len text.now }
+    ensures value { result ≡ identifier_len text.now }
+    ensures within { result ≤ length text.now }
 {
-    let marks = marks_len(text);
-    let len = lettered_len(&text[marks..]);
-    if len == 0 { 0 } else { marks + len }
+    match behind_marks(text) {
+        Some(first) if is_letter(first) => name_bytes_len(text),
+        _ => 0,
+    }
 }
 
 pub(crate) fn underscores_len(text: &[u8]) -> usize
@@ -65,8 +59,10 @@ pub(crate) fn digits_len(text: &[u8]) -> usize
     text.iter().take_while(|byte| is_digit(**byte)).count()
 }
 
+#[tactic(auto, using(crate::proofs::Taking::prefixes))]
 pub(crate) fn hexadecimals_len(text: &[u8]) -> usize
-    ensures { result ≡ prefix_len is_hexadecimal text.now }
+    ensures value { result ≡ prefix_len is_hexadecimal text.now }
+    ensures within { result ≤ length text.now }
 {
     text.iter()
         .take_while(|byte| is_hexadecimal(**byte))
@@ -82,24 +78,37 @@ fn quotable_len(text: &[u8]) -> usize
         .count()
 }
 
-/// The number of bytes before the quote that ends a string, `None` where the line ends before it.
-pub(crate) fn quoted_len(text: &[u8]) -> Option<usize>
-    ensures some { IfSome result (λ n. (n ≡ prefix_len is_quotable text.now)
-        × (slice_index text.now n ≡ 34) × (n < length text.now)) }
-    ensures none { IfNone result (slice_index text.now (prefix_len is_quotable text.now) ≢ 34) }
+/// The body of the string at the front, `None` where the line ends before its second quote.
+pub(crate) fn quoted_body(text: &[u8]) -> Option<&[u8]>
+    requires some { 0 < length text.now }
+    requires class { first_class text.now ≡ Class.Quote }
+    ensures some { IfSome result (λ body. (after : List ℕ) × IsQuotation text.now body.now after
+        × (length body.now + 2 ≤ length text.now)) }
+    ensures none { IfNone result (IsFault text.now LexCause.OpenString 0) }
 {
-    let len = quotable_len(text);
-    if len < text.len() && text[len] == b'"' {
-        Some(len)
+    let rest = &text[1..];
+    let len = quotable_len(rest);
+    if len < rest.len() && rest[len] == b'"' {
+        Some(&rest[..len])
     } else {
         None
     }
 }
 
-pub(crate) fn line_len(text: &[u8]) -> usize
+fn line_len(text: &[u8]) -> usize
     ensures { result ≡ prefix_len is_in_line text.now }
 {
     text.iter().take_while(|byte| **byte != b'\n').count()
+}
+
+/// The body of the line comment at the front.
+pub(crate) fn line_body(text: &[u8]) -> &[u8]
+    requires { begins_pair 47 47 text.now ≡ true }
+    ensures { (after : List ℕ) × IsLineComment text.now result.now after
+        × (length result.now + 2 ≤ length text.now) }
+{
+    let rest = &text[2..];
+    &rest[..line_len(rest)]
 }
 
 /// Whether the text begins with these two bytes.
@@ -117,17 +126,30 @@ pub(crate) fn begins_hexadecimal(text: &[u8]) -> bool
 }
 
 /// Where the first `*/` begins.
-pub(crate) fn close_at(text: &[u8]) -> Option<usize>
-    ensures { result ≡ close_at text.now }
+fn close_at(text: &[u8]) -> Option<usize>
+    ensures { MatchOption result ((k : ℕ) → ¬ Closes (drop k text.now))
+        (λ n. IsFirstClose text.now n) }
 {
-    let mut at = 0;
-    while at < text.len() {
+    for at in 0..text.len() {
         if begins_pair(&text[at..], b'*', b'/') {
             return Some(at);
         }
-        at += 1;
     }
     None
+}
+
+/// The body of the block comment at the front, `None` where it isn't ended.
+pub(crate) fn block_body(text: &[u8]) -> Option<&[u8]>
+    requires { begins_pair 47 42 text.now ≡ true }
+    ensures some { IfSome result (λ body. (after : List ℕ) × IsBlockComment text.now body.now after
+        × (length body.now + 4 ≤ length text.now)) }
+    ensures none { IfNone result (IsFault text.now LexCause.OpenComment 0) }
+{
+    let rest = &text[2..];
+    match close_at(rest) {
+        Some(len) => Some(&rest[..len]),
+        None => None,
+    }
 }
 
 /// The number that the digits mean, `None` where it is 2^128 or more.
@@ -150,24 +172,13 @@ fn find_reserved(words: &[Reserved], name: &[u8]) -> Option<Reserved>
     words.iter().copied().find(|word| word.spelling() == name)
 }
 
-/// The first word of the table that these bytes are. Only those with the same first byte are looked
-/// at.
-fn first_word(name: &[u8]) -> Option<Reserved>
-    ensures { result
-        ≡ find (λ word. pointwise nat_eq (reserved_bytes word) name.now) RESERVED_WORDS }
-{
-    match name.first() {
-        Some(first) => find_reserved(words_from(*first), name),
-        None => None,
-    }
-}
-
-/// The reserved word that these bytes are.
+/// The reserved word that these bytes are. Only those with the same first byte are looked at.
 pub(crate) fn reserved(name: &[u8]) -> Option<Reserved>
-    ensures found { IfSome result (λ word. name.now ≡ reserved_bytes word) }
-    ensures none { IfNone result ((word : Reserved) → name.now ≢ reserved_bytes word) }
+    requires { 0 < length name.now }
+    ensures { MatchOption result ((word : Reserved) → name.now ≢ reserved_bytes word)
+        (λ word. name.now ≡ reserved_bytes word) }
 {
-    first_word(name)
+    find_reserved(words_from(name[0]), name)
 }
 
 /// Whether the text begins with these bytes. A symbol has so few that they are compared one by one.
@@ -192,52 +203,15 @@ fn find_symbol(symbols: &[Symbol], text: &[u8]) -> Option<Symbol>
         .find(|symbol| begins_with(text, symbol.spelling()))
 }
 
-/// The symbol of this byte, where no other begins with it.
-fn alone(byte: u8) -> Option<Symbol>
-    ensures { result ≡ alone byte }
-{
-    if byte == b'(' {
-        Some(Symbol::OpenParenthesis)
-    } else if byte == b')' {
-        Some(Symbol::CloseParenthesis)
-    } else if byte == b',' {
-        Some(Symbol::Comma)
-    } else if byte == b';' {
-        Some(Symbol::Semicolon)
-    } else if byte == b'[' {
-        Some(Symbol::OpenBracket)
-    } else if byte == b']' {
-        Some(Symbol::CloseBracket)
-    } else if byte == b'{' {
-        Some(Symbol::OpenBrace)
-    } else if byte == b'}' {
-        Some(Symbol::CloseBrace)
-    } else if byte == b'.' {
-        Some(Symbol::Dot)
-    } else {
-        None
-    }
-}
-
-/// The first symbol of the table that the text begins with. Most are told by their first byte, and
-/// of the others only those with the same first byte are looked at.
-fn first_symbol(text: &[u8]) -> Option<Symbol>
-    requires { 0 < length text.now }
-    ensures { result
-        ≡ find (λ symbol. starts_with nat_eq text.now (symbol_bytes symbol)) SYMBOLS }
-{
-    match alone(text[0]) {
-        Some(symbol) => Some(symbol),
-        None => find_symbol(symbols_from(text[0]), text),
-    }
-}
-
-/// The longest symbol at the front.
+/// The longest symbol at the front. Most are told by their first byte, and of the others only those
+/// with the same first byte are looked at.
 pub(crate) fn symbol(text: &[u8]) -> Option<Symbol>
     requires { 0 < length text.now }
-    ensures found { IfSome result (λ symbol. IsLongestSymbol text.now symbol) }
-    ensures none { IfNone result ((other : Symbol) (after : List ℕ)
-        → text.now ≢ symbol_bytes other ++ after) }
+    ensures { MatchOption result ((other : Symbol) (after : List ℕ)
+        → text.now ≢ symbol_bytes other ++ after) (λ symbol. IsLongestSymbol text.now symbol) }
 {
-    first_symbol(text)
+    match symbols_from(text[0]) {
+        [symbol] => Some(*symbol),
+        symbols => find_symbol(symbols, text),
+    }
 }

@@ -1,15 +1,15 @@
-use Rattle.std.proofs.Common.{ap}
-use Rattle.std.proofs.Common.{length}
-use Rattle.cir_lexer.proofs.Tokens.{takes_symbol, stray_symbol, no_comment_pairs}
+use Rattle.std.proofs.Common.{ap, length}
+use Rattle.cir_lexer.proofs.Taking.{no_pairs, faults, takes_token, symbol_token, stray_symbol}
 use Rattle.cir_lexer.proofs.front.symbol.Goals as goal
 
 pub returns-in_default : goal.returns-in_default
 returns-in_default c =
-    stray_symbol c.args.text.now c.args.offset c.requires.some c.requires.class
-    c.in_default.ensures.none
+    faults c.args.text.now c.args.offset _ _ c.fault_at.ensures
+    (stray_symbol c.args.text.now c.requires.here.some c.requires.here.class c.in_default.ensures)
 
 pub returns : goal.returns
 returns c =
-    takes_symbol c.args.text.now c.args.offset _ _ _ c.in-Some.symbol c.requires.class
-    (no_comment_pairs c.args.text.now c.requires.no_line c.requires.no_block)
-    c.in-Some.ensures.found (ap length c.spelling-len.ensures) c.in_ok-push.ensures.ok
+    takes_token c.args.text.now c.args.offset _ _ _ _ _ _
+    (symbol_token c.args.text.now c.in-Some.symbol c.requires.here.class
+    (no_pairs c.args.text.now c.requires.no_line c.requires.no_block) c.in-Some.ensures)
+    tt (ap length c.spelling-len.ensures) c.in_ok-push.ensures.ok

@@ -1,5 +1,5 @@
 use Rattle.std.proofs.Common.{arith}
-use Rattle.cir_lexer.proofs.Reach.{number_ahead}
+use Rattle.cir_lexer.proofs.Spelled.{number_ahead}
 use Rattle.cir_lexer.proofs.scan.number_in.Goals as goal
 
 pub returns-in_err-checked_mul : goal.returns-in_err-checked_mul

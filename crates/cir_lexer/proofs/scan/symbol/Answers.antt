@@ -1,8 +1,6 @@
-use Rattle.cir_lexer.proofs.Reach.{symbol_found, symbol_none}
+use Rattle.cir_lexer.proofs.Spelled.{symbol_is}
 use Rattle.cir_lexer.proofs.scan.symbol.Goals as goal
 
-pub returns-clause-found : goal.returns-clause-found
-returns-clause-found c = symbol_found c.args.text.now c.first_symbol.result c.first_symbol.ensures
-
-pub returns-clause-none : goal.returns-clause-none
-returns-clause-none c = symbol_none c.args.text.now c.first_symbol.result c.first_symbol.ensures
+pub returns-in_default : goal.returns-in_default
+returns-in_default c =
+    symbol_is c.args.text.now _ c.find_symbol.result c.symbols_from.ensures c.find_symbol.ensures
