@@ -6,16 +6,17 @@ use Rattle.cir_token.specs.declared.token.TokenKind.{TokenKind}
 use Rattle.cir_ast.specs.declared.marked.Expr.{Expr as CodeExpr}
 use Rattle.cir_ast.specs.declared.marked.Accessor.{Accessor as CodeAccessor}
 use Rattle.cir_ast.specs.declared.marked.NamedInput.{NamedInput as CodeInput}
+use Rattle.cir_ast.specs.declared.marked.Inputs.{Inputs as CodeInputs}
 use Rattle.cir_ast.specs.declared.marked.Place.{Place}
-use Rattle.cir_ast.specs.Tree.{bare, as_exprs, as_accessors, as_named, place_accessors}
-use Rattle.cir_ast.specs.Plain.{PlainExpr, PlainExprs, PlainAccessors, PlainNamedInputs, plain}
-use Rattle.cir_ast.specs.Plain.{plain_accessors, plain_named}
+use Rattle.cir_ast.specs.Tree.{bare, as_exprs, as_accessors, place_accessors, bare_inputs}
+use Rattle.cir_ast.specs.Plain.{PlainExpr, PlainExprs, PlainAccessors, PlainNamedInputs}
+use Rattle.cir_ast.specs.Plain.{PlainInputs, plain, plain_accessors, plain_inputs}
 use Rattle.cir_expression.specs.declared.expressions.Grouped.{Grouped as CodeGroup}
 use Rattle.cir_expression.specs.declared.expressions.Grouped.TheVariants as group
 use Rattle.cir_expression.specs.declared.reader.Stop.{Stop}
 use Rattle.cir_expression.specs.declared.reader.Stop.TheVariants.{NoTree, OutOfMemory}
 use Rattle.cir_expression.specs.Front.{Tokens, otherwise}
-use Rattle.cir_expression.specs.Reading.{input_at, Grouped, Whole, Tuple}
+use Rattle.cir_expression.specs.Reading.{Input, input_at, as_inputs, Grouped, Whole, Tuple}
 
 abbrev pub kinds : List Token → List TokenKind
 kinds tokens = map (λ t. t.kind) tokens
@@ -30,8 +31,14 @@ seen_exprs es = as_exprs (map seen es)
 abbrev pub seen_accessors : {N : Type 0} → List (CodeAccessor N) → PlainAccessors
 seen_accessors list = plain_accessors (as_accessors list)
 
+abbrev pub seen_input : {N : Type 0} → CodeInput N → Input
+seen_input i = ((i.name, i.arrow), seen i.value)
+
 abbrev pub seen_named : {N : Type 0} → List (CodeInput N) → PlainNamedInputs
-seen_named list = plain_named (as_named list)
+seen_named list = as_inputs (map seen_input list)
+
+abbrev pub seen_inputs : {N : Type 0} → CodeInputs N → PlainInputs
+seen_inputs inputs = plain_inputs (bare_inputs inputs)
 
 abbrev pub seen_element : {N : Type 0} → Option (CodeExpr N) → Option PlainExpr
 seen_element None = None

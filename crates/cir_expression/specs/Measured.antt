@@ -1,7 +1,6 @@
 -- What the calls inside answer, with heights that are counted on the way.
-use Rattle.std.specs.Prelude.{◌≡◌, ◌≤◌, ℕ, List, map, Option, Some, None, Result, Ok, Err}
-use Rattle.cir_ast.specs.Plain.{PlainExpr as Expr, PlainAccessors as Accessors}
-use Rattle.cir_ast.specs.Plain.{PlainNamedInputs as NamedInputs}
+use Rattle.std.specs.Prelude.{◌≡◌, ◌+◌, ℕ, List, map, Option, Some, None, Result, Ok, Err}
+use Rattle.cir_ast.specs.Plain.{PlainExpr as Expr}
 use Rattle.cir_ast.specs.Height.{height_of, exprs_height, accessors_height, named_height}
 use Rattle.cir_expression.specs.declared.reader.Stop.{Stop}
 use Rattle.cir_expression.specs.declared.measured.Reading.{Reading}
@@ -29,43 +28,24 @@ abbrev pub seen_reading : {N : Type 0} → Option (Reading N) → Option Expr
 seen_reading None = None
 seen_reading (Some r) = Some (seen r.tree)
 
-abbrev pub IsMeasuredElement : {N : Type 0} → Option (Reading N) → Type 0
-IsMeasuredElement None = Unit {0}
-IsMeasuredElement (Some r) = IsMeasured r
+-- this tree was made of what is so high
+pub record IsAbove {N : Type 0} (r : Reading N) (e : Expr) (below : ℕ) : Type 0 where
+  pub tree : seen r.tree ≡ e
+  pub measured : IsMeasured r
+  pub height : r.height ≡ below + 1
 
--- which is no higher than this
-abbrev pub IsLowElement : {N : Type 0} → ℕ → Option (Reading N) → Type 0
-IsLowElement room None = Unit {0}
-IsLowElement room (Some r) = r.height ≤ room
+-- the reading's answer, seen by view, with a height that is right
+abbrev pub Finds : {X Y : Type 0} → (X → Y) → (X → Type 0) → Result X Stop → Tokens
+    → Option (Y × Tokens) → Type 0
+Finds view IsRight (Ok x) rest reading = (reading ≡ Some (view x, rest)) × IsRight x
+Finds view IsRight (Err stop) rest reading = Stops stop reading
 
-abbrev pub Elements : {N : Type 0} → Result (Option (Reading N)) Stop → Tokens
-    → Option (Option Expr × Tokens) → Type 0
-Elements (Ok r) rest reading = (reading ≡ Some (seen_reading r, rest)) × IsMeasuredElement r
-Elements (Err stop) rest reading = Stops stop reading
-
--- an expression and the tokens behind it
 abbrev pub Measures : {N : Type 0} → Result (Reading N) Stop → Tokens → Found → Type 0
-Measures (Ok r) rest reading = (reading ≡ Some (seen r.tree, rest)) × IsMeasured r
-Measures (Err stop) rest reading = Stops stop reading
+Measures = Finds (λ r. seen r.tree) IsMeasured
 
--- expressions and the tokens behind them
 abbrev pub Gathers : {N : Type 0} → Result (Listing N) Stop → Tokens → Option (List Expr × Tokens)
     → Type 0
-Gathers (Ok l) rest reading = (reading ≡ Some (map seen l.items.items, rest)) × IsMeasuredListing l
-Gathers (Err stop) rest reading = Stops stop reading
-
--- named inputs and the tokens behind them
-abbrev pub Names : {N : Type 0} → Result (Naming N) Stop → Tokens → Option (NamedInputs × Tokens)
-    → Type 0
-Names (Ok n) rest reading = (reading ≡ Some (seen_named n.inputs.items, rest)) × IsMeasuredNaming n
-Names (Err stop) rest reading = Stops stop reading
-
--- indices and members, and the tokens behind them
-abbrev pub Follows : {N : Type 0} → Result (Path N) Stop → Tokens → Option (Accessors × Tokens)
-    → Type 0
-Follows (Ok p) rest reading =
-    (reading ≡ Some (seen_accessors p.accessors.items, rest)) × IsMeasuredPath p
-Follows (Err stop) rest reading = Stops stop reading
+Gathers = Finds (λ l. map seen l.items.items) IsMeasuredListing
 
 -- an expression that was made of others
 abbrev pub Makes : {N : Type 0} → Result (Reading N) Stop → Option Expr → Type 0

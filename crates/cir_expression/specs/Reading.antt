@@ -94,33 +94,25 @@ arguments_by read ts =
 abbrev pub elements_by : (Tokens → Found) → Tokens → Option (List Expr × Tokens)
 elements_by read ts = listed_to symbol.CloseBracket (length ts) read [] ts
 
--- one more index, or member
-abbrev pub with_index : Accessors → Expr → Accessors
-with_index done e = index e done
-with_index (index f rest) e = index f (with_index rest e)
-with_index (member name rest) e = member name (with_index rest e)
-
-abbrev pub with_member : Accessors → List ℕ → Accessors
-with_member done new = member new done
-with_member (index f rest) new = index f (with_member rest new)
-with_member (member name rest) new = member name (with_member rest new)
-
--- so many indices and members at most, behind those that were read before
-abbrev pub accessors_by : ℕ → (Tokens → Found) → Accessors → Tokens → Option (Accessors × Tokens)
+-- so many indices and members at most; what was read before stands in front of them
+abbrev pub accessors_by : ℕ → (Tokens → Found) → (Accessors → Accessors) → Tokens
+    → Option (Accessors × Tokens)
 accessors_by zero read before ts = None
 accessors_by (suc n) read before ts =
     if begins symbol.OpenBracket ts
     then next (read (tail ts))
     (λ e. next (behind symbol.CloseBracket e.1)
-    (λ rest. accessors_by n read (with_index before e.0) rest))
+    (λ rest. accessors_by n read (λ a. before (index e.0 a)) rest))
     else (if begins symbol.Dot ts
-    then next (name_at (tail ts)) (λ name. accessors_by n read (with_member before name.0) name.1)
-    else Some (before, ts))
+    then next (name_at (tail ts))
+    (λ name. accessors_by n read (λ a. before (member name.0 a)) name.1)
+    else Some (before done, ts))
 
 -- what is read behind a name
 abbrev pub place_by : (Tokens → Found) → List ℕ → Tokens → Option ((List ℕ × Accessors) × Tokens)
 place_by read name ts =
-    next (accessors_by (suc (length ts)) read done ts) (λ found. Some ((name, found.0), found.1))
+    next (accessors_by (suc (length ts)) read (λ a. a) ts)
+    (λ found. Some ((name, found.0), found.1))
 
 -- the arrow behind an input's name
 abbrev pub arrow_of : Symbol → Option Arrow
@@ -138,22 +130,21 @@ input_at ts =
     next (name_at ts)
     (λ name. next (arrow_at name.1) (λ arrow. Some ((name.0, arrow), tail name.1)))
 
--- one more named input
-abbrev pub with_input : NamedInputs → List ℕ → Arrow → Expr → NamedInputs
-with_input unnamed new a e = named new a e unnamed
-with_input (named name b f rest) new a e = named name b f (with_input rest new a e)
+-- a named input: its name, its arrow and its value
+abbrev pub Input : Type 0
+Input = (List ℕ × Arrow) × Expr
 
--- so many named inputs at most with commas between them, behind those that were read before, and
--- `)`
-abbrev pub named_to : ℕ → (Tokens → Found) → NamedInputs → Tokens → Option (NamedInputs × Tokens)
-named_to zero read before ts = None
-named_to (suc n) read before ts =
-    next (input_at ts) (λ i.
-    next (read i.1) (λ e.
-    if begins symbol.Comma e.1
-    then named_to n read (with_input before i.0.0 i.0.1 e.0) (tail e.1)
-    else next (behind symbol.CloseParenthesis e.1)
-    (λ rest. Some (with_input before i.0.0 i.0.1 e.0, rest))))
+abbrev pub named_input : (Tokens → Found) → Tokens → Option (Input × Tokens)
+named_input read ts =
+    next (input_at ts) (λ i. next (read i.1) (λ e. Some ((i.0, e.0), e.1)))
+
+abbrev pub as_inputs : List Input → NamedInputs
+as_inputs [] = unnamed
+as_inputs (i ∷ is) = named i.0.0 i.0.1 i.1 (as_inputs is)
+
+-- one named input or more, and `)`
+abbrev pub named_inputs_by : (Tokens → Found) → Tokens → Option (List Input × Tokens)
+named_inputs_by read ts = listed_to symbol.CloseParenthesis (length ts) (named_input read) [] ts
 
 -- the inputs of an anonymous component, and `)`; a name with an arrow is followed by named inputs
 -- alone
@@ -161,7 +152,7 @@ abbrev pub inputs_by : (Tokens → Found) → Tokens → Option (Inputs × Token
 inputs_by read ts =
     otherwise (input_at ts)
     (next (arguments_by read ts) (λ found. Some (Listed (as_exprs found.0), found.1)))
-    (λ i. next (named_to (length ts) read unnamed ts) (λ found. Some (Named found.0, found.1)))
+    (λ i. next (named_inputs_by read ts) (λ found. Some (Named (as_inputs found.0), found.1)))
 
 -- what is read behind a call's arguments: a `(` makes it an anonymous component
 abbrev pub called_by : (Tokens → Found) → Bool → List ℕ → List Expr → Tokens → Found

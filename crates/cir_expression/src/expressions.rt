@@ -1,27 +1,25 @@
-ghost use Rattle.std.specs.Prelude.{◌≡◌, ◌<◌, ◌≤◌, ◌+◌, ◌-◌, ◌^◌, suc, [], ◌∷◌, length, map, IfOk};
-ghost use Rattle.std.specs.Prelude.{true};
-ghost use Rattle.cir_token.specs.declared.token.Symbol.TheVariants.{CloseBracket, CloseParenthesis};
+ghost use Rattle.std.specs.Prelude.{◌≡◌, ◌<◌, ◌≤◌, ◌+◌, ◌^◌, suc, [], ◌∷◌, length, map, IfOk};
+ghost use Rattle.std.specs.Prelude.{IfSome, true};
 ghost use Rattle.cir_token.specs.declared.token.Symbol.TheVariants.{Question};
 ghost use Rattle.cir_expression.specs.Reading.{expression, place, arguments, climb, chain, choice};
 ghost use Rattle.cir_expression.specs.Reading.{operand_by, grouped_by, named_by, arguments_by};
-ghost use Rattle.cir_expression.specs.Reading.{called_by, listed_to, named_to, accessors_by};
-ghost use Rattle.cir_expression.specs.Reading.{element, elements_to, whole, continued, group};
-ghost use Rattle.cir_ast.specs.Tree.{done, unnamed};
+ghost use Rattle.cir_expression.specs.Reading.{called_by, listed_to, named_inputs_by, accessors_by};
+ghost use Rattle.cir_expression.specs.Reading.{element, elements_to, whole, group};
 ghost use Rattle.cir_expression.specs.Front.{next, begins};
 ghost use Rattle.cir_expression.specs.Answers.{kinds, Reads, seen, seen_element, seen_group, named};
-ghost use Rattle.cir_expression.specs.Measured.{IsMeasured, IsMeasuredElement, IsLowElement};
-ghost use Rattle.cir_expression.specs.Measured.{seen_reading, Elements, Measures, Gathers, Names};
-ghost use Rattle.cir_expression.specs.Measured.{Follows};
+ghost use Rattle.cir_expression.specs.Answers.{seen_accessors, seen_input};
+ghost use Rattle.cir_expression.specs.Measured.{IsMeasured, IsMeasuredPath, IsMeasuredNaming};
+ghost use Rattle.cir_expression.specs.Measured.{seen_reading, Finds, Measures, Gathers};
 
 use crate::measured::{
-    Listing, Naming, Path, Reading, applied, array, call, chosen, enclosed, joined,
-    listed_component, named_component, place,
+    Listing, Naming, Path, Reading, applied, array, call, chosen, component, enclosed, joined,
+    place,
 };
 use crate::operators::level_of;
 use crate::reader::{Reader, Stop};
 use crate::trimmed::tight;
 use cir_ast::Blank;
-use cir_ast::marked::{Accessor, Expr, NamedInput, Place};
+use cir_ast::marked::{Accessor, Expr, Inputs, NamedInput, Place};
 use cir_token::{Reserved, Symbol, Text, TokenKind};
 use std::alloc::Global;
 
@@ -93,8 +91,7 @@ impl<'a> Reader<'a> {
             return Ok(Grouped::Tuple(elements));
         }
         self.behind(Symbol::CloseParenthesis)?;
-        let whole = self.whole(alloc, room, first)?;
-        Ok(Grouped::Whole(whole))
+        Ok(Grouped::Whole(self.whole(alloc, room, first)?))
     }
 
     // An expression, or None for `_`.
@@ -105,16 +102,15 @@ impl<'a> Reader<'a> {
         room: u32,
     ) -> Result<Option<Reading<N>>, Stop>
         requires { room < 2 ^ 16 }
-        ensures read { Elements result (kinds self.new.rest.now)
-            (element room (kinds self.old.rest.now)) }
-        ensures low { IfOk result (IsLowElement room) }
+        ensures read { Finds seen_reading (λ inner. IfSome inner IsMeasured) result
+            (kinds self.new.rest.now) (element room (kinds self.old.rest.now)) }
+        ensures low { IfOk result (λ inner. IfSome inner (λ r. r.height ≤ room)) }
     {
         if self.begins_underscore() {
             self.skip();
             return Ok(None);
         }
-        let found = self.climb(alloc, room, 1)?;
-        Ok(Some(found))
+        Ok(Some(self.climb(alloc, room, 1)?))
     }
 
     // The elements behind the first one, with commas between them, and `)`.
@@ -153,8 +149,8 @@ impl<'a> Reader<'a> {
         inner: Option<Reading<N>>,
     ) -> Result<Expr<N>, Stop>
         requires room { room < 2 ^ 16 }
-        requires measured { IsMeasuredElement inner }
-        requires low { IsLowElement room inner }
+        requires measured { IfSome inner IsMeasured }
+        requires low { IfSome inner (λ r. r.height ≤ room) }
         ensures { Reads seen result (kinds self.new.rest.now)
             (whole room (seen_reading inner) (kinds self.old.rest.now)) }
     {
@@ -192,8 +188,7 @@ impl<'a> Reader<'a> {
             return Ok(left);
         }
         let whole = self.chain(alloc, room - 1, level, left)?;
-        let found = self.choice(alloc, room - 1, level, whole)?;
-        Ok(found)
+        self.choice(alloc, room - 1, level, whole)
     }
 
     // The operators behind a left operand, each with its right operand.
@@ -252,8 +247,7 @@ impl<'a> Reader<'a> {
         if !self.begins(Symbol::Question) {
             return Ok(condition);
         }
-        let found = self.branches(alloc, inner, condition)?;
-        Ok(found)
+        self.branches(alloc, inner, condition)
     }
 
     // `?` and what follows it. Few expressions have it, so the room that this takes on the stack is
@@ -279,8 +273,7 @@ impl<'a> Reader<'a> {
         let first = self.climb(alloc, inner, 1)?;
         self.behind(Symbol::Colon)?;
         let other = self.climb(alloc, inner, 1)?;
-        let found = chosen(alloc, condition, first, other, inner + 1)?;
-        Ok(found)
+        chosen(alloc, condition, first, other, inner + 1)
     }
 
     // A number, a name with what follows it, or what begins with a symbol.
@@ -305,8 +298,7 @@ impl<'a> Reader<'a> {
             TokenKind::Name(name) => {
                 let name = Text::from_slice(alloc, name.as_slice())?;
                 self.rest = rest;
-                let found = self.named(alloc, inner, name)?;
-                Ok(found)
+                self.named(alloc, inner, name)
             }
             TokenKind::Reserved(word) => {
                 if *word != Reserved::Parallel {
@@ -315,13 +307,9 @@ impl<'a> Reader<'a> {
                 self.rest = rest;
                 let name = self.name(alloc)?;
                 self.behind(Symbol::OpenParenthesis)?;
-                let found = self.call(alloc, inner, true, name)?;
-                Ok(found)
+                self.call(alloc, inner, true, name)
             }
-            _ => {
-                let found = self.grouped(alloc, inner)?;
-                Ok(found)
-            }
+            _ => self.grouped(alloc, inner),
         }
     }
 
@@ -337,8 +325,7 @@ impl<'a> Reader<'a> {
             self.skip();
             let found = self.climb(alloc, inner, 1)?;
             self.behind(Symbol::CloseParenthesis)?;
-            let whole = enclosed(alloc, found)?;
-            return Ok(whole);
+            return Ok(enclosed(alloc, found)?);
         }
         if self.begins(Symbol::OpenBracket) {
             self.skip();
@@ -350,8 +337,7 @@ impl<'a> Reader<'a> {
         };
         self.skip();
         let found = self.climb(alloc, inner, 12)?;
-        let whole = applied(alloc, op, found)?;
-        Ok(whole)
+        Ok(applied(alloc, op, found)?)
     }
 
     // What stands behind `name(`: the arguments of a call, and the inputs that make it an anonymous
@@ -377,21 +363,20 @@ impl<'a> Reader<'a> {
         self.skip();
         if self.begins_input() {
             let given = self.named_inputs(alloc, inner)?;
-            let found = named_component(alloc, parallel, name, arguments, given)?;
-            return Ok(found);
+            let inputs = Inputs::named(tight(given.inputs));
+            return Ok(component(alloc, parallel, name, arguments, inputs, given.height)?);
         }
         let given = self.enclosed_list(alloc, inner)?;
-        let found = listed_component(alloc, parallel, name, arguments, given)?;
-        Ok(found)
+        let inputs = Inputs::listed(tight(given.items));
+        Ok(component(alloc, parallel, name, arguments, inputs, given.height)?)
     }
 
     // One named input or more with commas between them, and `)`.
     #[cycle(expressions)]
     fn named_inputs<N: Blank + Drop>(&mut self, alloc: Global, room: u32) -> Result<Naming<N>, Stop>
         requires room { room < 2 ^ 16 }
-        ensures read { Names result (kinds self.new.rest.now)
-            (named_to (length (kinds self.old.rest.now)) (climb room 1) unnamed
-            (kinds self.old.rest.now)) }
+        ensures read { Finds (λ n. map seen_input n.inputs.items) IsMeasuredNaming result
+            (kinds self.new.rest.now) (named_inputs_by (climb room 1) (kinds self.old.rest.now)) }
         ensures low { IfOk result (λ n. n.height ≤ room) }
     {
         let mut inputs = Vec::new(alloc);
@@ -430,8 +415,7 @@ impl<'a> Reader<'a> {
     {
         if self.begins(Symbol::OpenParenthesis) {
             self.skip();
-            let found = self.call(alloc, inner, false, name)?;
-            return Ok(found);
+            return self.call(alloc, inner, false, name);
         }
         let path = self.accessors(alloc, inner)?;
         Ok(place(name, path))
@@ -456,8 +440,7 @@ impl<'a> Reader<'a> {
                 height: 0,
             });
         }
-        let found = self.list(alloc, room, Symbol::CloseParenthesis)?;
-        Ok(found)
+        self.list(alloc, room, Symbol::CloseParenthesis)
     }
 
     // One expression or more with commas between them, and the symbol that closes the list.
@@ -494,8 +477,9 @@ impl<'a> Reader<'a> {
     #[cycle(expressions)]
     fn accessors<N: Blank + Drop>(&mut self, alloc: Global, room: u32) -> Result<Path<N>, Stop>
         requires room { room < 2 ^ 16 }
-        ensures read { Follows result (kinds self.new.rest.now)
-            (accessors_by (suc (length (kinds self.old.rest.now))) (climb room 1) done
+        ensures read { Finds (λ p. seen_accessors p.accessors.items) IsMeasuredPath result
+            (kinds self.new.rest.now)
+            (accessors_by (suc (length (kinds self.old.rest.now))) (climb room 1) (λ a. a)
             (kinds self.old.rest.now)) }
         ensures low { IfOk result (λ p. p.height ≤ room) }
     {

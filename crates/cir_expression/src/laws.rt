@@ -23,6 +23,7 @@ pub fn sound()
 
 /// An expression that fits and is low enough is read from the tokens that it prints, where it
 /// doesn't go on.
+#[tactic(auto, using(crate::proofs::Undo::expression_undo))]
 pub fn reads_what_is_printed()
     ensures { (room : ℕ) (e : Tree) (rest : List Kind) → Fits 1 e → height_of e ≤ room
         → goes_on rest ≡ false
@@ -30,6 +31,7 @@ pub fn reads_what_is_printed()
 {}
 
 /// Two expressions that print the same tokens before such as don't go on are equal.
+#[tactic(auto, using(crate::proofs::Undo::one_expression))]
 pub fn one_expression()
     ensures { (a b : Tree) (x y : List Kind) → Fits 1 a → Fits 1 b → goes_on x ≡ false
         → goes_on y ≡ false
@@ -37,6 +39,7 @@ pub fn one_expression()
 {}
 
 /// A place that is read prints the tokens before those that are left, fits, and is low enough.
+#[tactic(auto, using(crate::proofs::Sound::place_read))]
 pub fn place_sound()
     ensures { (room : ℕ) (ts rest : List Kind) (name : List ℕ) (a : Accessors)
         → place room ts ≡ Some ((name, a), rest)
@@ -46,6 +49,7 @@ pub fn place_sound()
 
 /// A place that fits and is low enough is read from the tokens that it prints, where it doesn't go
 /// on.
+#[tactic(auto, using(crate::proofs::Undo::place_undo))]
 pub fn reads_a_printed_place()
     ensures { (room : ℕ) (name : List ℕ) (a : Accessors) (rest : List Kind) → AreFitAccessors a
         → height_of (PlaceTree name tt a) ≤ room → goes_on rest ≡ false
@@ -53,6 +57,7 @@ pub fn reads_a_printed_place()
 {}
 
 /// Two places that print the same tokens before such as don't go on are equal.
+#[tactic(auto, using(crate::proofs::Undo::one_place))]
 pub fn one_place()
     ensures { (n m : List ℕ) (a b : Accessors) (x y : List Kind) → AreFitAccessors a
         → AreFitAccessors b → goes_on x ≡ false → goes_on y ≡ false
@@ -70,6 +75,7 @@ pub fn arguments_sound()
 {}
 
 /// Arguments that fit and are low enough are read from the tokens that they print with `)`.
+#[tactic(auto, using(crate::proofs::Undo::arguments_undo))]
 pub fn reads_printed_arguments()
     ensures { (room : ℕ) (es : List Tree) (rest : List Kind) → AllFit (as_exprs es)
         → exprs_height (as_exprs es) ≤ room
@@ -78,6 +84,7 @@ pub fn reads_printed_arguments()
 {}
 
 /// Two lists of arguments that print the same tokens are equal.
+#[tactic(auto, using(crate::proofs::Undo::one_list))]
 pub fn one_list()
     ensures { (a b : List Tree) (x y : List Kind) → AllFit (as_exprs a) → AllFit (as_exprs b)
         → listed (as_exprs a) ++ token.Symbol CloseParenthesis ∷ x
@@ -86,6 +93,7 @@ pub fn one_list()
 
 /// What is read behind a `(` prints with it the tokens before those that are left, fits, and is low
 /// enough.
+#[tactic(auto, using(crate::proofs::Groups::group_read))]
 pub fn group_sound()
     ensures { (room : ℕ) (ts rest : List Kind) (g : Group) → group room ts ≡ Some (g, rest)
         → IsGrouped room ts g rest }
@@ -93,6 +101,7 @@ pub fn group_sound()
 
 /// A tuple whose elements fit and are low enough is read from the tokens that it prints behind its
 /// `(`.
+#[tactic(auto, using(crate::proofs::Groups::tuple_undo))]
 pub fn reads_a_printed_tuple()
     ensures { (room : ℕ) (xs : List (Option Tree)) (rest : List Kind) → 2 ≤ length xs
         → Each (FitsElement room) xs
@@ -102,6 +111,7 @@ pub fn reads_a_printed_tuple()
 
 /// An expression that begins with `(`, fits and is low enough is read behind that parenthesis,
 /// where it doesn't go on.
+#[tactic(auto, using(crate::proofs::Groups::group_undo))]
 pub fn reads_a_printed_group()
     ensures { (room : ℕ) (e : Tree) (ts rest : List Kind) → Fits 1 e → height_of e ≤ room
         → goes_on rest ≡ false

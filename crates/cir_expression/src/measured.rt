@@ -1,13 +1,11 @@
 //! Trees with their heights, so that no height is counted twice.
-ghost use Rattle.std.specs.Prelude.{◌≡◌, ◌<◌, ◌≤◌, ◌+◌, ◌^◌, max, IfOk};
-ghost use Rattle.cir_ast.specs.Tree.{as_exprs, Parentheses, Unary as UnaryTree};
-ghost use Rattle.cir_ast.specs.Tree.{Binary as BinaryTree, Choice, Call};
-ghost use Rattle.cir_ast.specs.Tree.{Anonymous as AnonymousTree, Array, Listed, Named};
-ghost use Rattle.cir_ast.specs.Tree.{Place as PlaceTree};
+ghost use Rattle.std.specs.Prelude.{◌≡◌, ◌<◌, ◌≤◌, ◌^◌, max, IfOk};
+ghost use Rattle.cir_ast.specs.Tree as tree;
+ghost use Rattle.cir_ast.specs.Height.{inputs_height};
 ghost use Rattle.cir_expression.specs.Reading.{within};
-ghost use Rattle.cir_expression.specs.Answers.{seen, seen_exprs, seen_accessors, seen_named};
+ghost use Rattle.cir_expression.specs.Answers.{seen, seen_exprs, seen_accessors, seen_inputs};
 ghost use Rattle.cir_expression.specs.Measured.{IsMeasured, IsMeasuredListing, IsMeasuredPath};
-ghost use Rattle.cir_expression.specs.Measured.{IsMeasuredNaming, Makes};
+ghost use Rattle.cir_expression.specs.Measured.{IsAbove, Makes};
 
 use crate::reader::Stop;
 use crate::trimmed::tight;
@@ -52,18 +50,20 @@ pub fn joined<N: Drop>(
     right: Reading<N>,
     room: u32,
 ) -> Result<Reading<N>, Stop>
-    requires left { IsMeasured left }
-    requires right { IsMeasured right }
-    requires left_low { left.height < 2 ^ 17 }
-    requires right_low { right.height < 2 ^ 17 }
-    ensures made { Makes result (within room (BinaryTree op (seen left.tree) (seen right.tree))) }
+    requires left { IsMeasured left × (left.height < 2 ^ 17) }
+    requires right { IsMeasured right × (right.height < 2 ^ 17) }
+    ensures made { Makes result (within room (tree.Binary op (seen left.tree) (seen right.tree))) }
     ensures low { IfOk result (λ r. r.height ≤ room) }
 {
     let height = left.height.max(right.height) + 1;
     if height > room {
         return Err(Stop::NoTree);
     }
-    let tree = operation(alloc, op, left.tree, right.tree)?;
+    let tree = Expr::Binary(
+        op,
+        Box::new(alloc, left.tree)?,
+        Box::new(alloc, right.tree)?,
+    );
     Ok(Reading { tree, height })
 }
 
@@ -75,31 +75,29 @@ pub fn chosen<N: Drop>(
     other: Reading<N>,
     room: u32,
 ) -> Result<Reading<N>, Stop>
-    requires condition { IsMeasured condition }
-    requires chosen { IsMeasured chosen }
-    requires other { IsMeasured other }
-    requires condition_low { condition.height < 2 ^ 17 }
-    requires chosen_low { chosen.height < 2 ^ 17 }
-    requires other_low { other.height < 2 ^ 17 }
+    requires condition { IsMeasured condition × (condition.height < 2 ^ 17) }
+    requires chosen { IsMeasured chosen × (chosen.height < 2 ^ 17) }
+    requires other { IsMeasured other × (other.height < 2 ^ 17) }
     ensures made { Makes result
-        (within room (Choice (seen condition.tree) (seen chosen.tree) (seen other.tree))) }
+        (within room (tree.Choice (seen condition.tree) (seen chosen.tree) (seen other.tree))) }
     ensures low { IfOk result (λ r. r.height ≤ room) }
 {
     let height = condition.height.max(chosen.height.max(other.height)) + 1;
     if height > room {
         return Err(Stop::NoTree);
     }
-    let tree = choice(alloc, condition.tree, chosen.tree, other.tree)?;
+    let tree = Expr::Choice(
+        Box::new(alloc, condition.tree)?,
+        Box::new(alloc, chosen.tree)?,
+        Box::new(alloc, other.tree)?,
+    );
     Ok(Reading { tree, height })
 }
 
 /// The expression in parentheses.
 pub fn enclosed<N: Drop>(alloc: Global, inner: Reading<N>) -> Result<Reading<N>, AllocError>
-    requires measured { IsMeasured inner }
-    requires low { inner.height < 2 ^ 17 }
-    ensures tree { IfOk result (λ r. seen r.tree ≡ Parentheses (seen inner.tree)) }
-    ensures measured { IfOk result IsMeasured }
-    ensures height { IfOk result (λ r. r.height ≡ inner.height + 1) }
+    requires { IsMeasured inner × (inner.height < 2 ^ 17) }
+    ensures { IfOk result (λ r. IsAbove r (tree.Parentheses (seen inner.tree)) inner.height) }
 {
     Ok(Reading {
         tree: Expr::Parentheses(Box::new(alloc, inner.tree)?),
@@ -113,11 +111,8 @@ pub fn applied<N: Drop>(
     op: Unary,
     inner: Reading<N>,
 ) -> Result<Reading<N>, AllocError>
-    requires measured { IsMeasured inner }
-    requires low { inner.height < 2 ^ 17 }
-    ensures tree { IfOk result (λ r. seen r.tree ≡ UnaryTree op (seen inner.tree)) }
-    ensures measured { IfOk result IsMeasured }
-    ensures height { IfOk result (λ r. r.height ≡ inner.height + 1) }
+    requires { IsMeasured inner × (inner.height < 2 ^ 17) }
+    ensures { IfOk result (λ r. IsAbove r (tree.Unary op (seen inner.tree)) inner.height) }
 {
     Ok(Reading {
         tree: Expr::Unary(op, Box::new(alloc, inner.tree)?),
@@ -127,11 +122,8 @@ pub fn applied<N: Drop>(
 
 /// The array of these elements.
 pub fn array<N: Drop>(elements: Listing<N>) -> Reading<N>
-    requires measured { IsMeasuredListing elements }
-    requires low { elements.height < 2 ^ 17 }
-    ensures tree { seen result.tree ≡ Array (seen_exprs elements.items.items) }
-    ensures measured { IsMeasured result }
-    ensures height { result.height ≡ elements.height + 1 }
+    requires { IsMeasuredListing elements × (elements.height < 2 ^ 17) }
+    ensures { IsAbove result (tree.Array (seen_exprs elements.items.items)) elements.height }
 {
     Reading {
         tree: Expr::array(tight(elements.items)),
@@ -141,11 +133,9 @@ pub fn array<N: Drop>(elements: Listing<N>) -> Reading<N>
 
 /// The call with these arguments.
 pub fn call<N: Blank + Drop>(parallel: bool, name: Text, arguments: Listing<N>) -> Reading<N>
-    requires measured { IsMeasuredListing arguments }
-    requires low { arguments.height < 2 ^ 17 }
-    ensures tree { seen result.tree ≡ Call parallel name tt (seen_exprs arguments.items.items) }
-    ensures measured { IsMeasured result }
-    ensures height { result.height ≡ arguments.height + 1 }
+    requires { IsMeasuredListing arguments × (arguments.height < 2 ^ 17) }
+    ensures { IsAbove result (tree.Call parallel name tt (seen_exprs arguments.items.items))
+        arguments.height }
 {
     Reading {
         tree: Expr::call(parallel, name, N::blank(), tight(arguments.items)),
@@ -153,25 +143,22 @@ pub fn call<N: Blank + Drop>(parallel: bool, name: Text, arguments: Listing<N>) 
     }
 }
 
-/// The anonymous component that is given this list.
-pub fn listed_component<N: Blank + Drop>(
+/// The anonymous component that is given these inputs, with their height.
+pub fn component<N: Blank + Drop>(
     alloc: Global,
     parallel: bool,
     name: Text,
     arguments: Listing<N>,
-    given: Listing<N>,
+    inputs: Inputs<N>,
+    height: u32,
 ) -> Result<Reading<N>, AllocError>
-    requires arguments { IsMeasuredListing arguments }
-    requires given { IsMeasuredListing given }
-    requires arguments_low { arguments.height < 2 ^ 17 }
-    requires given_low { given.height < 2 ^ 17 }
-    ensures tree { IfOk result (λ r. seen r.tree
-        ≡ AnonymousTree parallel name tt (seen_exprs arguments.items.items)
-        (Listed (seen_exprs given.items.items))) }
-    ensures measured { IfOk result IsMeasured }
-    ensures height { IfOk result (λ r. r.height ≡ max arguments.height given.height + 1) }
+    requires arguments { IsMeasuredListing arguments × (arguments.height < 2 ^ 17) }
+    requires inputs { height ≡ inputs_height (seen_inputs inputs) }
+    requires low { height < 2 ^ 17 }
+    ensures { IfOk result (λ r. IsAbove r
+        (tree.Anonymous parallel name tt (seen_exprs arguments.items.items) (seen_inputs inputs))
+        (max arguments.height height)) }
 {
-    let inputs = Inputs::listed(tight(given.items));
     let arguments_height = arguments.height;
     let whole = Anonymous {
         parallel,
@@ -182,79 +169,18 @@ pub fn listed_component<N: Blank + Drop>(
     };
     Ok(Reading {
         tree: Expr::anonymous(alloc, whole)?,
-        height: arguments_height.max(given.height) + 1,
-    })
-}
-
-/// The anonymous component that is given these names.
-pub fn named_component<N: Blank + Drop>(
-    alloc: Global,
-    parallel: bool,
-    name: Text,
-    arguments: Listing<N>,
-    given: Naming<N>,
-) -> Result<Reading<N>, AllocError>
-    requires arguments { IsMeasuredListing arguments }
-    requires given { IsMeasuredNaming given }
-    requires arguments_low { arguments.height < 2 ^ 17 }
-    requires given_low { given.height < 2 ^ 17 }
-    ensures tree { IfOk result (λ r. seen r.tree
-        ≡ AnonymousTree parallel name tt (seen_exprs arguments.items.items)
-        (Named (seen_named given.inputs.items))) }
-    ensures measured { IfOk result IsMeasured }
-    ensures height { IfOk result (λ r. r.height ≡ max arguments.height given.height + 1) }
-{
-    let inputs = Inputs::named(tight(given.inputs));
-    let arguments_height = arguments.height;
-    let whole = Anonymous {
-        parallel,
-        name,
-        meant: N::blank(),
-        arguments: tight(arguments.items),
-        inputs,
-    };
-    Ok(Reading {
-        tree: Expr::anonymous(alloc, whole)?,
-        height: arguments_height.max(given.height) + 1,
+        height: arguments_height.max(height) + 1,
     })
 }
 
 /// The name with these indices and members.
 pub fn place<N: Blank + Drop>(name: Text, path: Path<N>) -> Reading<N>
-    requires measured { IsMeasuredPath path }
-    requires low { path.height < 2 ^ 17 }
-    ensures tree { seen result.tree ≡ PlaceTree name tt (seen_accessors path.accessors.items) }
-    ensures measured { IsMeasured result }
-    ensures height { result.height ≡ path.height + 1 }
+    requires { IsMeasuredPath path × (path.height < 2 ^ 17) }
+    ensures { IsAbove result (tree.Place name tt (seen_accessors path.accessors.items))
+        path.height }
 {
     Reading {
         tree: Expr::Place(Place::of(name, N::blank(), tight(path.accessors))),
         height: path.height + 1,
     }
-}
-
-fn operation<N: Drop>(
-    alloc: Global,
-    op: Binary,
-    left: Expr<N>,
-    right: Expr<N>,
-) -> Result<Expr<N>, AllocError>
-    ensures { IfOk result (λ e. seen e ≡ BinaryTree op (seen left) (seen right)) }
-{
-    Ok(Expr::Binary(op, Box::new(alloc, left)?, Box::new(alloc, right)?))
-}
-
-fn choice<N: Drop>(
-    alloc: Global,
-    condition: Expr<N>,
-    chosen: Expr<N>,
-    other: Expr<N>,
-) -> Result<Expr<N>, AllocError>
-    ensures { IfOk result (λ e. seen e ≡ Choice (seen condition) (seen chosen) (seen other)) }
-{
-    Ok(Expr::Choice(
-        Box::new(alloc, condition)?,
-        Box::new(alloc, chosen)?,
-        Box::new(alloc, other)?,
-    ))
 }

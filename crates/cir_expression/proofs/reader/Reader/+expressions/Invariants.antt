@@ -1,8 +1,11 @@
 use Rattle.std.proofs.Common.{◌≡◌, ◌≤◌, ◌+◌, ◌-◌, ◌*◌, suc, [], length, map}
-use Rattle.cir_ast.specs.Tree.{done, unnamed}
-use Rattle.cir_ast.specs.Height.{height_of, exprs_height, accessors_height, named_height}
-use Rattle.cir_expression.specs.Reading.{climb, chain, listed_to, named_to, accessors_by}
-use Rattle.cir_expression.specs.Answers.{kinds, seen, seen_exprs, seen_accessors, seen_named}
+use Rattle.cir_token.specs.declared.token.Symbol.TheVariants.{CloseParenthesis}
+use Rattle.cir_ast.specs.Height.{height_of, highest}
+use Rattle.cir_expression.specs.Reading.{climb, chain, listed_to, named_input, named_inputs_by}
+use Rattle.cir_expression.specs.Reading.{accessors_by}
+use Rattle.cir_expression.specs.Answers.{kinds, seen, seen_input}
+use Rattle.cir_expression.proofs.Lists.{Onward, PathOnward, height_seen, accessor_height}
+use Rattle.cir_expression.proofs.Lists.{input_height}
 use Rattle.cir_expression.proofs.reader.Reader.+expressions.Given as goal
 
 abbrev pub decreases-climb : goal.decreases-climb
@@ -53,30 +56,29 @@ invariant-chain-loop g l = record {
 
 abbrev pub invariant-list-loop : goal.invariant-list-loop
 invariant-list-loop g l = record {
-  read : listed_to l.close (length (kinds l.fn.self.rest.now)) (climb l.room 1) []
-      (kinds l.fn.self.rest.now)
-      ≡ listed_to l.close (length l.fn.self.rest.now - l.counter) (climb l.room 1)
-      (map seen l.items.items) (kinds l.self.rest.now);
-  measured : l.height ≡ exprs_height (seen_exprs l.items.items);
+  read : Onward l.close (climb l.room 1) (length l.fn.self.rest.now - l.counter)
+      (map seen l.items.items) (kinds l.self.rest.now)
+      (listed_to l.close (length (kinds l.fn.self.rest.now)) (climb l.room 1) []
+      (kinds l.fn.self.rest.now));
+  measured : l.height ≡ highest height_seen l.items.items;
   low : l.height ≤ l.room;
 }
 
 abbrev pub invariant-accessors-loop : goal.invariant-accessors-loop
 invariant-accessors-loop g l = record {
-  read : accessors_by (suc (length (kinds l.fn.self.rest.now))) (climb l.room 1) done
-      (kinds l.fn.self.rest.now)
-      ≡ accessors_by (length l.fn.self.rest.now + 1 - l.counter) (climb l.room 1)
-      (seen_accessors l.accessors.items) (kinds l.self.rest.now);
-  measured : l.height ≡ accessors_height (seen_accessors l.accessors.items);
+  read : PathOnward (climb l.room 1) (length l.fn.self.rest.now + 1 - l.counter) l.accessors.items
+      (kinds l.self.rest.now)
+      (accessors_by (suc (length (kinds l.fn.self.rest.now))) (climb l.room 1) (λ a. a)
+      (kinds l.fn.self.rest.now));
+  measured : l.height ≡ highest accessor_height l.accessors.items;
   low : l.height ≤ l.room;
 }
 
 abbrev pub invariant-named_inputs-loop : goal.invariant-named_inputs-loop
 invariant-named_inputs-loop g l = record {
-  read : named_to (length (kinds l.fn.self.rest.now)) (climb l.room 1) unnamed
-      (kinds l.fn.self.rest.now)
-      ≡ named_to (length l.fn.self.rest.now - l.counter) (climb l.room 1)
-      (seen_named l.inputs.items) (kinds l.self.rest.now);
-  measured : l.height ≡ named_height (seen_named l.inputs.items);
+  read : Onward CloseParenthesis (named_input (climb l.room 1))
+      (length l.fn.self.rest.now - l.counter) (map seen_input l.inputs.items)
+      (kinds l.self.rest.now) (named_inputs_by (climb l.room 1) (kinds l.fn.self.rest.now));
+  measured : l.height ≡ highest input_height l.inputs.items;
   low : l.height ≤ l.room;
 }

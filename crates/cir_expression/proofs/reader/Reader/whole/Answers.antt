@@ -1,13 +1,13 @@
 use Rattle.std.proofs.Common.{◌≡◌, ◌<◌, arith}
 use Rattle.cir_ast.specs.Height.{height_of}
 use Rattle.cir_expression.specs.Answers.{kinds, seen}
-use Rattle.cir_expression.proofs.Steps.{measured_at, whole_read}
+use Rattle.cir_expression.proofs.Steps.{whole_read}
 use Rattle.cir_expression.proofs.reader.Reader.whole.Goals as goal
 
 pub returns : goal.returns
 returns g c =
     let measured : c.in-Some.inner.height ≡ height_of (seen c.in-Some.inner.tree) =
-    measured_at c.args.inner c.in-Some.inner c.in-Some.is c.requires.measured in
+    rw c.in-Some.is at c.requires.measured in
     let low : height_of (seen c.in-Some.inner.tree) < c.args.room = omega arith in
     rw c.in-Some.is
     (whole_read c.args.room (seen c.in-Some.inner.tree) _ _ _
