@@ -1,453 +1,452 @@
--- Declarations and simple statements: what is read prints its tokens, is shaped and low enough.
-use Rattle.std.proofs.Common.{◌≡◌, ◌≢◌, ℕ, zero, suc, ◌≤◌, max, List, [], ◌∷◌, ◌++◌, length, Option}
-use Rattle.std.proofs.Common.{Some, None, true, refl, ap, ◌∙◌, sym, subst, arith, append_assoc}
-use Rattle.std.proofs.Common.{append-nil}
+-- What is read prints its tokens, is shaped and low enough.
+use Rattle.std.proofs.Common.{◌≡◌, ◌≢◌, ℕ, zero, suc, ◌≤◌, List, [], ◌∷◌, ◌++◌, length, Option}
+use Rattle.std.proofs.Common.{Some, None, refl, ◌∙◌, sym, arith, append_assoc}
 use Rattle.std.specs.Prelude.{if◌then◌else◌}
 use Rattle.cir_token.specs.declared.token.TokenKind.TheVariants as token
 use Rattle.cir_token.specs.declared.token.Reserved.TheVariants as word
 use Rattle.cir_token.specs.declared.token.Symbol.{Symbol}
 use Rattle.cir_token.specs.declared.token.Symbol.TheVariants as symbol
-use Rattle.cir_ast.specs.declared.operators.Compound.{Compound as CompoundOp}
-use Rattle.cir_ast.specs.declared.operators.Direction.{Direction}
-use Rattle.cir_ast.specs.declared.operators.Direction.TheVariants as direction
-use Rattle.cir_ast.specs.Tree.{as_exprs, Nothing, Given, Set, Compound, Left, Increment, Decrement}
-use Rattle.cir_ast.specs.Tree.{Signals, Declared, Created}
+use Rattle.cir_ast.specs.declared.operators.Arrow.{Arrow}
+use Rattle.cir_ast.specs.Tree as tree
 use Rattle.cir_ast.specs.Plain.{PlainExpr as Expr, PlainAccessors as Accessors}
-use Rattle.cir_ast.specs.Plain.{PlainVariable as Variable, PlainSignalValue as SignalValue}
-use Rattle.cir_ast.specs.Plain.{PlainSignal as Signal, PlainComponent as Component}
-use Rattle.cir_ast.specs.Plain.{PlainAssign as Assign, PlainSimple as Simple}
-use Rattle.cir_ast.specs.Print.{left_symbol, tokens_of, dimension_tokens, list_tokens, value_tokens}
-use Rattle.cir_ast.specs.Print.{variable_tokens, signal_value_tokens, signal_tokens}
-use Rattle.cir_ast.specs.Print.{component_tokens, direction_tokens, compound_symbol, place_tokens}
-use Rattle.cir_ast.specs.Print.{assign_tokens, simple_tokens}
-use Rattle.cir_ast.specs.Shape.{Fits, AllFit, AreFitAccessors, Each, FitsValue, IsShapedVariable}
-use Rattle.cir_ast.specs.Shape.{FitsSignalValue, IsShapedSignal, IsShapedComponent, IsShapedAssign}
-use Rattle.cir_ast.specs.Shape.{IsShapedSimple}
-use Rattle.cir_ast.specs.Height.{height_of, exprs_height, value_height, variable_height}
-use Rattle.cir_ast.specs.Height.{signal_value_height, signal_height, component_height, place_height}
-use Rattle.cir_ast.specs.Height.{assign_height, simple_height}
-use Rattle.cir_expression.specs.Front.{Tokens, next, otherwise, tail, begins, begins_word, behind}
-use Rattle.cir_expression.specs.Front.{name_at}
-use Rattle.cir_expression.specs.Reading.{expression, place, arrow_at}
-use Rattle.cir_expression.proofs.Front.{AllOf, all_at, otherwise_all, if_all, begins_is}
-use Rattle.cir_expression.proofs.Front.{begins_word_is, name_all, arrow_all}
+use Rattle.cir_ast.specs.Plain.{PlainVariable as Variable, PlainAssign as Assign}
+use Rattle.cir_ast.specs.Plain.{PlainSimple as Simple, PlainSlot as Slot, PlainTarget as Target}
+use Rattle.cir_ast.specs.Plain.{PlainSource as Source}
+use Rattle.cir_ast.specs.Print as print
+use Rattle.cir_ast.specs.Shape as shape
+use Rattle.cir_ast.specs.Height as height
+use Rattle.cir_expression.specs.Front.{Tokens, tail, name_at, begins_underscore}
+use Rattle.cir_expression.specs.Reading.{expression, place, arrow_at, group, Grouped, Whole, Tuple}
+use Rattle.cir_expression.specs.Groups.{element_tokens, FitsElement, IsTuple, IsGrouped, IsGroup}
+use Rattle.cir_expression.proofs.Front.{AllOf, all_map, name_all, arrow_all, if_all}
 use Rattle.cir_expression.proofs.Sound.{IsRead, expression_sound, IsPlace, place_sound}
-use Rattle.cir_simple_statement.specs.Front.{closed, made, separated}
-use Rattle.cir_simple_statement.specs.Reading.{dimensions_by, dimensions, value, variable}
-use Rattle.cir_simple_statement.specs.Reading.{signal_value, signal, component, signals, components}
-use Rattle.cir_simple_statement.specs.Reading.{compound_of, compound_at, operation, assignment}
-use Rattle.cir_simple_statement.specs.Reading.{assign}
-use Rattle.cir_simple_statement.proofs.Parts.{Of, next_then, made_all, closed_all, separated_all}
-use Rattle.cir_simple_statement.proofs.Parts.{each_shaped, each_low}
+use Rattle.cir_expression.proofs.Groups.{underscore_is, group_sound}
+use Rattle.cir_simple_statement.specs.Front.{made, parted_by}
+use Rattle.cir_simple_statement.specs.Reading as reading
+use Rattle.cir_simple_statement.proofs.Parts.{Of, Sound, gives, reads, and_then, or_else, if_symbol}
+use Rattle.cir_simple_statement.proofs.Parts.{if_word, symbol_sound, closed_sound, Behind}
+use Rattle.cir_simple_statement.proofs.Parts.{more_behind, whole_list, listed_sound, each_shaped}
+use Rattle.cir_simple_statement.proofs.Parts.{each_low, sound_map, enclosed_sound, several_sound}
+
+-- what stands at the front
+pub name_sound : (ts : Tokens) → Sound (λ r. ts ≡ token.Name r.0 ∷ r.1) (name_at ts)
+name_sound ts = record { all = name_all ts }
+
+pub arrow_sound : (ts : Tokens)
+    → Sound (λ a. ts ≡ token.Symbol (print.left_symbol a) ∷ tail ts) (arrow_at ts)
+arrow_sound ts = record { all = arrow_all ts }
 
 -- an expression that fits and is low enough
 abbrev pub IsLow : ℕ → Expr → Type 0
-IsLow room e = Fits 1 e × (height_of e ≤ room)
+IsLow room e = shape.Fits 1 e × (height.height_of e ≤ room)
 
 pub expression_of : (room : ℕ) (ts : Tokens)
-    → AllOf (Of tokens_of (IsLow room) ts) (expression room ts)
-expression_of room ts = from (expression room ts) (expression_sound room ts)
-  where
-    from : (o : Option (Expr × Tokens)) → AllOf (IsRead room ts) o
-        → AllOf (Of tokens_of (IsLow room) ts) o
-    from None h = tt
-    from (Some r) h = record { prints = h.prints; fine = (h.fits, h.low) }
+    → AllOf (Of print.tokens_of (IsLow room) ts) (expression room ts)
+expression_of room ts =
+    all_map (IsRead room ts) _ (expression room ts)
+    (λ r h. record { prints = h.prints; fine = (h.fits, h.low) }) (expression_sound room ts)
 
--- expressions in brackets were read behind those that were read before
-record AreDimensions (room : ℕ) (before : List Expr) (ts : Tokens)
-    (r : List Expr × Tokens) : Type 0 where
-  found : List Expr
-  behind : r.0 ≡ before ++ found
-  prints : dimension_tokens (as_exprs found) ++ r.1 ≡ ts
-  fits : AllFit (as_exprs found)
-  low : exprs_height (as_exprs found) ≤ room
+pub one_sound : (room : ℕ) (ts : Tokens)
+    → Sound (Of print.tokens_of (IsLow room) ts) (expression room ts)
+one_sound room ts = record { all = expression_of room ts }
 
-dimensions_by_sound : (room n : ℕ) (before : List Expr) (ts : Tokens)
-    → AllOf (AreDimensions room before ts) (dimensions_by n (expression room) before ts)
-dimensions_by_sound room zero before ts =
-    record {
-      found = [];
-      behind = sym (append-nil before);
-      prints = refl;
-      fits = tt;
-      low = omega arith;
-    }
-dimensions_by_sound room (suc n) before ts =
-    if_all (AreDimensions room before ts) (begins symbol.OpenBracket ts)
-    (next (closed symbol.CloseBracket (expression room (tail ts)))
-    (λ e. dimensions_by n (expression room) (before ++ e.0 ∷ []) e.1)) (Some (before, ts))
-    (λ opens. next_then
-    (Of (λ e. tokens_of e ++ token.Symbol symbol.CloseBracket ∷ []) (IsLow room) (tail ts))
-    (AreDimensions room before ts) (closed symbol.CloseBracket (expression room (tail ts)))
-    (λ e. dimensions_by n (expression room) (before ++ e.0 ∷ []) e.1)
-    (closed_all tokens_of (IsLow room) symbol.CloseBracket (tail ts) (expression room (tail ts))
-    (expression_of room (tail ts)))
-    (λ e first. more e first opens (dimensions_by n (expression room) (before ++ e.0 ∷ []) e.1)
-    (dimensions_by_sound room n (before ++ e.0 ∷ []) e.1)))
-    (λ shut. record {
-      found = [];
-      behind = sym (append-nil before);
-      prints = refl;
-      fits = tt;
-      low = omega arith;
-    })
-  where
-    more : (e : Expr × Tokens)
-        → Of (λ e. tokens_of e ++ token.Symbol symbol.CloseBracket ∷ []) (IsLow room) (tail ts) e
-        → begins symbol.OpenBracket ts ≡ true
-        → (o : Option (List Expr × Tokens)) → AllOf (AreDimensions room (before ++ e.0 ∷ []) e.1) o
-        → AllOf (AreDimensions room before ts) o
-    more e first opens None h = tt
-    more e first opens (Some r) h = record {
-      found = e.0 ∷ h.found;
-      behind = h.behind ∙ append_assoc before (e.0 ∷ []) h.found;
-      prints = ap (λ (t : Tokens). token.Symbol symbol.OpenBracket ∷ t)
-          (append_assoc (tokens_of e.0)
-          (token.Symbol symbol.CloseBracket ∷ dimension_tokens (as_exprs h.found)) r.1
-          ∙ ap (λ (t : Tokens). tokens_of e.0 ++ token.Symbol symbol.CloseBracket ∷ t) h.prints
-          ∙ sym (append_assoc (tokens_of e.0) (token.Symbol symbol.CloseBracket ∷ []) e.1)
-          ∙ first.prints)
-          ∙ sym (begins_is symbol.OpenBracket ts opens);
-      fits = (first.fine.0, h.fits);
-      low =
-          let a : height_of e.0 ≤ room = first.fine.1 in
-          let b : exprs_height (as_exprs h.found) ≤ room = h.low in
-          omega arith;
-    }
+abbrev pub IsLowPlace : ℕ → List ℕ × Accessors → Type 0
+IsLowPlace room p = shape.AreFitAccessors p.1 × (height.place_height p.1 ≤ room)
+
+pub place_of : (room : ℕ) (ts : Tokens)
+    → Sound (Of (λ p. print.place_tokens p.0 p.1) (IsLowPlace room) ts) (place room ts)
+place_of room ts = record {
+  all = all_map (IsPlace room ts) _ (place room ts)
+      (λ r h. record { prints = h.prints; fine = (h.fits, h.low) }) (place_sound room ts);
+}
+
+-- expressions in brackets
+abbrev bracketed : List Expr → Tokens
+bracketed es = print.dimension_tokens (tree.as_exprs es)
 
 abbrev AreLow : ℕ → List Expr → Type 0
-AreLow room es = AllFit (as_exprs es) × (exprs_height (as_exprs es) ≤ room)
+AreLow room es =
+    shape.AllFit (tree.as_exprs es) × (height.exprs_height (tree.as_exprs es) ≤ room)
+
+-- behind the first bracket
+dimensions_by_sound : (room n : ℕ) (before : List Expr) (ts : Tokens)
+    → Sound (Behind bracketed (AreLow room) before (token.Symbol symbol.OpenBracket ∷ ts))
+    (parted_by symbol.OpenBracket n (reading.dimension room) before ts)
+dimensions_by_sound room zero before ts = record { all = tt }
+dimensions_by_sound room (suc n) before ts =
+    and_then (closed_sound symbol.CloseBracket (one_sound room ts)) (λ e first.
+    if_symbol symbol.OpenBracket e.1
+    (λ opens. more_behind (dimensions_by_sound room n (before ++ e.0 ∷ []) (tail e.1))
+    (λ es rest h. record {
+      prints = rw (append_assoc, h.prints, ← opens, first.prints) refl;
+      fine = ((first.fine.0, h.fine.0), omega (arith, first.fine.1, h.fine.1));
+    }))
+    (gives (record {
+      found = e.0 ∷ [];
+      behind = refl;
+      read = record {
+        prints = rw (append_assoc, first.prints) refl;
+        fine = ((first.fine.0, tt), omega (arith, first.fine.1));
+      };
+    })))
 
 dimensions_sound : (room : ℕ) (ts : Tokens)
-    → AllOf (Of (λ es. dimension_tokens (as_exprs es)) (AreLow room) ts) (dimensions room ts)
-unfolding dimensions
+    → Sound (Of bracketed (AreLow room) ts) (reading.dimensions room ts)
+unfolding reading.dimensions
 dimensions_sound room ts =
-    from (dimensions_by (length ts) (expression room) [] ts)
-    (dimensions_by_sound room (length ts) [] ts)
-  where
-    from : (o : Option (List Expr × Tokens)) → AllOf (AreDimensions room [] ts) o
-        → AllOf (Of (λ es. dimension_tokens (as_exprs es)) (AreLow room) ts) o
-    from None h = tt
-    from (Some r) h = record {
-      prints = ap (λ (es : List Expr). dimension_tokens (as_exprs es) ++ r.1) h.behind ∙ h.prints;
-      fine = subst (AreLow room) (sym h.behind) (h.fits, h.low);
-    }
-
--- a name, its dimensions and what stands behind them
-named_prints : (name : List ℕ) (a b rest ts behind_name behind : Tokens)
-    → ts ≡ token.Name name ∷ behind_name → a ++ behind ≡ behind_name → b ++ rest ≡ behind
-    → (token.Name name ∷ (a ++ b)) ++ rest ≡ ts
-named_prints name a b rest ts behind_name behind is ea eb =
-    ap (λ (t : Tokens). token.Name name ∷ t) (append_assoc a b rest ∙ ap (λ (t : Tokens). a ++ t) eb
-    ∙ ea) ∙ sym is
+    if_symbol symbol.OpenBracket ts
+    (λ opens. whole_list (dimensions_by_sound room (length (tail ts)) [] (tail ts))
+    (λ es rest h. record { prints = h.prints ∙ sym opens; fine = h.fine }))
+    (reads refl (tt, omega arith))
 
 value_sound : (room : ℕ) (ts : Tokens)
-    → AllOf (Of value_tokens (λ v. FitsValue v × (value_height v ≤ room)) ts) (value room ts)
+    → Sound (Of print.value_tokens (λ v. shape.FitsValue v × (height.value_height v ≤ room)) ts)
+    (reading.value room ts)
 value_sound room ts =
-    if_all (Of value_tokens (λ v. FitsValue v × (value_height v ≤ room)) ts)
-    (begins symbol.Equal ts) (made (λ e. Some e) (expression room (tail ts))) (Some (None, ts))
-    (λ equal. made_all tokens_of (IsLow room) (tail ts)
-    (Of value_tokens (λ v. FitsValue v × (value_height v ≤ room)) ts) (λ e. Some e)
-    (expression room (tail ts)) (expression_of room (tail ts))
-    (λ e rest is low. record {
-      prints = ap (λ (t : Tokens). token.Symbol symbol.Equal ∷ t) is
-          ∙ sym (begins_is symbol.Equal ts equal);
-      fine = low;
-    }))
-    (λ no_equal. record { prints = refl; fine = (tt, omega arith) })
+    if_symbol symbol.Equal ts
+    (λ is. and_then (one_sound room (tail ts)) (λ e h. reads (rw (h.prints, ← is) refl) h.fine))
+    (reads refl (tt, omega arith))
 
 abbrev pub IsLowVariable : ℕ → Variable → Type 0
-IsLowVariable room v = IsShapedVariable v × (variable_height v ≤ room)
+IsLowVariable room v = shape.IsShapedVariable v × (height.variable_height v ≤ room)
+
+pub variable_of : (room : ℕ) (ts : Tokens)
+    → Sound (Of print.variable_tokens (IsLowVariable room) ts) (reading.variable room ts)
+unfolding reading.variable
+variable_of room ts =
+    and_then (name_sound ts) (λ name named. and_then (dimensions_sound room name.1) (λ found d.
+    and_then (value_sound room found.1) (λ v h.
+    reads (rw (append_assoc, h.prints, d.prints, named) refl)
+    ((d.fine.0, h.fine.0), omega (arith, d.fine.1, h.fine.1)))))
 
 pub variable_sound : (room : ℕ) (ts : Tokens)
-    → AllOf (Of variable_tokens (IsLowVariable room) ts) (variable room ts)
-unfolding variable
-variable_sound room ts =
-    next_then (λ r. ts ≡ token.Name r.0 ∷ r.1) (Of variable_tokens (IsLowVariable room) ts)
-    (name_at ts) _ (name_all ts) (λ name named.
-    next_then (Of (λ es. dimension_tokens (as_exprs es)) (AreLow room) name.1)
-    (Of variable_tokens (IsLowVariable room) ts) (dimensions room name.1) _
-    (dimensions_sound room name.1) (λ found d.
-    next_then (Of value_tokens (λ v. FitsValue v × (value_height v ≤ room)) found.1)
-    (Of variable_tokens (IsLowVariable room) ts) (value room found.1) _
-    (value_sound room found.1) (λ v is.
-    record {
-      prints = named_prints name.0 (dimension_tokens (as_exprs found.0))
-          (value_tokens v.0) v.1 ts name.1 found.1 named d.prints is.prints;
-      fine = (
-        (d.fine.0, is.fine.0),
-        (let a : exprs_height (as_exprs found.0) ≤ room = d.fine.1 in
-            let b : value_height v.0 ≤ room = is.fine.1 in
-            omega arith),
-      );
-    })))
+    → AllOf (Of print.variable_tokens (IsLowVariable room) ts) (reading.variable room ts)
+variable_sound room ts = (variable_of room ts).all
 
 signal_value_sound : (room : ℕ) (ts : Tokens)
-    → AllOf (Of signal_value_tokens (λ v. FitsSignalValue v × (signal_value_height v ≤ room)) ts)
-    (signal_value room ts)
+    → Sound (Of print.signal_value_tokens
+    (λ v. shape.FitsSignalValue v × (height.signal_value_height v ≤ room)) ts)
+    (reading.signal_value room ts)
 signal_value_sound room ts =
-    let Q : SignalValue × Tokens → Type 0 =
-    Of signal_value_tokens (λ v. FitsSignalValue v × (signal_value_height v ≤ room)) ts in
-    otherwise_all Q (arrow_at ts) (Some (Nothing, ts))
-    (λ arrow. made (Given arrow) (expression room (tail ts)))
-    (λ nothing. record { prints = refl; fine = (tt, omega arith) })
-    (λ arrow e. made_all tokens_of (IsLow room) (tail ts) Q (Given arrow)
-    (expression room (tail ts)) (expression_of room (tail ts))
-    (λ e' rest is low. record {
-      prints = ap (λ (t : Tokens). token.Symbol (left_symbol arrow) ∷ t) is
-          ∙ sym (all_at (λ a. ts ≡ token.Symbol (left_symbol a) ∷ tail ts) (arrow_at ts) arrow
-          (arrow_all ts) e);
-      fine = low;
-    }))
-
-abbrev pub IsLowSignal : ℕ → Signal → Type 0
-IsLowSignal room s = IsShapedSignal s × (signal_height s ≤ room)
+    or_else (arrow_sound ts) (reads refl (tt, omega arith)) (λ arrow is.
+    and_then (one_sound room (tail ts)) (λ e h. reads (rw (h.prints, ← is) refl) h.fine))
 
 signal_sound : (room : ℕ) (ts : Tokens)
-    → AllOf (Of signal_tokens (IsLowSignal room) ts) (signal room ts)
-unfolding signal
+    → Sound
+    (Of print.signal_tokens (λ x. shape.IsShapedSignal x × (height.signal_height x ≤ room)) ts)
+    (reading.signal room ts)
+unfolding reading.signal
 signal_sound room ts =
-    next_then (λ r. ts ≡ token.Name r.0 ∷ r.1) (Of signal_tokens (IsLowSignal room) ts)
-    (name_at ts) _ (name_all ts) (λ name named.
-    next_then (Of (λ es. dimension_tokens (as_exprs es)) (AreLow room) name.1)
-    (Of signal_tokens (IsLowSignal room) ts) (dimensions room name.1) _
-    (dimensions_sound room name.1) (λ found d.
-    next_then
-    (Of signal_value_tokens (λ v. FitsSignalValue v × (signal_value_height v ≤ room)) found.1)
-    (Of signal_tokens (IsLowSignal room) ts) (signal_value room found.1) _
-    (signal_value_sound room found.1) (λ v is.
-    record {
-      prints = named_prints name.0 (dimension_tokens (as_exprs found.0))
-          (signal_value_tokens v.0) v.1 ts name.1 found.1 named d.prints is.prints;
-      fine = (
-        (d.fine.0, is.fine.0),
-        (let a : exprs_height (as_exprs found.0) ≤ room = d.fine.1 in
-            let b : signal_value_height v.0 ≤ room = is.fine.1 in
-            omega arith),
-      );
-    })))
-
-abbrev IsLowComponent : ℕ → Component → Type 0
-IsLowComponent room c = IsShapedComponent c × (component_height c ≤ room)
+    and_then (name_sound ts) (λ name named. and_then (dimensions_sound room name.1) (λ found d.
+    and_then (signal_value_sound room found.1) (λ v h.
+    reads (rw (append_assoc, h.prints, d.prints, named) refl)
+    ((d.fine.0, h.fine.0), omega (arith, d.fine.1, h.fine.1)))))
 
 component_sound : (room : ℕ) (ts : Tokens)
-    → AllOf (Of component_tokens (IsLowComponent room) ts) (component room ts)
-unfolding component
+    → Sound
+    (Of print.component_tokens
+    (λ x. shape.IsShapedComponent x × (height.component_height x ≤ room)) ts)
+    (reading.component room ts)
+unfolding reading.component
 component_sound room ts =
-    next_then (λ r. ts ≡ token.Name r.0 ∷ r.1) (Of component_tokens (IsLowComponent room) ts)
-    (name_at ts) _ (name_all ts) (λ name named.
-    next_then (Of (λ es. dimension_tokens (as_exprs es)) (AreLow room) name.1)
-    (Of component_tokens (IsLowComponent room) ts) (dimensions room name.1) _
-    (dimensions_sound room name.1) (λ found d.
-    record {
-      prints = ap (λ (t : Tokens). token.Name name.0 ∷ t) d.prints
-          ∙ sym named;
-      fine = d.fine;
-    }))
+    and_then (name_sound ts) (λ name named. and_then (dimensions_sound room name.1) (λ found d.
+    reads (rw (d.prints, named) refl) d.fine))
 
 abbrev pub IsLowSimple : ℕ → Simple → Type 0
-IsLowSimple room s = IsShapedSimple s × (simple_height s ≤ room)
+IsLowSimple room s = shape.IsShapedSimple s × (height.simple_height s ≤ room)
 
--- a list of what is declared, behind its word
-directed_sound : (room : ℕ) (d : Direction) (all ts : Tokens)
-    → token.Reserved word.Signal ∷ (direction_tokens d ++ ts) ≡ all
-    → AllOf (Of simple_tokens (IsLowSimple room) all)
-    (made (Signals d) (separated (signal room) ts))
-directed_sound room d all ts h =
-    made_all (list_tokens signal_tokens) (λ xs. (xs ≢ []) × Each (IsLowSignal room) xs) ts
-    (Of simple_tokens (IsLowSimple room) all) (Signals d) (separated (signal room) ts)
-    (separated_all signal_tokens (IsLowSignal room) (signal room) (signal_sound room) ts)
-    (λ xs rest is fine. record {
-      prints = ap (λ (t : Tokens). token.Reserved word.Signal ∷ t)
-          (append_assoc (direction_tokens d) (list_tokens signal_tokens xs) rest
-          ∙ ap (λ (t : Tokens). direction_tokens d ++ t) is) ∙ h;
-      fine = (
-        (fine.0, each_shaped IsShapedSignal signal_height room xs fine.1),
-        each_low IsShapedSignal signal_height room xs fine.1,
-      );
-    })
+-- a simple statement was read from all these tokens
+abbrev pub IsSimple : ℕ → Tokens → Simple × Tokens → Type 0
+IsSimple room all = Of print.simple_tokens (IsLowSimple room) all
+
+-- elements that are shaped and low enough are so as a list
+pub list_low : {A : Type 0} (P : A → Type 0) (h : A → ℕ) (room : ℕ) (Q : Type 0) (xs : List A)
+    → Q × shape.Each (λ x. P x × (h x ≤ room)) xs
+    → (Q × shape.Each P xs) × (height.highest h xs ≤ room)
+list_low P h room Q xs fine =
+    ((fine.0, each_shaped P h room xs fine.1), each_low P h room xs fine.1)
+
+-- the word behind `signal` and what stands behind it are all
+direction_print : (ts : Tokens)
+    → print.direction_tokens (reading.direction_at ts).0 ++ (reading.direction_at ts).1 ≡ ts
+direction_print (token.Reserved word.Input ∷ ts) = refl
+direction_print (token.Reserved _ ∷ ts) = refl
+direction_print _ = refl
 
 pub signals_sound : (room : ℕ) (all ts : Tokens) → token.Reserved word.Signal ∷ ts ≡ all
-    → AllOf (Of simple_tokens (IsLowSimple room) all) (signals room ts)
-unfolding signals
-signals_sound room all ts h =
-    let Q : Simple × Tokens → Type 0 = Of simple_tokens (IsLowSimple room) all in
-    if_all Q (begins_word word.Input ts)
-    (made (Signals direction.Input) (separated (signal room) (tail ts)))
-    (if begins_word word.Output ts
-    then made (Signals direction.Output) (separated (signal room) (tail ts))
-    else made (Signals direction.Inner) (separated (signal room) ts))
-    (λ e. directed_sound room direction.Input all (tail ts)
-    (ap (λ (t : Tokens). token.Reserved word.Signal ∷ t)
-    (sym (begins_word_is word.Input ts e)) ∙ h))
-    (λ no_input. if_all Q (begins_word word.Output ts)
-    (made (Signals direction.Output) (separated (signal room) (tail ts)))
-    (made (Signals direction.Inner) (separated (signal room) ts))
-    (λ e. directed_sound room direction.Output all (tail ts)
-    (ap (λ (t : Tokens). token.Reserved word.Signal ∷ t)
-    (sym (begins_word_is word.Output ts e)) ∙ h))
-    (λ no_output. directed_sound room direction.Inner all ts h))
+    → Sound (IsSimple room all) (reading.signals room ts)
+unfolding reading.signals
+signals_sound room all ts is =
+    and_then (listed_sound (signal_sound room) (reading.direction_at ts).1) (λ found h.
+    reads (rw (append_assoc, h.prints, direction_print ts) is)
+    (list_low shape.IsShapedSignal height.signal_height room (found.0 ≢ []) found.0 h.fine))
 
 pub components_sound : (room : ℕ) (all ts : Tokens) → token.Reserved word.Component ∷ ts ≡ all
-    → AllOf (Of simple_tokens (IsLowSimple room) all) (components room ts)
-unfolding components
-components_sound room all ts h =
-    let Q : Simple × Tokens → Type 0 = Of simple_tokens (IsLowSimple room) all in
-    next_then (λ r. ts ≡ token.Name r.0 ∷ r.1) Q (name_at ts) _ (name_all ts) (λ name named.
-    if_all Q (begins symbol.Equal name.1) (made (Created name.0 tt) (expression room (tail name.1)))
-    (made Declared (separated (component room) ts))
-    (λ equal. made_all tokens_of (IsLow room) (tail name.1) Q (Created name.0 tt)
-    (expression room (tail name.1)) (expression_of room (tail name.1))
-    (λ e rest is low. record {
-      prints = ap
-          (λ (t : Tokens). token.Reserved word.Component ∷ token.Name name.0
-          ∷ token.Symbol symbol.Equal ∷ t) is
-          ∙ ap (λ (t : Tokens). token.Reserved word.Component ∷ token.Name name.0 ∷ t)
-          (sym (begins_is symbol.Equal name.1 equal))
-          ∙ ap (λ (t : Tokens). token.Reserved word.Component ∷ t) (sym named) ∙ h;
-      fine = low;
-    }))
-    (λ no_equal. made_all (list_tokens component_tokens)
-    (λ xs. (xs ≢ []) × Each (IsLowComponent room) xs) ts Q Declared
-    (separated (component room) ts)
-    (separated_all component_tokens (IsLowComponent room) (component room)
-    (component_sound room) ts)
-    (λ xs rest is fine. record {
-      prints = ap (λ (t : Tokens). token.Reserved word.Component ∷ t) is ∙ h;
-      fine = (
-        (fine.0, each_shaped IsShapedComponent component_height room xs fine.1),
-        each_low IsShapedComponent component_height room xs fine.1,
-      );
-    })))
+    → Sound (IsSimple room all) (reading.components room ts)
+unfolding reading.components
+components_sound room all ts is =
+    and_then (name_sound ts) (λ name named. if_symbol symbol.Equal name.1
+    (λ equal. and_then (one_sound room (tail name.1)) (λ e h.
+    reads (rw (h.prints, ← equal, ← named) is) h.fine))
+    (and_then (listed_sound (component_sound room) ts) (λ found h.
+    reads (rw h.prints is)
+    (list_low shape.IsShapedComponent height.component_height room (found.0 ≢ []) found.0 h.fine))))
 
-compound_symbol_all : (s : Symbol) → AllOf (λ op. s ≡ compound_symbol op) (compound_of s)
+compound_symbol_all : (s : Symbol)
+    → AllOf (λ op. s ≡ print.compound_symbol op) (reading.compound_of s)
 compound_symbol_all symbol.StarStarEqual = refl
-compound_symbol_all symbol.ShiftLeftEqual = refl
-compound_symbol_all symbol.ShiftRightEqual = refl
-compound_symbol_all symbol.PlusEqual = refl
-compound_symbol_all symbol.MinusEqual = refl
-compound_symbol_all symbol.StarEqual = refl
-compound_symbol_all symbol.SlashEqual = refl
-compound_symbol_all symbol.BackslashEqual = refl
-compound_symbol_all symbol.PercentEqual = refl
-compound_symbol_all symbol.AmpersandEqual = refl
-compound_symbol_all symbol.BarEqual = refl
-compound_symbol_all symbol.CaretEqual = refl
-compound_symbol_all _ = tt
-
-compound_all : (ts : Tokens)
-    → AllOf (λ op. ts ≡ token.Symbol (compound_symbol op) ∷ tail ts) (compound_at ts)
-compound_all [] = tt
-compound_all (token.Symbol s ∷ ts) = from (compound_of s) (compound_symbol_all s)
-  where
-    from : (o : Option CompoundOp) → AllOf (λ op. s ≡ compound_symbol op) o
-        → AllOf (λ op. token.Symbol s ∷ ts ≡ token.Symbol (compound_symbol op) ∷ ts) o
-    from None h = tt
-    from (Some op) h = ap (λ (s : Symbol). token.Symbol s ∷ ts) h
-compound_all (_ ∷ ts) = tt
+compound_symbol_all _ = search
 
 abbrev pub IsLowAssign : ℕ → Assign → Type 0
-IsLowAssign room a = IsShapedAssign a × (assign_height a ≤ room)
+IsLowAssign room a = shape.IsShapedAssign a × (height.assign_height a ≤ room)
 
 -- a place that fits and is low enough, read before these tokens
-pub record IsWritten (room : ℕ) (name : List ℕ) (accessors : Accessors)
-    (all ts : Tokens) : Type 0 where
-  pub prints : place_tokens name accessors ++ ts ≡ all
-  pub fits : AreFitAccessors accessors
-  pub low : place_height accessors ≤ room
-
--- left side, symbol and right side
-pub sides_print : (left right : Tokens) (s : Symbol) (rest ts all : Tokens) → left ++ ts ≡ all
-    → ts ≡ token.Symbol s ∷ tail ts → right ++ rest ≡ tail ts
-    → (left ++ token.Symbol s ∷ right) ++ rest ≡ all
-sides_print left right s rest ts all h is e =
-    append_assoc left (token.Symbol s ∷ right) rest
-    ∙ ap (λ (t : Tokens). left ++ token.Symbol s ∷ t) e
-    ∙ ap (λ (t : Tokens). left ++ t) (sym is) ∙ h
-
-pub both_low : (room a b : ℕ) → a ≤ room → b ≤ room → max a b ≤ room
-both_low room a b h k = omega arith
+abbrev pub IsWritten : ℕ → List ℕ → Accessors → Tokens → Tokens → Type 0
+IsWritten room name accessors all ts =
+    Of (λ p. print.place_tokens p.0 p.1) (IsLowPlace room) all ((name, accessors), ts)
 
 operation_sound : (room : ℕ) (name : List ℕ) (accessors : Accessors) (all ts : Tokens)
     → IsWritten room name accessors all ts
-    → AllOf (Of assign_tokens (IsLowAssign room) all) (operation room name accessors ts)
-unfolding operation
+    → Sound (Of print.assign_tokens (IsLowAssign room) all)
+    (reading.operation room name accessors ts)
 operation_sound room name accessors all ts w =
-    let Q : Assign × Tokens → Type 0 = Of assign_tokens (IsLowAssign room) all in
-    if_all Q (begins symbol.PlusPlus ts) (Some (Increment name tt accessors, tail ts))
-    (if begins symbol.MinusMinus ts then Some (Decrement name tt accessors, tail ts)
-    else next (compound_at ts)
-    (λ op. made (Compound name tt accessors op) (expression room (tail ts))))
-    (λ e. record {
-      prints = sides_print (place_tokens name accessors) [] symbol.PlusPlus
-          (tail ts) ts all w.prints (begins_is symbol.PlusPlus ts e) refl;
-      fine = (w.fits, w.low);
-    })
-    (λ no_plus. if_all Q (begins symbol.MinusMinus ts) (Some (Decrement name tt accessors, tail ts))
-    (next (compound_at ts)
-    (λ op. made (Compound name tt accessors op) (expression room (tail ts))))
-    (λ e. record {
-      prints = sides_print (place_tokens name accessors) [] symbol.MinusMinus
-          (tail ts) ts all w.prints (begins_is symbol.MinusMinus ts e) refl;
-      fine = (w.fits, w.low);
-    })
-    (λ no_minus. next_then (λ op. ts ≡ token.Symbol (compound_symbol op) ∷ tail ts) Q
-    (compound_at ts) (λ op. made (Compound name tt accessors op) (expression room (tail ts)))
-    (compound_all ts) (λ op is.
-    made_all tokens_of (IsLow room) (tail ts) Q (Compound name tt accessors op)
-    (expression room (tail ts)) (expression_of room (tail ts))
-    (λ e rest right low. record {
-      prints = sides_print (place_tokens name accessors) (tokens_of e)
-          (compound_symbol op) rest ts all w.prints is right;
-      fine = ((w.fits, low.0), both_low room (place_height accessors) (height_of e) w.low low.1);
-    }))))
+    if_symbol symbol.PlusPlus ts (λ is. reads (rw (append_assoc, ← is) w.prints) w.fine)
+    (if_symbol symbol.MinusMinus ts (λ is. reads (rw (append_assoc, ← is) w.prints) w.fine)
+    (and_then (symbol_sound print.compound_symbol reading.compound_of compound_symbol_all ts)
+    (λ op is. and_then (one_sound room (tail ts)) (λ e h.
+    reads (rw (append_assoc, h.prints, ← is) w.prints)
+    ((w.fine.0, h.fine.0), omega (arith, w.fine.1, h.fine.1))))))
 
 pub assignment_sound : (room : ℕ) (name : List ℕ) (accessors : Accessors) (all ts : Tokens)
     → IsWritten room name accessors all ts
-    → AllOf (Of assign_tokens (IsLowAssign room) all) (assignment room name accessors ts)
-unfolding assignment
+    → Sound (Of print.assign_tokens (IsLowAssign room) all)
+    (reading.assignment room name accessors ts)
+unfolding reading.assignment
 assignment_sound room name accessors all ts w =
-    let Q : Assign × Tokens → Type 0 = Of assign_tokens (IsLowAssign room) all in
-    if_all Q (begins symbol.Equal ts) (made (Set name tt accessors) (expression room (tail ts)))
-    (otherwise (arrow_at ts) (operation room name accessors ts)
-    (λ arrow. made (Left name tt accessors arrow) (expression room (tail ts))))
-    (λ is. made_all tokens_of (IsLow room) (tail ts) Q (Set name tt accessors)
-    (expression room (tail ts)) (expression_of room (tail ts))
-    (λ e rest right low. record {
-      prints = sides_print (place_tokens name accessors)
-          (tokens_of e) symbol.Equal rest ts all w.prints (begins_is symbol.Equal ts is) right;
-      fine = ((w.fits, low.0), both_low room (place_height accessors) (height_of e) w.low low.1);
-    }))
-    (λ no_equal. otherwise_all Q (arrow_at ts) (operation room name accessors ts)
-    (λ arrow. made (Left name tt accessors arrow) (expression room (tail ts)))
-    (λ no_arrow. operation_sound room name accessors all ts w)
-    (λ arrow is. made_all tokens_of (IsLow room) (tail ts) Q (Left name tt accessors arrow)
-    (expression room (tail ts)) (expression_of room (tail ts))
-    (λ e rest right low. record {
-      prints = sides_print (place_tokens name accessors) (tokens_of e)
-          (left_symbol arrow) rest ts all w.prints
-          (all_at (λ a. ts ≡ token.Symbol (left_symbol a) ∷ tail ts) (arrow_at ts) arrow
-          (arrow_all ts) is) right;
-      fine = ((w.fits, low.0), both_low room (place_height accessors) (height_of e) w.low low.1);
-    })))
+    if_symbol symbol.Equal ts
+    (λ is. and_then (one_sound room (tail ts)) (λ e h.
+    reads (rw (append_assoc, h.prints, ← is) w.prints)
+    ((w.fine.0, h.fine.0), omega (arith, w.fine.1, h.fine.1))))
+    (or_else (arrow_sound ts) (operation_sound room name accessors all ts w)
+    (λ arrow is. and_then (one_sound room (tail ts)) (λ e h.
+    reads (rw (append_assoc, h.prints, ← is) w.prints)
+    ((w.fine.0, h.fine.0), omega (arith, w.fine.1, h.fine.1)))))
 
 pub assign_sound : (room : ℕ) (ts : Tokens)
-    → AllOf (Of assign_tokens (IsLowAssign room) ts) (assign room ts)
-unfolding assign
+    → AllOf (Of print.assign_tokens (IsLowAssign room) ts) (reading.assign room ts)
+unfolding reading.assign
 assign_sound room ts =
-    next_then (IsPlace room ts) (Of assign_tokens (IsLowAssign room) ts) (place room ts)
-    (λ p. assignment room p.0.0 p.0.1 p.1) (place_sound room ts) (λ p is.
-    assignment_sound room p.0.0 p.0.1 ts p.1
-    (record { prints = is.prints; fits = is.fits; low = is.low }))
+    (and_then (place_of room ts)
+    (λ p is. assignment_sound room p.0.0 p.0.1 ts p.1 is)).all
 
-abbrev pub IsLowPlace : ℕ → List ℕ × Accessors → Type 0
-IsLowPlace room p = AreFitAccessors p.1 × (place_height p.1 ≤ room)
+right_symbol_all : (s : Symbol)
+    → AllOf (λ a. s ≡ print.right_symbol a) (reading.right_arrow_of s)
+right_symbol_all symbol.AssignRight = refl
+right_symbol_all symbol.ConstrainRight = refl
+right_symbol_all _ = tt
 
-pub place_read : (room : ℕ) (ts : Tokens)
-    → AllOf (Of (λ p. place_tokens p.0 p.1) (IsLowPlace room) ts) (place room ts)
-place_read room ts = from (place room ts) (place_sound room ts)
-  where
-    from : (o : Option ((List ℕ × Accessors) × Tokens)) → AllOf (IsPlace room ts) o
-        → AllOf (Of (λ p. place_tokens p.0 p.1) (IsLowPlace room) ts) o
-    from None h = tt
-    from (Some r) h = record { prints = h.prints; fine = (h.fits, h.low) }
+-- the arrow to the right at the front
+right_sound : (ts : Tokens)
+    → Sound (λ a. ts ≡ token.Symbol (print.right_symbol a) ∷ tail ts) (reading.right_arrow_at ts)
+right_sound = symbol_sound print.right_symbol reading.right_arrow_of right_symbol_all
+
+if_underscore : {B : Type 0} {Q : B → Type 0} {x y : Option B} (ts : Tokens)
+    → (ts ≡ token.Underscore ∷ tail ts → Sound Q x) → Sound Q y
+    → Sound Q (if begins_underscore ts then x else y)
+if_underscore ts h k = record {
+  all = if_all _ (begins_underscore ts) _ _ (λ e. (h (underscore_is ts e)).all) (λ e. k.all);
+}
+
+abbrev IsLowSlot : ℕ → Slot → Type 0
+IsLowSlot room s = shape.IsShapedSlot s × (height.slot_height s ≤ room)
+
+slot_sound : (room : ℕ) (ts : Tokens)
+    → Sound (Of print.slot_tokens (IsLowSlot room) ts) (reading.slot room ts)
+unfolding reading.slot
+slot_sound room ts =
+    if_underscore ts (λ is. reads (sym is) (tt, omega arith))
+    (and_then (place_of room ts) (λ p h. reads h.prints h.fine))
+
+abbrev IsLowTarget : ℕ → Target → Type 0
+IsLowTarget room t = shape.IsShapedTarget t × (height.target_height t ≤ room)
+
+target_sound : (room : ℕ) (ts : Tokens)
+    → Sound (Of print.target_tokens (IsLowTarget room) ts) (reading.target room ts)
+unfolding reading.target
+target_sound room ts =
+    if_underscore ts (λ is. reads (sym is) (tt, omega arith))
+    (and_then (enclosed_sound (several_sound (slot_sound room)) ts) (λ found h. reads h.prints
+    (list_low shape.IsShapedSlot height.slot_height room (2 ≤ length found.0) found.0 h.fine)))
+
+-- what is made of the elements of a tuple, one by one, prints as they do and is fine
+record AreMade {B : Type 0} (print_one : B → Tokens) (Fine : B → Type 0) (xs : List (Option Expr))
+    (ys : List B) : Type 0 where
+  further : print.further_tokens print_one ys ≡ print.further_tokens element_tokens xs
+  list : print.list_tokens print_one ys ≡ print.list_tokens element_tokens xs
+  many : length ys ≡ length xs
+  fine : shape.Each Fine ys
+
+each_made : {B : Type 0} {print_one : B → Tokens} {Fine : B → Type 0} {room : ℕ} {f : Option Expr
+    → Option B} → ((x : Option Expr) → FitsElement room x
+    → Sound (λ y. (print_one y ≡ element_tokens x) × Fine y) (f x))
+    → (xs : List (Option Expr)) → shape.Each (FitsElement room) xs
+    → Sound (AreMade print_one Fine xs) (reading.each_of f xs)
+each_made one [] fits = gives (record { further = refl; list = refl; many = refl; fine = tt })
+each_made one (x ∷ xs) fits =
+    and_then (one x fits.0) (λ y first. and_then (each_made one xs fits.1) (λ ys more.
+    gives (record {
+      further = rw (first.0, more.further) refl;
+      list = rw (first.0, more.further) refl;
+      many = rw more.many refl;
+      fine = (first.1, more.fine);
+    })))
+
+-- as values, and as slots
+element_value : (room : ℕ) (x : Option Expr) → FitsElement room x
+    → Sound (λ e. (print.tokens_of e ≡ element_tokens x) × IsLow room e) x
+element_value room None fits = record { all = tt }
+element_value room (Some e) fits = gives (refl, fits)
+
+element_slot : (room : ℕ) (x : Option Expr) → FitsElement room x
+    → Sound (λ s. (print.slot_tokens s ≡ element_tokens x) × IsLowSlot room s) (reading.slot_of x)
+element_slot room None fits = gives (refl, (tt, omega arith))
+element_slot room (Some (tree.Place name _ accessors)) fits = gives (refl, fits)
+element_slot room (Some _) fits = record { all = tt }
+
+-- so is a tuple that was read behind its `(`
+tuple_sound : {B : Type 0} {print_one : B → Tokens} {f : Option Expr → Option B} {room : ℕ}
+    {ts rest all : Tokens} (P : B → Type 0) (h : B → ℕ)
+    → ((x : Option Expr) → FitsElement room x
+    → Sound (λ y. (print_one y ≡ element_tokens x) × (P y × (h y ≤ room))) (f x))
+    → (xs : List (Option Expr)) → token.Symbol symbol.OpenParenthesis ∷ ts ≡ all
+    → IsTuple room ts xs rest
+    → Sound (λ ys. Of (λ ys. print.enclosed (print.list_tokens print_one ys))
+    (λ ys. ((2 ≤ length ys) × shape.Each P ys) × (height.highest h ys ≤ room)) all (ys, rest))
+    (reading.each_of f xs)
+tuple_sound {room = room} P h one xs is t =
+    sound_map (each_made one xs t.fine) (λ ys made. record {
+      prints = rw (append_assoc, made.list, t.prints) is;
+      fine = list_low P h room (2 ≤ length ys) ys (rw made.many t.some, made.fine);
+    })
+
+abbrev IsLowSource : ℕ → Source → Type 0
+IsLowSource room s = shape.IsShapedSource s × (height.source_height s ≤ room)
+
+one_group : (room : ℕ) (ts : Tokens) → Sound (IsGroup room ts) (group room ts)
+one_group room ts = record { all = group_sound room ts }
+
+sourced_sound : (room : ℕ) (ts rest all : Tokens) (g : Grouped)
+    → token.Symbol symbol.OpenParenthesis ∷ ts ≡ all → IsGrouped room ts g rest
+    → Sound (Of print.source_tokens (IsLowSource room) all) (reading.sourced g rest)
+sourced_sound room ts rest all (Whole e) is h = reads (h.prints ∙ is) (h.fits, h.low)
+sourced_sound room ts rest all (Tuple xs) is t =
+    and_then (tuple_sound (shape.Fits 1) height.height_of (element_value room) xs is t)
+    (λ es h. reads h.prints h.fine)
+
+source_sound : (room : ℕ) (ts : Tokens)
+    → Sound (Of print.source_tokens (IsLowSource room) ts) (reading.source room ts)
+unfolding reading.source
+source_sound room ts =
+    if_symbol symbol.OpenParenthesis ts
+    (λ opens. and_then (one_group room (tail ts)) (λ g h.
+    sourced_sound room (tail ts) g.1 ts g.0 (sym opens) h))
+    (and_then (one_sound room ts) (λ e h. reads h.prints h.fine))
+
+-- a target, an arrow and a source, or the other way round
+target_left : (room : ℕ) (t : Target) (arrow : Arrow) (all ts : Tokens)
+    → Of print.target_tokens (IsLowTarget room) all (t, ts)
+    → ts ≡ token.Symbol (print.left_symbol arrow) ∷ tail ts
+    → Sound (IsSimple room all) (made (tree.TargetLeft t arrow) (reading.source room (tail ts)))
+target_left room t arrow all ts left is =
+    and_then (source_sound room (tail ts)) (λ s right.
+    reads (rw (append_assoc, right.prints, ← is) left.prints)
+    ((left.fine.0, right.fine.0), omega (arith, left.fine.1, right.fine.1)))
+
+target_right : (room : ℕ) (s : Source) (arrow : Arrow) (all ts : Tokens)
+    → Of print.source_tokens (IsLowSource room) all (s, ts)
+    → ts ≡ token.Symbol (print.right_symbol arrow) ∷ tail ts
+    → Sound (IsSimple room all) (made (tree.TargetRight s arrow) (reading.target room (tail ts)))
+target_right room s arrow all ts left is =
+    and_then (target_sound room (tail ts)) (λ t right.
+    reads (rw (append_assoc, right.prints, ← is) left.prints)
+    ((left.fine.0, right.fine.0), omega (arith, left.fine.1, right.fine.1)))
+
+-- what stands behind a first expression that was read
+abbrev IsLeft : ℕ → Tokens → Expr × Tokens → Type 0
+IsLeft room all = Of print.tokens_of (IsLow room) all
+
+rightwards_sound : (room : ℕ) (left : Expr) (arrow : Arrow) (all ts : Tokens)
+    → IsLeft room all (left, ts) → ts ≡ token.Symbol (print.right_symbol arrow) ∷ tail ts
+    → Sound (IsSimple room all) (reading.rightwards room left arrow (tail ts))
+rightwards_sound room left arrow all ts h is =
+    let to_target =
+    target_right room (tree.One left) arrow all ts (record { prints = h.prints; fine = h.fine }) is
+    in if_underscore (tail ts) (λ discards. to_target)
+    (if_symbol symbol.OpenParenthesis (tail ts) (λ opens. to_target)
+    (and_then (place_of room (tail ts)) (λ p right.
+    reads (rw (append_assoc, right.prints, ← is) h.prints)
+    ((h.fine.0, right.fine.0), omega (arith, h.fine.1, right.fine.1)))))
+
+leftwards_sound : (room : ℕ) (left : Expr) (all ts : Tokens) → IsLeft room all (left, ts)
+    → Sound (IsSimple room all) (reading.leftwards room left ts)
+leftwards_sound room (tree.Place name _ accessors) all ts h =
+    and_then (assignment_sound room name accessors all ts
+    (record { prints = h.prints; fine = h.fine })) (λ a is. reads is.prints is.fine)
+leftwards_sound room (tree.Anonymous parallel name _ arguments inputs) all ts h =
+    reads h.prints h.fine
+leftwards_sound room _ all ts h = record { all = tt }
+
+equation_sound : (room : ℕ) (left : Expr) (all ts : Tokens) → IsLeft room all (left, ts)
+    → Sound (IsSimple room all) (reading.equation room left ts)
+unfolding reading.equation
+equation_sound room left all ts h =
+    if_symbol symbol.Constrain ts
+    (λ is. and_then (one_sound room (tail ts)) (λ e right.
+    reads (rw (append_assoc, right.prints, ← is) h.prints)
+    ((h.fine.0, right.fine.0), omega (arith, h.fine.1, right.fine.1))))
+    (or_else (right_sound ts) (leftwards_sound room left all ts h)
+    (λ arrow is. rightwards_sound room left arrow all ts h is))
+
+tupled_sound : (room : ℕ) (xs : List (Option Expr)) (ts rest all : Tokens)
+    → token.Symbol symbol.OpenParenthesis ∷ ts ≡ all → IsTuple room ts xs rest
+    → Sound (IsSimple room all) (reading.tupled room xs rest)
+unfolding reading.tupled
+tupled_sound room xs ts rest all is t =
+    or_else (arrow_sound rest)
+    (and_then (right_sound rest) (λ arrow ahead.
+    and_then (tuple_sound (shape.Fits 1) height.height_of (element_value room) xs is t)
+    (λ es h. target_right room (tree.Values es) arrow all rest
+    (record { prints = h.prints; fine = h.fine }) ahead)))
+    (λ arrow ahead.
+    and_then (tuple_sound shape.IsShapedSlot height.slot_height (element_slot room) xs is t)
+    (λ ss h. target_left room (tree.Slots ss) arrow all rest
+    (record { prints = h.prints; fine = h.fine }) ahead))
+
+behind_group_sound : (room : ℕ) (g : Grouped) (ts rest all : Tokens)
+    → token.Symbol symbol.OpenParenthesis ∷ ts ≡ all → IsGrouped room ts g rest
+    → Sound (IsSimple room all) (reading.behind_group room g rest)
+behind_group_sound room (Whole e) ts rest all is h =
+    equation_sound room e all rest (record { prints = h.prints ∙ is; fine = (h.fits, h.low) })
+behind_group_sound room (Tuple xs) ts rest all is t = tupled_sound room xs ts rest all is t
+
+simple_of : (room : ℕ) (ts : Tokens) → Sound (IsSimple room ts) (reading.simple room ts)
+unfolding reading.simple
+simple_of room ts =
+    if_word word.Var ts
+    (λ is. and_then (listed_sound (variable_of room) (tail ts)) (λ found h.
+    reads (rw (h.prints, ← is) refl)
+    (list_low shape.IsShapedVariable height.variable_height room (found.0 ≢ []) found.0 h.fine)))
+    (if_word word.Signal ts (λ is. signals_sound room ts (tail ts) (sym is))
+    (if_word word.Component ts (λ is. components_sound room ts (tail ts) (sym is))
+    (if_underscore ts
+    (λ is. and_then (arrow_sound (tail ts)) (λ arrow ahead.
+    target_left room tree.Discard arrow ts (tail ts)
+    (record { prints = sym is; fine = (tt, omega arith) }) ahead))
+    (if_symbol symbol.OpenParenthesis ts
+    (λ opens. and_then (one_group room (tail ts)) (λ g h.
+    behind_group_sound room g.0 (tail ts) g.1 ts (sym opens) h))
+    (and_then (one_sound room ts) (λ left h. equation_sound room left.0 ts left.1 h))))))
+
+pub simple_sound : (room : ℕ) (ts : Tokens)
+    → AllOf (Of print.simple_tokens (IsLowSimple room) ts) (reading.simple room ts)
+simple_sound room ts = (simple_of room ts).all

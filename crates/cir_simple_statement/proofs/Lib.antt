@@ -2,7 +2,6 @@ pub mod Declared
 pub mod Parts
 pub mod Seen
 pub mod Steps
-pub mod Tuples
 pub mod Undone
 pub mod Unwritten
 pub mod Written

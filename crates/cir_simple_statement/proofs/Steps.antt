@@ -1,19 +1,18 @@
 -- The turns of reading lists, where a number stands in place of its successor.
 use Rattle.std.proofs.Common.{◌≡◌, ℕ, zero, suc, ◌-◌, ◌<◌, List, [], ◌∷◌, ◌++◌, length, Option}
 use Rattle.std.proofs.Common.{Some, None, Result, Ok, Err, true, false, refl, ap, ◌∙◌, sym, arith}
-use Rattle.std.proofs.Common.{sub-one, subst}
-use Rattle.std.specs.Prelude.{IsErrAnd, if◌then◌else◌}
-use Rattle.cir_token.specs.declared.token.Symbol.TheVariants.{Comma, OpenBracket, CloseBracket}
-use Rattle.cir_ast.specs.Plain.{PlainExpr as Expr}
-use Rattle.cir_expression.specs.declared.reader.Stop.{Stop}
-use Rattle.cir_expression.specs.declared.reader.Stop.TheVariants.{NoTree, OutOfMemory}
+use Rattle.std.proofs.Common.{sub-one, subst, append_assoc, append-nil}
+use Rattle.std.specs.Prelude.{IsErrAnd}
+use Rattle.cir_token.specs.declared.token.Symbol.TheVariants.{Comma}
+use Rattle.cir_token.specs.declared.token.Symbol.{Symbol}
 use Rattle.cir_token.specs.declared.token.Token.{Token}
 use Rattle.std.proofs.lemmas.List.{length-map}
-use Rattle.cir_expression.specs.Reading.{expression}
+use Rattle.cir_expression.specs.declared.reader.Stop.{Stop}
+use Rattle.cir_expression.specs.declared.reader.Stop.TheVariants.{NoTree, OutOfMemory}
 use Rattle.cir_expression.specs.Answers.{Stops, Reads, kinds}
-use Rattle.cir_expression.specs.Front.{Tokens, next, tail, begins, behind}
-use Rattle.cir_simple_statement.specs.Front.{after, closed, separated_by, separated}
-use Rattle.cir_simple_statement.specs.Reading.{dimensions_by, dimensions}
+use Rattle.cir_expression.specs.Front.{Tokens, next, tail, begins}
+use Rattle.cir_simple_statement.specs.Front.{parted_by, separated_by, separated}
+use Rattle.cir_simple_statement.specs.Reading.{each_of}
 
 -- a refusal that is handed on
 pub exits : {X Y : Type 0} (view : X → Y) (r : Result X Stop) (stop : Stop) (rest : Tokens)
@@ -26,10 +25,6 @@ pub refused_by : {A : Type 0} (stop : Stop) (reading other : Option A) → readi
     → Stops stop other → Stops stop reading
 refused_by NoTree reading other e s = e ∙ s
 refused_by OutOfMemory reading other e s = tt
-
-pub next_is : {A B : Type 0} (o : Option A) (x : A) (go : A → Option B) → o ≡ Some x
-    → next o go ≡ go x
-next_is o x go e = ap (λ (o : Option _). next o go) e
 
 pub next_stops : {A B : Type 0} (stop : Stop) (o : Option A) (go : A → Option B) → Stops stop o
     → Stops stop (next o go)
@@ -45,121 +40,67 @@ unfolding separated
 begun_list read ts =
     ap (λ (n : ℕ). separated_by n read [] (kinds ts)) (length-map ts (λ t. t.kind) ∙ minus_none)
 
-pub begun_dimensions : (room : ℕ) (ts : List Token)
-    → dimensions room (kinds ts) ≡ dimensions_by (length ts - 0) (expression room) [] (kinds ts)
-unfolding dimensions
-begun_dimensions room ts =
-    ap (λ (n : ℕ). dimensions_by n (expression room) [] (kinds ts)) (length-map ts (λ t. t.kind)
-    ∙ minus_none)
+pub none_parted : {A : Type 0} (mark : Symbol) (stop : Stop) (n : ℕ)
+    (read : Tokens → Option (A × Tokens)) (before : List A) (ts : Tokens)
+    (all : Option (List A × Tokens)) → 0 < n
+    → all ≡ parted_by mark n read before ts → Stops stop (read ts) → Stops stop all
+none_parted mark OutOfMemory n read before ts all h e s = tt
+none_parted mark NoTree zero read before ts all h e s = absurd (omega arith)
+none_parted mark NoTree (suc n) read before ts all h e s = e ∙ rw s refl
 
--- what stands behind an element
-abbrev after_one : {A : Type 0} → ℕ → (Tokens → Option (A × Tokens)) → List A → A × Tokens
-    → Option (List A × Tokens)
-after_one n read before x = if begins Comma x.1
-    then separated_by n read (before ++ x.0 ∷ []) (tail x.1) else Some (before ++ x.0 ∷ [], x.1)
+pub last_parted : {A : Type 0} (mark : Symbol) (n : ℕ) (read : Tokens → Option (A × Tokens))
+    (before : List A) (ts rest : Tokens) (x : A) (all : Option (List A × Tokens)) → 0 < n
+    → all ≡ parted_by mark n read before ts → read ts ≡ Some (x, rest) → begins mark rest ≡ false
+    → all ≡ Some (before ++ x ∷ [], rest)
+last_parted mark zero read before ts rest x all h e one none = absurd (omega arith)
+last_parted mark (suc n) read before ts rest x all h e one none = e ∙ rw (one, none) refl
 
-separated_is : {A : Type 0} (n : ℕ) (read : Tokens → Option (A × Tokens)) (before : List A)
-    (ts : Tokens) → 0 < n
-    → separated_by n read before ts ≡ next (read ts) (after_one (n - 1) read before)
-separated_is zero read before ts h = absurd (omega arith)
-separated_is (suc n) read before ts h = rw sub-one refl
+pub more_parted : {A : Type 0} (mark : Symbol) (n m : ℕ) (read : Tokens → Option (A × Tokens))
+    (before : List A) (ts rest : Tokens) (x : A) (all : Option (List A × Tokens)) → 0 < n
+    → n - 1 ≡ m → all ≡ parted_by mark n read before ts → read ts ≡ Some (x, rest)
+    → begins mark rest ≡ true → all ≡ parted_by mark m read (before ++ x ∷ []) (tail rest)
+more_parted mark zero m read before ts rest x all h same e one marked = absurd (omega arith)
+more_parted mark (suc n) m read before ts rest x all h same e one marked =
+    e ∙ rw (one, marked, ← same, sub-one) refl
 
-one_is : {A : Type 0} (n : ℕ) (read : Tokens → Option (A × Tokens)) (before : List A)
-    (ts rest : Tokens) (x : A) → 0 < n → read ts ≡ Some (x, rest)
-    → separated_by n read before ts ≡ after_one (n - 1) read before (x, rest)
-one_is n read before ts rest x h e =
-    separated_is n read before ts h ∙ next_is (read ts) (x, rest) (after_one (n - 1) read before) e
+pub no_element_left : {A : Type 0} (mark : Symbol) (n : ℕ) (read : Tokens → Option (A × Tokens))
+    (before : List A) (ts : Tokens) → n ≡ 0 → parted_by mark n read before ts ≡ None
+no_element_left mark n read before ts h = ap (λ (n : ℕ). parted_by mark n read before ts) h
 
-last_is : {A : Type 0} (n : ℕ) (read : Tokens → Option (A × Tokens)) (before : List A)
-    (rest : Tokens) (x : A) → begins Comma rest ≡ false
-    → after_one n read before (x, rest) ≡ Some (before ++ x ∷ [], rest)
-last_is n read before rest x e = rw e refl
-
-more_is : {A : Type 0} (n : ℕ) (read : Tokens → Option (A × Tokens)) (before : List A)
-    (rest : Tokens) (x : A) → begins Comma rest ≡ true
-    → after_one n read before (x, rest) ≡ separated_by n read (before ++ x ∷ []) (tail rest)
-more_is n read before rest x e = rw e refl
-
+-- so with commas
 pub no_element : {A : Type 0} (stop : Stop) (n : ℕ) (read : Tokens → Option (A × Tokens))
     (before : List A) (ts : Tokens) (all : Option (List A × Tokens)) → 0 < n
     → all ≡ separated_by n read before ts → Stops stop (read ts) → Stops stop all
-no_element stop n read before ts all h e s =
-    refused_by stop all _ (e ∙ separated_is n read before ts h)
-    (next_stops stop (read ts) (after_one (n - 1) read before) s)
+no_element = none_parted Comma
 
 pub last_element : {A : Type 0} (n : ℕ) (read : Tokens → Option (A × Tokens)) (before : List A)
     (ts rest : Tokens) (x : A) (all : Option (List A × Tokens)) → 0 < n
     → all ≡ separated_by n read before ts → read ts ≡ Some (x, rest) → begins Comma rest ≡ false
     → all ≡ Some (before ++ x ∷ [], rest)
-last_element n read before ts rest x all h e one comma =
-    e ∙ one_is n read before ts rest x h one ∙ last_is (n - 1) read before rest x comma
+last_element = last_parted Comma
 
 pub more_elements : {A : Type 0} (n m : ℕ) (read : Tokens → Option (A × Tokens)) (before : List A)
     (ts rest : Tokens) (x : A) (all : Option (List A × Tokens)) → 0 < n → n - 1 ≡ m
     → all ≡ separated_by n read before ts → read ts ≡ Some (x, rest) → begins Comma rest ≡ true
     → all ≡ separated_by m read (before ++ x ∷ []) (tail rest)
-more_elements n m read before ts rest x all h same e one comma =
-    e ∙ one_is n read before ts rest x h one ∙ more_is (n - 1) read before rest x comma
-    ∙ ap (λ (k : ℕ). separated_by k read (before ++ x ∷ []) (tail rest)) same
+more_elements = more_parted Comma
 
-pub no_element_left : {A : Type 0} (n : ℕ) (read : Tokens → Option (A × Tokens)) (before : List A)
-    (ts : Tokens) → n ≡ 0 → separated_by n read before ts ≡ None
-no_element_left n read before ts h = ap (λ (n : ℕ). separated_by n read before ts) h
+-- these and more, if there are more
+abbrev pub with_before : {B : Type 0} → List B → Option (List B) → Option (List B)
+with_before before more = next more (λ ys. Some (before ++ ys))
 
-pub no_dimension : (n : ℕ) (read : Tokens → Option (Expr × Tokens)) (before : List Expr)
-    (ts : Tokens) (all : Option (List Expr × Tokens))
-    → all ≡ dimensions_by n read before ts → begins OpenBracket ts ≡ false → all ≡ Some (before, ts)
-no_dimension zero read before ts all e none = e
-no_dimension (suc n) read before ts all e none = e ∙ rw none refl
+one_more : {B : Type 0} (before : List B) (y : B) (more : Option (List B))
+    → with_before before (next more (λ ys. Some (y ∷ ys))) ≡ with_before (before ++ y ∷ []) more
+one_more before y None = refl
+one_more before y (Some ys) = ap (λ (zs : List _). Some zs) (sym (append_assoc before (y ∷ []) ys))
 
-dimension_is : (n : ℕ) (read : Tokens → Option (Expr × Tokens)) (before : List Expr) (ts : Tokens)
-    → 0 < n → begins OpenBracket ts ≡ true
-    → dimensions_by n read before ts
-    ≡ next (closed CloseBracket (read (tail ts)))
-    (λ e. dimensions_by (n - 1) read (before ++ e.0 ∷ []) e.1)
-dimension_is zero read before ts h e = absurd (omega arith)
-dimension_is (suc n) read before ts h e = rw (e, sub-one) refl
+pub keeps : {A B : Type 0} (f : A → Option B) (before : List B) (rest more : List A) (x : A) (y : B)
+    (all : Option (List B)) → all ≡ with_before before (each_of f rest)
+    → rest ≡ x ∷ more → f x ≡ Some y → all ≡ with_before (before ++ y ∷ []) (each_of f more)
+keeps f before rest more x y all h e is =
+    h ∙ rw (e, is) (one_more before y (each_of f more))
 
-closed_is : {A : Type 0} (found : Option (A × Tokens)) (x : A) (rest after : Tokens)
-    → found ≡ Some (x, rest) → behind CloseBracket rest ≡ Some after
-    → closed CloseBracket found ≡ Some (x, after)
-closed_is found x rest after e b = rw (e, b) refl
-
-closed_stops : {A : Type 0} (stop : Stop) (found : Option (A × Tokens)) (x : A) (rest : Tokens)
-    → found ≡ Some (x, rest) → Stops stop (behind CloseBracket rest)
-    → Stops stop (closed CloseBracket found)
-closed_stops NoTree found x rest e b = rw (e, b) refl
-closed_stops OutOfMemory found x rest e b = tt
-
-pub unread_dimension : (stop : Stop) (n : ℕ) (read : Tokens → Option (Expr × Tokens))
-    (before : List Expr) (ts : Tokens) (all : Option (List Expr × Tokens)) → 0 < n
-    → all ≡ dimensions_by n read before ts → begins OpenBracket ts ≡ true
-    → Stops stop (read (tail ts)) → Stops stop all
-unread_dimension stop n read before ts all h e opens s =
-    refused_by stop all _ (e ∙ dimension_is n read before ts h opens)
-    (next_stops stop (closed CloseBracket (read (tail ts)))
-    (λ e. dimensions_by (n - 1) read (before ++ e.0 ∷ []) e.1)
-    (next_stops stop (read (tail ts))
-    (λ x. next (behind CloseBracket x.1) (λ rest. Some (x.0, rest))) s))
-
-pub open_dimension : (stop : Stop) (n : ℕ) (read : Tokens → Option (Expr × Tokens))
-    (before : List Expr) (ts rest : Tokens) (x : Expr) (all : Option (List Expr × Tokens)) → 0 < n
-    → all ≡ dimensions_by n read before ts → begins OpenBracket ts ≡ true
-    → read (tail ts) ≡ Some (x, rest) → Stops stop (behind CloseBracket rest) → Stops stop all
-open_dimension stop n read before ts rest x all h e opens one s =
-    refused_by stop all _ (e ∙ dimension_is n read before ts h opens)
-    (next_stops stop (closed CloseBracket (read (tail ts)))
-    (λ e. dimensions_by (n - 1) read (before ++ e.0 ∷ []) e.1)
-    (closed_stops stop (read (tail ts)) x rest one s))
-
-pub one_dimension : (n m : ℕ) (read : Tokens → Option (Expr × Tokens)) (before : List Expr)
-    (ts rest after : Tokens) (x : Expr) (all : Option (List Expr × Tokens)) → 0 < n → n - 1 ≡ m
-    → all ≡ dimensions_by n read before ts → begins OpenBracket ts ≡ true
-    → read (tail ts) ≡ Some (x, rest) → behind CloseBracket rest ≡ Some after
-    → all ≡ dimensions_by m read (before ++ x ∷ []) after
-one_dimension n m read before ts rest after x all h same e opens one close =
-    e ∙ dimension_is n read before ts h opens
-    ∙ next_is (closed CloseBracket (read (tail ts))) (x, after)
-    (λ e. dimensions_by (n - 1) read (before ++ e.0 ∷ []) e.1)
-    (closed_is (read (tail ts)) x rest after one close)
-    ∙ ap (λ (k : ℕ). dimensions_by k read (before ++ x ∷ []) after) same
+pub ends : {A B : Type 0} (f : A → Option B) (before : List B) (rest : List A)
+    (all : Option (List B)) → all ≡ with_before before (each_of f rest) → rest ≡ []
+    → all ≡ Some before
+ends f before rest all h e = h ∙ rw (e, append-nil) refl

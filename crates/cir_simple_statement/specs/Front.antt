@@ -26,15 +26,20 @@ made make found = next found (λ x. Some (make x.0, x.1))
 abbrev pub enclosed : {A : Type 0} → (Tokens → Option (A × Tokens)) → Tokens → Option (A × Tokens)
 enclosed read ts = closed symbol.CloseParenthesis (after symbol.OpenParenthesis read ts)
 
--- one or more with commas between them, so many at most, behind those that were read before
+-- one or more with this symbol between them, so many at most, behind those that were read before
+abbrev pub parted_by : {A : Type 0} → Symbol → ℕ → (Tokens → Option (A × Tokens)) → List A → Tokens
+    → Option (List A × Tokens)
+parted_by s zero read before ts = None
+parted_by s (suc n) read before ts =
+    next (read ts) (λ x.
+    if begins s x.1
+    then parted_by s n read (before ++ x.0 ∷ []) (tail x.1)
+    else Some (before ++ x.0 ∷ [], x.1))
+
+-- with commas
 abbrev pub separated_by : {A : Type 0} → ℕ → (Tokens → Option (A × Tokens)) → List A → Tokens
     → Option (List A × Tokens)
-separated_by zero read before ts = None
-separated_by (suc n) read before ts =
-    next (read ts) (λ x.
-    if begins symbol.Comma x.1
-    then separated_by n read (before ++ x.0 ∷ []) (tail x.1)
-    else Some (before ++ x.0 ∷ [], x.1))
+separated_by = parted_by symbol.Comma
 
 unfoldable pub separated : {A : Type 0} → (Tokens → Option (A × Tokens)) → Tokens
     → Option (List A × Tokens)

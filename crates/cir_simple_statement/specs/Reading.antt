@@ -1,13 +1,13 @@
 -- How declarations and assignments are read, as functions of their tokens. The number `room` is the
 -- height that an expression inside may have.
-use Rattle.std.specs.Prelude.{ℕ, zero, suc, if◌then◌else◌, List, [], ◌∷◌, ◌++◌, length, Option}
-use Rattle.std.specs.Prelude.{Some, None}
+use Rattle.std.specs.Prelude.{ℕ, if◌then◌else◌, List, [], ◌∷◌, length, Option, Some, None}
 use Rattle.cir_token.specs.declared.token.TokenKind.TheVariants as token
 use Rattle.cir_token.specs.declared.token.Reserved.TheVariants as word
 use Rattle.cir_token.specs.declared.token.Symbol.{Symbol}
 use Rattle.cir_token.specs.declared.token.Symbol.TheVariants as symbol
 use Rattle.cir_ast.specs.declared.operators.Compound.{Compound as CompoundOp}
 use Rattle.cir_ast.specs.declared.operators.Compound.TheVariants as compound
+use Rattle.cir_ast.specs.declared.operators.Direction.{Direction}
 use Rattle.cir_ast.specs.declared.operators.Direction.TheVariants as direction
 use Rattle.cir_ast.specs.declared.operators.Arrow.{Arrow}
 use Rattle.cir_ast.specs.declared.operators.Arrow.TheVariants as arrows
@@ -24,24 +24,18 @@ use Rattle.cir_expression.specs.Front.{Tokens, next, otherwise, tail, begins, be
 use Rattle.cir_expression.specs.Front.{begins_word, name_at}
 use Rattle.cir_expression.specs.Reading.{expression, place, arguments, arrow_at, group, Grouped}
 use Rattle.cir_expression.specs.Reading.{Whole, Tuple}
-use Rattle.cir_simple_statement.specs.Front.{closed, made, enclosed, separated, several}
+use Rattle.cir_simple_statement.specs.Front.{closed, made, enclosed, parted_by, separated, several}
 
--- each in brackets, so many at most, behind those that were read before
-abbrev pub dimensions_by : ℕ → (Tokens → Option (Expr × Tokens)) → List Expr → Tokens
-    → Option (List Expr × Tokens)
-dimensions_by zero read before ts = Some (before, ts)
-dimensions_by (suc n) read before ts =
-    if begins symbol.OpenBracket ts
-    then next (closed symbol.CloseBracket (read (tail ts)))
-    (λ e. dimensions_by n read (before ++ e.0 ∷ []) e.1)
-    else Some (before, ts)
+-- an expression, and `]` behind it
+abbrev pub dimension : ℕ → Tokens → Option (Expr × Tokens)
+dimension room ts = closed symbol.CloseBracket (expression room ts)
 
+-- expressions, each in brackets
 unfoldable pub dimensions : ℕ → Tokens → Option (List Expr × Tokens)
-dimensions room ts = dimensions_by (length ts) (expression room) [] ts
-
-abbrev pub variable_of : List ℕ → List Expr → Option Expr → Variable
-variable_of name dimensions value =
-    record { name = name; meant = tt; dimensions = as_exprs dimensions; value = value }
+dimensions room ts =
+    if begins symbol.OpenBracket ts
+    then parted_by symbol.OpenBracket (length (tail ts)) (dimension room) [] (tail ts)
+    else Some ([], ts)
 
 abbrev pub value : ℕ → Tokens → Option (Option Expr × Tokens)
 value room ts = if begins symbol.Equal ts then made (λ e. Some e) (expression room (tail ts))
@@ -51,11 +45,8 @@ unfoldable pub variable : ℕ → Tokens → Option (Variable × Tokens)
 variable room ts =
     next (name_at ts)
     (λ name. next (dimensions room name.1)
-    (λ found. next (value room found.1) (λ v. Some (variable_of name.0 found.0 v.0, v.1))))
-
-abbrev pub signal_of : List ℕ → List Expr → SignalValue → Signal
-signal_of name dimensions value =
-    record { name = name; meant = tt; dimensions = as_exprs dimensions; value = value }
+    (λ found. next (value room found.1) (λ v.
+    Some (record { name = name.0; meant = tt; dimensions = as_exprs found.0; value = v.0 }, v.1))))
 
 abbrev pub signal_value : ℕ → Tokens → Option (SignalValue × Tokens)
 signal_value room ts =
@@ -66,25 +57,25 @@ unfoldable pub signal : ℕ → Tokens → Option (Signal × Tokens)
 signal room ts =
     next (name_at ts)
     (λ name. next (dimensions room name.1)
-    (λ found. next (signal_value room found.1)
-    (λ v. Some (signal_of name.0 found.0 v.0, v.1))))
-
-abbrev pub component_of : List ℕ → List Expr → Component
-component_of name dimensions = record { name = name; meant = tt; dimensions = as_exprs dimensions }
+    (λ found. next (signal_value room found.1) (λ v.
+    Some (record { name = name.0; meant = tt; dimensions = as_exprs found.0; value = v.0 }, v.1))))
 
 unfoldable pub component : ℕ → Tokens → Option (Component × Tokens)
 component room ts =
     next (name_at ts)
-    (λ name. next (dimensions room name.1) (λ found. Some (component_of name.0 found.0, found.1)))
+    (λ name. next (dimensions room name.1) (λ found.
+    Some (record { name = name.0; meant = tt; dimensions = as_exprs found.0 }, found.1)))
+
+-- the word behind `signal`, and what stands behind it
+abbrev pub direction_at : Tokens → Direction × Tokens
+direction_at ts =
+    if begins_word word.Input ts then (direction.Input, tail ts) else
+    (if begins_word word.Output ts then (direction.Output, tail ts) else (direction.Inner, ts))
 
 -- what stands behind `signal`
 unfoldable pub signals : ℕ → Tokens → Option (Simple × Tokens)
 signals room ts =
-    if begins_word word.Input ts
-    then made (Signals direction.Input) (separated (signal room) (tail ts)) else
-    (if begins_word word.Output ts
-    then made (Signals direction.Output) (separated (signal room) (tail ts)) else
-    made (Signals direction.Inner) (separated (signal room) ts))
+    made (Signals (direction_at ts).0) (separated (signal room) (direction_at ts).1)
 
 -- what stands behind `component`
 unfoldable pub components : ℕ → Tokens → Option (Simple × Tokens)
@@ -109,12 +100,16 @@ compound_of symbol.BarEqual = Some compound.Or
 compound_of symbol.CaretEqual = Some compound.Xor
 compound_of _ = None
 
+-- what the symbol at the front means
+abbrev pub symbol_at : {A : Type 0} → (Symbol → Option A) → Tokens → Option A
+symbol_at meaning (token.Symbol s ∷ ts) = meaning s
+symbol_at meaning _ = None
+
 abbrev pub compound_at : Tokens → Option CompoundOp
-compound_at (token.Symbol s ∷ ts) = compound_of s
-compound_at _ = None
+compound_at = symbol_at compound_of
 
 -- what writes this place by a symbol that stands for an operation
-unfoldable pub operation : ℕ → List ℕ → Accessors → Tokens → Option (Assign × Tokens)
+abbrev pub operation : ℕ → List ℕ → Accessors → Tokens → Option (Assign × Tokens)
 operation room name accessors ts =
     if begins symbol.PlusPlus ts then Some (Increment name tt accessors, tail ts) else
     (if begins symbol.MinusMinus ts then Some (Decrement name tt accessors, tail ts) else
@@ -137,8 +132,7 @@ right_arrow_of symbol.ConstrainRight = Some arrows.Constrain
 right_arrow_of _ = None
 
 abbrev pub right_arrow_at : Tokens → Option Arrow
-right_arrow_at (token.Symbol s ∷ ts) = right_arrow_of s
-right_arrow_at _ = None
+right_arrow_at = symbol_at right_arrow_of
 
 unfoldable pub slot : ℕ → Tokens → Option (Slot × Tokens)
 slot room ts =
@@ -183,14 +177,14 @@ source room ts =
     else made One (expression room ts)
 
 -- where a value goes: to a place or to a target
-unfoldable pub rightwards : ℕ → Expr → Arrow → Tokens → Option (Simple × Tokens)
+abbrev pub rightwards : ℕ → Expr → Arrow → Tokens → Option (Simple × Tokens)
 rightwards room e arrow ts =
     if begins_underscore ts then made (TargetRight (One e) arrow) (target room ts) else
     (if begins symbol.OpenParenthesis ts then made (TargetRight (One e) arrow) (target room ts) else
     made (λ p. Right e arrow p.0 tt p.1) (place room ts))
 
 -- what begins with an expression and goes on with no arrow to the right and no `===`
-unfoldable pub leftwards : ℕ → Expr → Tokens → Option (Simple × Tokens)
+abbrev pub leftwards : ℕ → Expr → Tokens → Option (Simple × Tokens)
 leftwards room (Place name _ accessors) ts = made Assigned (assignment room name accessors ts)
 leftwards room (Anonymous parallel name _ arguments inputs) ts =
     Some (Alone parallel name tt arguments inputs, ts)
@@ -203,18 +197,14 @@ equation room left ts =
     otherwise (right_arrow_at ts) (leftwards room left ts)
     (λ arrow. rightwards room left arrow (tail ts))
 
--- what stands behind a tuple of values
-abbrev pub valued : ℕ → List (Option Expr) → Tokens → Option (Simple × Tokens)
-valued room elements ts =
-    next (right_arrow_at ts)
-    (λ arrow. next (values_of elements)
-    (λ es. made (TargetRight (Values es) arrow) (target room (tail ts))))
-
 -- what stands behind a tuple that begins a statement: the arrow says whether it is a target or a
 -- source
 unfoldable pub tupled : ℕ → List (Option Expr) → Tokens → Option (Simple × Tokens)
 tupled room elements ts =
-    otherwise (arrow_at ts) (valued room elements ts)
+    otherwise (arrow_at ts)
+    (next (right_arrow_at ts)
+    (λ arrow. next (values_of elements)
+    (λ es. made (TargetRight (Values es) arrow) (target room (tail ts)))))
     (λ arrow. next (slots_of elements)
     (λ slots. made (TargetLeft (Slots slots) arrow) (source room (tail ts))))
 
@@ -224,20 +214,16 @@ behind_group room (Whole e) ts = equation room e ts
 behind_group room (Tuple elements) ts = tupled room elements ts
 
 -- what stands behind `_`
-unfoldable pub discarded : ℕ → Tokens → Option (Simple × Tokens)
+abbrev pub discarded : ℕ → Tokens → Option (Simple × Tokens)
 discarded room ts =
     next (arrow_at ts) (λ arrow. made (TargetLeft Discard arrow) (source room (tail ts)))
-
--- a simple statement that begins with no word of its own
-unfoldable pub written : ℕ → Tokens → Option (Simple × Tokens)
-written room ts =
-    if begins_underscore ts then discarded room (tail ts) else
-    (if begins symbol.OpenParenthesis ts
-    then next (group room (tail ts)) (λ g. behind_group room g.0 g.1) else
-    next (expression room ts) (λ left. equation room left.0 left.1))
 
 unfoldable pub simple : ℕ → Tokens → Option (Simple × Tokens)
 simple room ts =
     if begins_word word.Var ts then made Vars (separated (variable room) (tail ts)) else
     (if begins_word word.Signal ts then signals room (tail ts) else
-    (if begins_word word.Component ts then components room (tail ts) else written room ts))
+    (if begins_word word.Component ts then components room (tail ts) else
+    (if begins_underscore ts then discarded room (tail ts) else
+    (if begins symbol.OpenParenthesis ts
+    then next (group room (tail ts)) (λ g. behind_group room g.0 g.1) else
+    next (expression room ts) (λ left. equation room left.0 left.1)))))

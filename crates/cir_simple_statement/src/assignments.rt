@@ -3,65 +3,69 @@ ghost use Rattle.std.specs.Prelude.{◌≡◌, ◌<◌, ◌^◌};
 ghost use Rattle.cir_ast.specs.Tree.{place_accessors};
 ghost use Rattle.cir_ast.specs.Plain.{plain_accessors};
 ghost use Rattle.cir_expression.specs.Answers.{kinds, Reads, seen};
-ghost use Rattle.cir_simple_statement.specs.Reading.{compound_of, compound_at, operation};
-ghost use Rattle.cir_simple_statement.specs.Reading.{assignment, assign, leftwards, rightwards};
-ghost use Rattle.cir_simple_statement.specs.Reading.{equation, written, simple};
+ghost use Rattle.cir_simple_statement.specs.Reading.{compound_at, assignment, assign};
+ghost use Rattle.cir_simple_statement.specs.Reading.{equation, simple};
 ghost use Rattle.cir_simple_statement.specs.Answers.{seen_assign, seen_simple};
 
-use crate::declarations::{components, signals, variables};
-use crate::targets::{discarded, grouped, right_arrow, target};
+use crate::declarations::{components, signals};
+use crate::lists::{Read, separated};
+use crate::targets::{grouped, right_arrow, source, target};
 use cir_ast::Blank;
-use cir_ast::marked::{Arrow, Assign, Compound, Expr, Place, Simple, Source, Vars};
+use cir_ast::marked::{Assign, Compound, Expr, Place, Simple, Source, Target, Vars};
 use cir_expression::{Reader, Stop, tight};
 use cir_token::{Reserved, Symbol, TokenKind};
 use std::alloc::Global;
 
-// The operation of a symbol such as `+=`.
-fn compound_of(symbol: Symbol) -> Option<Compound>
-    ensures { result ≡ compound_of symbol }
-{
-    match symbol {
-        Symbol::StarStarEqual => Some(Compound::Pow),
-        Symbol::ShiftLeftEqual => Some(Compound::ShiftLeft),
-        Symbol::ShiftRightEqual => Some(Compound::ShiftRight),
-        Symbol::PlusEqual => Some(Compound::Add),
-        Symbol::MinusEqual => Some(Compound::Sub),
-        Symbol::StarEqual => Some(Compound::Mul),
-        Symbol::SlashEqual => Some(Compound::Div),
-        Symbol::BackslashEqual => Some(Compound::Quotient),
-        Symbol::PercentEqual => Some(Compound::Remainder),
-        Symbol::AmpersandEqual => Some(Compound::And),
-        Symbol::BarEqual => Some(Compound::Or),
-        Symbol::CaretEqual => Some(Compound::Xor),
-        _ => None,
-    }
-}
-
+// The operation of the symbol at the front, such as `+=`.
 fn compound(reader: &Reader) -> Option<Compound>
     ensures { result ≡ compound_at (kinds reader.now.rest.now) }
 {
     match reader.rest.first() {
         Some(token) => match &token.kind {
-            TokenKind::Symbol(symbol) => compound_of(*symbol),
+            TokenKind::Symbol(symbol) => match symbol {
+                Symbol::StarStarEqual => Some(Compound::Pow),
+                Symbol::ShiftLeftEqual => Some(Compound::ShiftLeft),
+                Symbol::ShiftRightEqual => Some(Compound::ShiftRight),
+                Symbol::PlusEqual => Some(Compound::Add),
+                Symbol::MinusEqual => Some(Compound::Sub),
+                Symbol::StarEqual => Some(Compound::Mul),
+                Symbol::SlashEqual => Some(Compound::Div),
+                Symbol::BackslashEqual => Some(Compound::Quotient),
+                Symbol::PercentEqual => Some(Compound::Remainder),
+                Symbol::AmpersandEqual => Some(Compound::And),
+                Symbol::BarEqual => Some(Compound::Or),
+                Symbol::CaretEqual => Some(Compound::Xor),
+                _ => None,
+            },
             _ => None,
         },
         None => None,
     }
 }
 
-// What writes this place by a symbol that stands for an operation.
-#[tactic(auto, unfolding(crate::specs::Reading::operation))]
-fn operation<N: Blank + Drop>(
+// What stands behind a written place.
+#[tactic(auto, unfolding(crate::specs::Reading::assignment))]
+fn assignment<N: Blank + Drop>(
     alloc: Global,
     reader: &mut Reader,
     room: u32,
     place: Place<N>,
-) -> Result<Assign<N>, Stop>
+) -> Read<Assign<N>>
     requires { room < 2 ^ 16 }
     ensures { Reads seen_assign result (kinds reader.new.rest.now)
-        (operation room place.name (plain_accessors (place_accessors place))
+        (assignment room place.name (plain_accessors (place_accessors place))
         (kinds reader.old.rest.now)) }
 {
+    if reader.begins(Symbol::Equal) {
+        reader.skip();
+        let value = reader.expression(alloc, room)?;
+        return Ok(Assign::Set(place, value));
+    }
+    if let Some(arrow) = reader.arrow() {
+        reader.skip();
+        let value = reader.expression(alloc, room)?;
+        return Ok(Assign::Left(place, arrow, value));
+    }
     if reader.begins(Symbol::PlusPlus) {
         reader.skip();
         return Ok(Assign::Increment(place));
@@ -78,100 +82,25 @@ fn operation<N: Blank + Drop>(
     Ok(Assign::Compound(place, op, value))
 }
 
-// What stands behind a written place.
-#[tactic(auto, unfolding(crate::specs::Reading::assignment))]
-fn assignment<N: Blank + Drop>(
-    alloc: Global,
-    reader: &mut Reader,
-    room: u32,
-    place: Place<N>,
-) -> Result<Assign<N>, Stop>
-    requires { room < 2 ^ 16 }
-    ensures { Reads seen_assign result (kinds reader.new.rest.now)
-        (assignment room place.name (plain_accessors (place_accessors place))
-        (kinds reader.old.rest.now)) }
-{
-    if reader.begins(Symbol::Equal) {
-        reader.skip();
-        let value = reader.expression(alloc, room)?;
-        return Ok(Assign::Set(place, value));
-    }
-    let Some(arrow) = reader.arrow() else {
-        let found = operation(alloc, reader, room, place)?;
-        return Ok(found);
-    };
-    reader.skip();
-    let value = reader.expression(alloc, room)?;
-    Ok(Assign::Left(place, arrow, value))
-}
-
 /// An assignment to a place.
 #[tactic(auto, unfolding(crate::specs::Reading::assign))]
-pub fn assign<N: Blank + Drop>(
-    alloc: Global,
-    reader: &mut Reader,
-    room: u32,
-) -> Result<Assign<N>, Stop>
+pub fn assign<N: Blank + Drop>(alloc: Global, reader: &mut Reader, room: u32) -> Read<Assign<N>>
     requires { room < 2 ^ 16 }
     ensures { Reads seen_assign result (kinds reader.new.rest.now)
         (assign room (kinds reader.old.rest.now)) }
 {
     let place = reader.place(alloc, room)?;
-    let assign = assignment(alloc, reader, room, place)?;
-    Ok(assign)
-}
-
-// What begins with an expression and goes on with no arrow to the right and no `===`.
-#[tactic(auto, unfolding(crate::specs::Reading::leftwards))]
-fn leftwards<N: Blank + Drop>(
-    alloc: Global,
-    reader: &mut Reader,
-    room: u32,
-    left: Expr<N>,
-) -> Result<Simple<N>, Stop>
-    requires { room < 2 ^ 16 }
-    ensures { Reads seen_simple result (kinds reader.new.rest.now)
-        (leftwards room (seen left) (kinds reader.old.rest.now)) }
-{
-    match left {
-        Expr::Place(place) => {
-            let assign = assignment(alloc, reader, room, place)?;
-            Ok(Simple::Assign(assign))
-        }
-        Expr::Anonymous(component) => Ok(Simple::Anonymous(component)),
-        _ => Err(Stop::NoTree),
-    }
-}
-
-// Where a value goes: to a place or to a target.
-#[tactic(auto, unfolding(crate::specs::Reading::rightwards))]
-fn rightwards<N: Blank + Drop>(
-    alloc: Global,
-    reader: &mut Reader,
-    room: u32,
-    value: Expr<N>,
-    arrow: Arrow,
-) -> Result<Simple<N>, Stop>
-    requires { room < 2 ^ 16 }
-    ensures { Reads seen_simple result (kinds reader.new.rest.now)
-        (rightwards room (seen value) arrow (kinds reader.old.rest.now)) }
-{
-    if reader.begins_underscore() || reader.begins(Symbol::OpenParenthesis) {
-        let target = target(alloc, reader, room)?;
-        return Ok(Simple::TargetRight(Source::One(value), arrow, target));
-    }
-    let place = reader.place(alloc, room)?;
-    Ok(Simple::Right(value, arrow, place))
+    assignment(alloc, reader, room, place)
 }
 
 /// What stands behind the first expression of a statement.
-#[tactic(auto, unfolding(crate::specs::Reading::equation))]
+#[tactic(auto, using(cir_ast::proofs::Rows::anonymous_is), unfolding(crate::specs::Reading::equation))]
 pub fn equation<N: Blank + Drop>(
     alloc: Global,
     reader: &mut Reader,
     room: u32,
     left: Expr<N>,
-) -> Result<Simple<N>, Stop>
+) -> Read<Simple<N>>
     requires { room < 2 ^ 16 }
     ensures { Reads seen_simple result (kinds reader.new.rest.now)
         (equation room (seen left) (kinds reader.old.rest.now)) }
@@ -182,67 +111,59 @@ pub fn equation<N: Blank + Drop>(
         return Ok(Simple::Constrain(left, right));
     }
     let Some(arrow) = right_arrow(reader) else {
-        let found = leftwards(alloc, reader, room, left)?;
-        return Ok(found);
+        return match left {
+            Expr::Place(place) => {
+                let assign = assignment(alloc, reader, room, place)?;
+                Ok(Simple::Assign(assign))
+            }
+            Expr::Anonymous(component) => Ok(Simple::Anonymous(component)),
+            _other => Err(Stop::NoTree),
+        };
     };
     reader.skip();
-    let found = rightwards(alloc, reader, room, left, arrow)?;
-    Ok(found)
-}
-
-// A simple statement that begins with no word of its own.
-#[tactic(auto, unfolding(crate::specs::Reading::written))]
-fn written<N: Blank + Drop>(
-    alloc: Global,
-    reader: &mut Reader,
-    room: u32,
-) -> Result<Simple<N>, Stop>
-    requires { room < 2 ^ 16 }
-    ensures { Reads seen_simple result (kinds reader.new.rest.now)
-        (written room (kinds reader.old.rest.now)) }
-{
-    if reader.begins_underscore() {
-        reader.skip();
-        let found = discarded(alloc, reader, room)?;
-        return Ok(found);
+    if reader.begins_underscore() || reader.begins(Symbol::OpenParenthesis) {
+        let target = target(alloc, reader, room)?;
+        return Ok(Simple::TargetRight(Source::One(left), arrow, target));
     }
-    if reader.begins(Symbol::OpenParenthesis) {
-        reader.skip();
-        let found = grouped(alloc, reader, room)?;
-        return Ok(found);
-    }
-    let left = reader.expression(alloc, room)?;
-    let found = equation(alloc, reader, room, left)?;
-    Ok(found)
+    let place = reader.place(alloc, room)?;
+    Ok(Simple::Right(left, arrow, place))
 }
 
 /// A simple statement, without its `;`.
-#[tactic(auto, unfolding(crate::specs::Reading::simple))]
-pub fn simple<N: Blank + Drop>(
-    alloc: Global,
-    reader: &mut Reader,
-    room: u32,
-) -> Result<Simple<N>, Stop>
+#[tactic(auto, using(crate::proofs::Seen::variables_seen), unfolding(crate::specs::Reading::simple))]
+pub fn simple<N: Blank + Drop>(alloc: Global, reader: &mut Reader, room: u32) -> Read<Simple<N>>
     requires { room < 2 ^ 16 }
     ensures { Reads seen_simple result (kinds reader.new.rest.now)
         (simple room (kinds reader.old.rest.now)) }
 {
     if reader.begins_word(Reserved::Var) {
         reader.skip();
-        let variables = variables(alloc, reader, room)?;
-        Ok(Simple::Vars(Vars {
+        let variables = separated(alloc, reader, room)?;
+        return Ok(Simple::Vars(Vars {
             variables: tight(variables),
-        }))
-    } else if reader.begins_word(Reserved::Signal) {
-        reader.skip();
-        let found = signals(alloc, reader, room)?;
-        Ok(found)
-    } else if reader.begins_word(Reserved::Component) {
-        reader.skip();
-        let found = components(alloc, reader, room)?;
-        Ok(found)
-    } else {
-        let found = written(alloc, reader, room)?;
-        Ok(found)
+        }));
     }
+    if reader.begins_word(Reserved::Signal) {
+        reader.skip();
+        return signals(alloc, reader, room);
+    }
+    if reader.begins_word(Reserved::Component) {
+        reader.skip();
+        return components(alloc, reader, room);
+    }
+    if reader.begins_underscore() {
+        reader.skip();
+        let Some(arrow) = reader.arrow() else {
+            return Err(Stop::NoTree);
+        };
+        reader.skip();
+        let source = source(alloc, reader, room)?;
+        return Ok(Simple::TargetLeft(Target::Discard, arrow, source));
+    }
+    if reader.begins(Symbol::OpenParenthesis) {
+        reader.skip();
+        return grouped(alloc, reader, room);
+    }
+    let left = reader.expression(alloc, room)?;
+    equation(alloc, reader, room, left)
 }

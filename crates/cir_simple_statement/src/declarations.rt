@@ -1,68 +1,67 @@
 //! Declarations, as functions that read on.
-ghost use Rattle.std.specs.Prelude.{◌<◌, ◌^◌, [], map};
+ghost use Rattle.std.specs.Prelude.{◌≡◌, ◌<◌, ◌^◌, map};
+ghost use Rattle.cir_ast.specs.Tree.{bare_signal, bare_component};
+ghost use Rattle.cir_ast.specs.Plain.{PlainExpr, PlainVariable, PlainSignal, PlainComponent};
+ghost use Rattle.cir_ast.specs.Plain.{plain_signal, plain_component};
 ghost use Rattle.cir_expression.specs.Front.{name_at};
 ghost use Rattle.cir_expression.specs.Answers.{kinds, Reads, seen};
 ghost use Rattle.cir_simple_statement.specs.Answers.{seen_value, seen_variable, seen_signal_value};
-ghost use Rattle.cir_simple_statement.specs.Answers.{seen_signal, seen_component, seen_simple};
+ghost use Rattle.cir_simple_statement.specs.Answers.{seen_simple};
 ghost use Rattle.cir_simple_statement.specs.Front.{separated};
-ghost use Rattle.cir_simple_statement.specs.Reading.{dimensions, value, variable, signal_value};
-ghost use Rattle.cir_simple_statement.specs.Reading.{signal, component, signals, components};
+ghost use Rattle.cir_simple_statement.specs.Reading.{dimension, dimensions, value, variable};
+ghost use Rattle.cir_simple_statement.specs.Reading.{signal_value, signal, direction_at, component};
+ghost use Rattle.cir_simple_statement.specs.Reading.{signals, components};
 
+use crate::lists::{Element, Read, separated, separated_behind};
 use cir_ast::marked::{
     Components, DeclaredComponent, DeclaredSignal, DeclaredVariable, Direction, Expr, SignalValue,
     Signals, Simple,
 };
 use cir_ast::{Blank, Text};
-use cir_expression::{Reader, Stop, tight};
+use cir_expression::{Reader, tight};
 use cir_token::{Reserved, Symbol};
 use std::alloc::Global;
 
 /// One name or more, with commas between them.
-pub fn names(alloc: Global, reader: &mut Reader) -> Result<Vec<Text>, Stop>
+pub fn names(alloc: Global, reader: &mut Reader) -> Read<Vec<Text>>
     ensures { Reads (λ v. v.items) result (kinds reader.new.rest.now)
         (separated name_at (kinds reader.old.rest.now)) }
 {
-    let mut names = Vec::new(alloc);
-    for _ in 0..reader.rest.len() {
-        let name = reader.name(alloc)?;
-        names.push(name)?;
-        if !reader.begins(Symbol::Comma) {
-            return Ok(names);
-        }
-        reader.skip();
+    let names = separated(alloc, reader, 0)?;
+    Ok(names)
+}
+
+impl<N: Blank + Drop> Element for Expr<N> {
+    ghost Seen = { PlainExpr };
+
+    ghost seen = { seen };
+
+    ghost reading = { dimension };
+
+    fn read(alloc: Global, reader: &mut Reader, room: u32) -> Read<Expr<N>> {
+        let dimension = reader.expression(alloc, room)?;
+        reader.behind(Symbol::CloseBracket)?;
+        Ok(dimension)
     }
-    Err(Stop::NoTree)
 }
 
 // Expressions, each in brackets.
-fn dimensions<N: Blank + Drop>(
-    alloc: Global,
-    reader: &mut Reader,
-    room: u32,
-) -> Result<Vec<Expr<N>>, Stop>
+#[tactic(auto, unfolding(crate::specs::Reading::dimensions))]
+fn dimensions<N: Blank + Drop>(alloc: Global, reader: &mut Reader, room: u32) -> Read<Vec<Expr<N>>>
     requires { room < 2 ^ 16 }
     ensures { Reads (λ v. map seen v.items) result (kinds reader.new.rest.now)
         (dimensions room (kinds reader.old.rest.now)) }
 {
-    let mut dimensions = Vec::new(alloc);
-    for _ in 0..reader.rest.len() {
-        if !reader.begins(Symbol::OpenBracket) {
-            return Ok(dimensions);
-        }
-        reader.skip();
-        let dimension = reader.expression(alloc, room)?;
-        reader.behind(Symbol::CloseBracket)?;
-        dimensions.push(dimension)?;
+    let before = Vec::new(alloc);
+    if !reader.begins(Symbol::OpenBracket) {
+        return Ok(before);
     }
-    Ok(dimensions)
+    reader.skip();
+    separated_behind(alloc, reader, room, Symbol::OpenBracket, before)
 }
 
 // `=` and what a variable is given, or nothing.
-fn value<N: Blank + Drop>(
-    alloc: Global,
-    reader: &mut Reader,
-    room: u32,
-) -> Result<Option<Expr<N>>, Stop>
+fn value<N: Blank + Drop>(alloc: Global, reader: &mut Reader, room: u32) -> Read<Option<Expr<N>>>
     requires { room < 2 ^ 16 }
     ensures { Reads seen_value result (kinds reader.new.rest.now)
         (value room (kinds reader.old.rest.now)) }
@@ -75,25 +74,25 @@ fn value<N: Blank + Drop>(
     Ok(Some(value))
 }
 
-#[tactic(auto, unfolding(crate::specs::Reading::variable))]
-fn variable<N: Blank + Drop>(
-    alloc: Global,
-    reader: &mut Reader,
-    room: u32,
-) -> Result<DeclaredVariable<N>, Stop>
-    requires { room < 2 ^ 16 }
-    ensures { Reads seen_variable result (kinds reader.new.rest.now)
-        (variable room (kinds reader.old.rest.now)) }
-{
-    let name = reader.name(alloc)?;
-    let dimensions = dimensions(alloc, reader, room)?;
-    let value = value(alloc, reader, room)?;
-    Ok(DeclaredVariable {
-        name,
-        meant: N::blank(),
-        dimensions: tight(dimensions),
-        value,
-    })
+impl<N: Blank + Drop> Element for DeclaredVariable<N> {
+    ghost Seen = { PlainVariable };
+
+    ghost seen = { seen_variable };
+
+    ghost reading = { variable };
+
+    #[tactic(auto, using(crate::proofs::Seen::listed_seen), unfolding(crate::specs::Reading::variable))]
+    fn read(alloc: Global, reader: &mut Reader, room: u32) -> Read<DeclaredVariable<N>> {
+        let name = reader.name(alloc)?;
+        let dimensions = dimensions(alloc, reader, room)?;
+        let value = value(alloc, reader, room)?;
+        Ok(DeclaredVariable {
+            name,
+            meant: N::blank(),
+            dimensions: tight(dimensions),
+            value,
+        })
+    }
 }
 
 /// One variable or more, with commas between them.
@@ -101,28 +100,19 @@ pub fn variables<N: Blank + Drop>(
     alloc: Global,
     reader: &mut Reader,
     room: u32,
-) -> Result<Vec<DeclaredVariable<N>>, Stop>
+) -> Read<Vec<DeclaredVariable<N>>>
     requires { room < 2 ^ 16 }
     ensures { Reads (λ v. map seen_variable v.items) result (kinds reader.new.rest.now)
         (separated (variable room) (kinds reader.old.rest.now)) }
 {
-    let mut variables = Vec::new(alloc);
-    for _ in 0..reader.rest.len() {
-        let variable = variable(alloc, reader, room)?;
-        variables.push(variable)?;
-        if !reader.begins(Symbol::Comma) {
-            return Ok(variables);
-        }
-        reader.skip();
-    }
-    Err(Stop::NoTree)
+    separated(alloc, reader, room)
 }
 
 fn signal_value<N: Blank + Drop>(
     alloc: Global,
     reader: &mut Reader,
     room: u32,
-) -> Result<SignalValue<N>, Stop>
+) -> Read<SignalValue<N>>
     requires { room < 2 ^ 16 }
     ensures { Reads seen_signal_value result (kinds reader.new.rest.now)
         (signal_value room (kinds reader.old.rest.now)) }
@@ -135,124 +125,79 @@ fn signal_value<N: Blank + Drop>(
     Ok(SignalValue::Given(arrow, value))
 }
 
-#[tactic(auto, unfolding(crate::specs::Reading::signal))]
-fn signal<N: Blank + Drop>(
-    alloc: Global,
-    reader: &mut Reader,
-    room: u32,
-) -> Result<DeclaredSignal<N>, Stop>
-    requires { room < 2 ^ 16 }
-    ensures { Reads seen_signal result (kinds reader.new.rest.now)
-        (signal room (kinds reader.old.rest.now)) }
-{
-    let name = reader.name(alloc)?;
-    let dimensions = dimensions(alloc, reader, room)?;
-    let value = signal_value(alloc, reader, room)?;
-    Ok(DeclaredSignal {
-        name,
-        meant: N::blank(),
-        dimensions: tight(dimensions),
-        value,
-    })
+impl<N: Blank + Drop> Element for DeclaredSignal<N> {
+    ghost Seen = { PlainSignal };
+
+    ghost seen = { λ x. plain_signal (bare_signal x) };
+
+    ghost reading = { signal };
+
+    #[tactic(auto, using(crate::proofs::Seen::listed_seen), unfolding(crate::specs::Reading::signal))]
+    fn read(alloc: Global, reader: &mut Reader, room: u32) -> Read<DeclaredSignal<N>> {
+        let name = reader.name(alloc)?;
+        let dimensions = dimensions(alloc, reader, room)?;
+        let value = signal_value(alloc, reader, room)?;
+        Ok(DeclaredSignal {
+            name,
+            meant: N::blank(),
+            dimensions: tight(dimensions),
+            value,
+        })
+    }
 }
 
-// One signal or more, with commas between them.
-fn signal_list<N: Blank + Drop>(
-    alloc: Global,
-    reader: &mut Reader,
-    room: u32,
-) -> Result<Vec<DeclaredSignal<N>>, Stop>
-    requires { room < 2 ^ 16 }
-    ensures { Reads (λ v. map seen_signal v.items) result (kinds reader.new.rest.now)
-        (separated (signal room) (kinds reader.old.rest.now)) }
+// The word behind `signal`.
+fn direction(reader: &mut Reader) -> Direction
+    ensures { direction_at (kinds reader.old.rest.now) ≡ (result, kinds reader.new.rest.now) }
 {
-    let mut signals = Vec::new(alloc);
-    for _ in 0..reader.rest.len() {
-        let signal = signal(alloc, reader, room)?;
-        signals.push(signal)?;
-        if !reader.begins(Symbol::Comma) {
-            return Ok(signals);
-        }
+    if reader.begins_word(Reserved::Input) {
         reader.skip();
+        return Direction::Input;
     }
-    Err(Stop::NoTree)
+    if reader.begins_word(Reserved::Output) {
+        reader.skip();
+        return Direction::Output;
+    }
+    Direction::Inner
 }
 
 /// What stands behind `signal`.
-#[tactic(auto, unfolding(crate::specs::Reading::signals))]
-pub fn signals<N: Blank + Drop>(
-    alloc: Global,
-    reader: &mut Reader,
-    room: u32,
-) -> Result<Simple<N>, Stop>
+#[tactic(auto, using(crate::proofs::Seen::seen_map), unfolding(crate::specs::Reading::signals))]
+pub fn signals<N: Blank + Drop>(alloc: Global, reader: &mut Reader, room: u32) -> Read<Simple<N>>
     requires { room < 2 ^ 16 }
     ensures { Reads seen_simple result (kinds reader.new.rest.now)
         (signals room (kinds reader.old.rest.now)) }
 {
-    let direction = if reader.begins_word(Reserved::Input) {
-        reader.skip();
-        Direction::Input
-    } else if reader.begins_word(Reserved::Output) {
-        reader.skip();
-        Direction::Output
-    } else {
-        Direction::Inner
-    };
-    let signals = signal_list(alloc, reader, room)?;
+    let direction = direction(reader);
+    let signals = separated(alloc, reader, room)?;
     Ok(Simple::Signals(Signals {
         direction,
         signals: tight(signals),
     }))
 }
 
-#[tactic(auto, unfolding(crate::specs::Reading::component))]
-fn component<N: Blank + Drop>(
-    alloc: Global,
-    reader: &mut Reader,
-    room: u32,
-) -> Result<DeclaredComponent<N>, Stop>
-    requires { room < 2 ^ 16 }
-    ensures { Reads seen_component result (kinds reader.new.rest.now)
-        (component room (kinds reader.old.rest.now)) }
-{
-    let name = reader.name(alloc)?;
-    let dimensions = dimensions(alloc, reader, room)?;
-    Ok(DeclaredComponent {
-        name,
-        meant: N::blank(),
-        dimensions: tight(dimensions),
-    })
-}
+impl<N: Blank + Drop> Element for DeclaredComponent<N> {
+    ghost Seen = { PlainComponent };
 
-// One component or more without a template, with commas between them.
-fn component_list<N: Blank + Drop>(
-    alloc: Global,
-    reader: &mut Reader,
-    room: u32,
-) -> Result<Vec<DeclaredComponent<N>>, Stop>
-    requires { room < 2 ^ 16 }
-    ensures { Reads (λ v. map seen_component v.items) result (kinds reader.new.rest.now)
-        (separated (component room) (kinds reader.old.rest.now)) }
-{
-    let mut components = Vec::new(alloc);
-    for _ in 0..reader.rest.len() {
-        let component = component(alloc, reader, room)?;
-        components.push(component)?;
-        if !reader.begins(Symbol::Comma) {
-            return Ok(components);
-        }
-        reader.skip();
+    ghost seen = { λ x. plain_component (bare_component x) };
+
+    ghost reading = { component };
+
+    #[tactic(auto, using(crate::proofs::Seen::listed_seen), unfolding(crate::specs::Reading::component))]
+    fn read(alloc: Global, reader: &mut Reader, room: u32) -> Read<DeclaredComponent<N>> {
+        let name = reader.name(alloc)?;
+        let dimensions = dimensions(alloc, reader, room)?;
+        Ok(DeclaredComponent {
+            name,
+            meant: N::blank(),
+            dimensions: tight(dimensions),
+        })
     }
-    Err(Stop::NoTree)
 }
 
 /// What stands behind `component`.
-#[tactic(auto, unfolding(crate::specs::Reading::components))]
-pub fn components<N: Blank + Drop>(
-    alloc: Global,
-    reader: &mut Reader,
-    room: u32,
-) -> Result<Simple<N>, Stop>
+#[tactic(auto, using(crate::proofs::Seen::seen_map), unfolding(crate::specs::Reading::components))]
+pub fn components<N: Blank + Drop>(alloc: Global, reader: &mut Reader, room: u32) -> Read<Simple<N>>
     requires { room < 2 ^ 16 }
     ensures { Reads seen_simple result (kinds reader.new.rest.now)
         (components room (kinds reader.old.rest.now)) }
@@ -265,6 +210,6 @@ pub fn components<N: Blank + Drop>(
         *reader = ahead;
         return Ok(Simple::Components(Components::Created(name, N::blank(), value)));
     }
-    let components = component_list(alloc, reader, room)?;
+    let components = separated(alloc, reader, room)?;
     Ok(Simple::Components(Components::Declared(tight(components))))
 }

@@ -3,6 +3,7 @@
 
 mod assignments;
 mod declarations;
+mod lists;
 mod targets;
 
 pub use assignments::{assign, simple};
