@@ -32,26 +32,28 @@ pub record IsFirstUnread (S : Type 0) (tokens : Tokens) (token : ℕ) : Type 0 w
   pub tree : IsTree (take token tokens) before
   pub unread : NoItem (drop token tokens)
 
--- The tree; or the first form that is left out of the profile; or, exactly where there is neither,
--- the first token of the first item that has no reading. Want of memory is free.
-abbrev pub Parses : Tokens → Result (CodeFile (Unit {0}) (Unit {0})) ParseFault → Type 0
-Parses tokens (Ok file) = (first_left_out 0 tokens ≡ None) × IsTree tokens (bare_file file)
-Parses tokens (Err (fault.Form token form)) = first_left_out 0 tokens ≡ Some (token, form)
-Parses tokens (Err (fault.Syntax token)) =
-    (first_left_out 0 tokens ≡ None) × IsFirstUnread (Unit {0}) tokens token
+-- The tree, of which this is said; or the first form that is left out of the profile; or, exactly
+-- where there is neither, the first token of the first item that has no reading. Want of memory is
+-- free.
+abbrev pub ParsesTo : {S N : Type 0} → (CodeFile S N → Type 0) → Tokens
+    → Result (CodeFile S N) ParseFault → Type 0
+ParsesTo Tree tokens (Ok file) = Tree file
+ParsesTo Tree tokens (Err (fault.Form token form)) = first_left_out 0 tokens ≡ Some (token, form)
+ParsesTo {S = S} Tree tokens (Err (fault.Syntax token)) =
+    (first_left_out 0 tokens ≡ None) × IsFirstUnread S tokens token
     × ((file : PlainFile (Unit {0})) → IsTree tokens file → ⊥)
-Parses tokens (Err fault.OutOfMemory) = ⊤
+ParsesTo Tree tokens (Err fault.OutOfMemory) = ⊤
+
+-- a tree of the tokens
+abbrev pub Parses : Tokens → Result (CodeFile (Unit {0}) (Unit {0})) ParseFault → Type 0
+Parses tokens result =
+    ParsesTo (λ file. (first_left_out 0 tokens ≡ None) × IsTree tokens (bare_file file)) tokens
+    result
 
 -- the same, where each item and statement carries the mark of the tokens from it on; what a name
 -- carries is free
 abbrev pub ParsesMarked : {S N : Type 0} → (Tokens → S) → Tokens → Result (CodeFile S N) ParseFault
     → Type 0
-ParsesMarked mark tokens (Ok file) =
-    (first_left_out 0 tokens ≡ None) × IsTree tokens (plain_file (bare_file file))
-    × (marked_file mark (plain_file (bare_file file)) ≡ plain_file (bare_file file))
-ParsesMarked mark tokens (Err (fault.Form token form)) =
-    first_left_out 0 tokens ≡ Some (token, form)
-ParsesMarked {S = S} mark tokens (Err (fault.Syntax token)) =
-    (first_left_out 0 tokens ≡ None) × IsFirstUnread S tokens token
-    × ((file : PlainFile (Unit {0})) → IsTree tokens file → ⊥)
-ParsesMarked mark tokens (Err fault.OutOfMemory) = ⊤
+ParsesMarked mark tokens result =
+    ParsesTo (λ file. (first_left_out 0 tokens ≡ None) × IsTree tokens (plain_file (bare_file file))
+    × (marked_file mark (plain_file (bare_file file)) ≡ plain_file (bare_file file))) tokens result

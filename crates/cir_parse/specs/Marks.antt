@@ -1,5 +1,5 @@
 -- Places of tokens by how many are left.
-use Rattle.std.specs.Prelude.{ℕ, ◌-◌, nat_le, if◌then◌else◌, List, length, slice_get, unwrap_or}
+use Rattle.std.specs.Prelude.{◌-◌, nat_le, if◌then◌else◌, List, length, slice_get, unwrap_or}
 use Rattle.cir_ast.specs.declared.program.Spot.{Spot}
 use Rattle.cir_ast.specs.Spot.{start}
 use Rattle.cir_expression.specs.Front.{Tokens}

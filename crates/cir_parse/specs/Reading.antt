@@ -1,26 +1,22 @@
 -- How statements and items are read, as functions of their tokens.
 --
 -- The number `room` is the height that an expression or a statement inside may have; of a statement
--- and an item it is the height that they may have themselves. A mark is what a statement or an item
--- carries as its place, by the tokens from it on.
-use Rattle.std.specs.Prelude.{ℕ, zero, suc, if◌then◌else◌, List, [], ◌∷◌, ◌++◌, length, Option}
+-- it is the height that it may have itself, and of an item that of the statements in its block. A
+-- mark is what a statement or an item carries as its place, by the tokens from it on.
+use Rattle.std.specs.Prelude.{ℕ, zero, suc, ◌+◌, if◌then◌else◌, List, [], ◌∷◌, ◌++◌, length, Option}
 use Rattle.std.specs.Prelude.{Some, None, Bool, true, false, codes}
 use Rattle.std.specs.Str.{bytes_eq}
-use Rattle.cir_token.specs.declared.token.TokenKind.TheVariants as token
 use Rattle.cir_token.specs.declared.token.Reserved.TheVariants as word
 use Rattle.cir_token.specs.declared.token.Symbol.TheVariants as symbol
-use Rattle.cir_ast.specs.declared.operators.Compound.TheVariants as compound
-use Rattle.cir_ast.specs.declared.operators.Direction.TheVariants as direction
-use Rattle.cir_ast.specs.declared.operators.Arrow.TheVariants as arrows
 use Rattle.cir_ast.specs.Tree.{as_exprs, FirstVars, FirstAssign, Words, LogValue, Block, If, IfElse}
 use Rattle.cir_ast.specs.Tree.{While, For, Return, Assert, Log, Ended, as_statements, Pragma}
 use Rattle.cir_ast.specs.Tree.{Include, Template, Function, Main}
 use Rattle.cir_ast.specs.Plain.{PlainExpr as Expr, PlainAssign as Assign, PlainFirst as First}
 use Rattle.cir_ast.specs.Plain.{PlainLogArgument as LogArgument, PlainStatement as Statement}
-use Rattle.cir_ast.specs.Plain.{PlainItem as Item}
+use Rattle.cir_ast.specs.Plain.{PlainStatements as Statements, PlainItem as Item}
 use Rattle.cir_expression.specs.Front.{Tokens, next, otherwise, tail, begins, begins_word, behind}
 use Rattle.cir_expression.specs.Front.{behind_word, name_at}
-use Rattle.cir_expression.specs.Reading.{expression, place, arguments}
+use Rattle.cir_expression.specs.Reading.{expression, arguments}
 use Rattle.cir_simple_statement.specs.Front.{after, closed, made, enclosed, separated, optional}
 use Rattle.cir_simple_statement.specs.Front.{words_at, number_at}
 use Rattle.cir_simple_statement.specs.Reading.{variable, assign, simple}
@@ -99,7 +95,7 @@ else_by spot read condition chosen ts =
     else Some (If spot condition chosen, ts)
 
 -- what stands behind `if`
-abbrev pub if_by : {S : Type 0} → S → ℕ → (Tokens → Option (Statement S × Tokens)) → Tokens
+unfoldable pub if_by : {S : Type 0} → S → ℕ → (Tokens → Option (Statement S × Tokens)) → Tokens
     → Option (Statement S × Tokens)
 if_by spot room read ts =
     next (condition room ts) (λ c. next (read c.1) (λ s. else_by spot read c.0 s.0 s.1))
@@ -129,10 +125,8 @@ statement mark zero ts = None
 statement mark (suc room) ts = statement_by mark room (statement mark room) ts
 
 -- a block of a definition
-unfoldable pub block : {S : Type 0} → (Tokens → S) → ℕ → Tokens
-    → Option (List (Statement S) × Tokens)
-block mark zero ts = None
-block mark (suc room) ts = after symbol.OpenBrace (rest_by (statement mark room)) ts
+abbrev pub block : {S : Type 0} → (Tokens → S) → ℕ → Tokens → Option (List (Statement S) × Tokens)
+block mark room ts = after symbol.OpenBrace (rest_by (statement mark room)) ts
 
 unfoldable pub parameters : Tokens → Option (List (List ℕ) × Tokens)
 parameters ts = enclosed (optional name_at) ts
@@ -150,21 +144,18 @@ pragma spot ts =
     next (closed symbol.Dot (number_at major.1)) (λ minor.
     made (Pragma spot major.0 minor.0) (closed symbol.Semicolon (number_at minor.1)))))
 
--- what stands behind `template`
-unfoldable pub template : {S : Type 0} → (Tokens → S) → S → ℕ → Bool → Tokens
-    → Option (Item S × Tokens)
-template mark spot room parallel ts =
+-- what stands behind `function`, and behind the words of a template: a name, parameters and a block
+unfoldable pub definition : {S : Type 0} → (Tokens → S) → ℕ → Tokens
+    → Option ((List ℕ × List (List ℕ) × Statements S) × Tokens)
+definition mark room ts =
     next (name_at ts)
     (λ name. next (parameters name.1)
-    (λ ps. made (λ ss. Template spot parallel name.0 ps.0 (as_statements ss))
-    (block mark room ps.1)))
+    (λ ps. made (λ ss. (name.0, ps.0, as_statements ss)) (block mark room ps.1)))
 
--- what stands behind `function`
-unfoldable pub function : {S : Type 0} → (Tokens → S) → S → ℕ → Tokens → Option (Item S × Tokens)
-function mark spot room ts =
-    next (name_at ts)
-    (λ name. next (parameters name.1)
-    (λ ps. made (λ ss. Function spot name.0 ps.0 (as_statements ss)) (block mark room ps.1)))
+-- what stands behind the words of a template
+abbrev pub template : {S : Type 0} → (Tokens → S) → S → ℕ → Bool → Tokens → Option (Item S × Tokens)
+template mark spot room parallel ts =
+    made (λ d. Template spot parallel d.0 d.1 d.2) (definition mark room ts)
 
 -- the public inputs, or none where they aren't written
 unfoldable pub public_names : Tokens → Option (List (List ℕ) × Tokens)
@@ -175,23 +166,18 @@ public_names ts =
     (closed symbol.CloseBracket (after symbol.OpenBracket (separated name_at) a)))
     else Some ([], ts)
 
--- what stands behind the public inputs
-unfoldable pub instance : {S : Type 0} → S → ℕ → List (List ℕ) → Tokens → Option (Item S × Tokens)
-instance spot room names ts =
-    next (after symbol.Equal name_at ts) (λ name. next (behind symbol.OpenParenthesis name.1) (λ b.
-    made (λ es. Main spot names name.0 tt (as_exprs es))
-    (closed symbol.Semicolon (arguments room b))))
-
 -- what stands behind `component`
 unfoldable pub main : {S : Type 0} → S → ℕ → Tokens → Option (Item S × Tokens)
 main spot room ts =
-    next (behind_word word.Main ts)
-    (λ a. next (public_names a) (λ names. instance spot room names.0 names.1))
+    next (behind_word word.Main ts) (λ a. next (public_names a) (λ names.
+    next (after symbol.Equal name_at names.1) (λ name.
+    next (behind symbol.OpenParenthesis name.1) (λ b.
+    made (λ es. Main spot names.0 name.0 tt (as_exprs es))
+    (closed symbol.Semicolon (arguments room b))))))
 
 -- an item; its mark is that of the tokens from it on
 unfoldable pub item : {S : Type 0} → (Tokens → S) → ℕ → Tokens → Option (Item S × Tokens)
-item mark zero ts = None
-item mark (suc room) ts =
+item mark room ts =
     if begins_word word.Pragma ts then pragma (mark ts) (tail ts) else
     (if begins_word word.Include ts
     then made (Include (mark ts)) (closed symbol.Semicolon (words_at (tail ts))) else
@@ -199,5 +185,6 @@ item mark (suc room) ts =
     (if begins_word word.Parallel (tail ts)
     then template mark (mark ts) room true (tail (tail ts))
     else template mark (mark ts) room false (tail ts)) else
-    (if begins_word word.Function ts then function mark (mark ts) room (tail ts) else
-    next (behind_word word.Component ts) (λ rest. main (mark ts) room rest))))
+    (if begins_word word.Function ts
+    then made (λ d. Function (mark ts) d.0 d.1 d.2) (definition mark room (tail ts)) else
+    next (behind_word word.Component ts) (λ rest. main (mark ts) (room + 1) rest))))

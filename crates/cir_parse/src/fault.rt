@@ -1,4 +1,5 @@
 ghost use Rattle.std.specs.Prelude.{◌≡◌};
+ghost use Rattle.cir_parse.specs.declared.fault.ParseFault.TheVariants.{OutOfMemory};
 
 use cir_ast::Form;
 use std::alloc::{AllocError, AllocFailed};
@@ -17,8 +18,6 @@ pub enum ParseFault {
 }
 
 impl From<AllocError> for ParseFault {
-    ghost use Rattle.cir_parse.specs.declared.fault.ParseFault.TheVariants.{OutOfMemory};
-
     ghost from_gives = { λ _ fault. fault ≡ OutOfMemory };
 
     fn from(_: AllocError) -> ParseFault {
@@ -27,8 +26,6 @@ impl From<AllocError> for ParseFault {
 }
 
 impl<T: Drop> From<AllocFailed<T>> for ParseFault {
-    ghost use Rattle.cir_parse.specs.declared.fault.ParseFault.TheVariants.{OutOfMemory};
-
     ghost from_gives = { λ _ fault. fault ≡ OutOfMemory };
 
     fn from(_: AllocFailed<T>) -> ParseFault {

@@ -1,15 +1,10 @@
 //! Items, as functions that read on.
-ghost use Rattle.std.specs.Prelude.{◌<◌, ◌^◌};
-ghost use Rattle.cir_token.specs.declared.token.Symbol.TheVariants.{Equal, Semicolon, OpenBracket};
-ghost use Rattle.cir_token.specs.declared.token.Symbol.TheVariants.{CloseBracket};
-ghost use Rattle.cir_ast.specs.Tree.{Include as IncludeTree};
-ghost use Rattle.cir_expression.specs.Front.{name_at};
+ghost use Rattle.std.specs.Prelude.{◌<◌, ◌^◌, ◌+◌};
 ghost use Rattle.cir_expression.specs.Answers.{kinds, Reads, Takes, Passes};
-ghost use Rattle.cir_parse.specs.Answers.{seen_item};
-ghost use Rattle.cir_simple_statement.specs.Front.{after, closed, made, separated, number_at};
-ghost use Rattle.cir_simple_statement.specs.Front.{words_at};
-ghost use Rattle.cir_parse.specs.Reading.{parameters, language_at, pragma, template, function};
-ghost use Rattle.cir_parse.specs.Reading.{public_names, instance, main, item};
+ghost use Rattle.cir_simple_statement.specs.Front.{closed, number_at};
+ghost use Rattle.cir_parse.specs.Answers.{seen_definition, seen_item};
+ghost use Rattle.cir_parse.specs.Reading.{parameters, language_at, pragma, definition, template};
+ghost use Rattle.cir_parse.specs.Reading.{public_names, main, item};
 
 use crate::marks::Marks;
 use crate::statements::{block, words};
@@ -23,30 +18,20 @@ use cir_token::{Reserved, Symbol, TokenKind};
 use items::Items;
 use std::alloc::Global;
 
-fn number(reader: &mut Reader) -> Result<u128, Stop>
-    ensures { Takes (λ n. n) result (kinds reader.new.rest.now)
-        (number_at (kinds reader.old.rest.now)) }
-{
-    let Some((token, rest)) = reader.rest.split_first() else {
-        return Err(Stop::NoTree);
-    };
-    match &token.kind {
-        TokenKind::Number(n) => {
-            reader.rest = rest;
-            Ok(*n)
-        }
-        _ => Err(Stop::NoTree),
-    }
-}
-
 // A number and this symbol.
 fn number_and(reader: &mut Reader, symbol: Symbol) -> Result<u128, Stop>
     ensures { Takes (λ n. n) result (kinds reader.new.rest.now)
         (closed symbol (number_at (kinds reader.old.rest.now))) }
 {
-    let n = number(reader)?;
+    let Some((token, rest)) = reader.rest.split_first() else {
+        return Err(Stop::NoTree);
+    };
+    let TokenKind::Number(n) = &token.kind else {
+        return Err(Stop::NoTree);
+    };
+    reader.rest = rest;
     reader.behind(symbol)?;
-    Ok(n)
+    Ok(*n)
 }
 
 // The word `circom`, which isn't reserved.
@@ -56,16 +41,14 @@ fn language(reader: &mut Reader) -> Result<(), Stop>
     let Some((token, rest)) = reader.rest.split_first() else {
         return Err(Stop::NoTree);
     };
-    match &token.kind {
-        TokenKind::Name(name) => {
-            if name.as_slice() != b"circom".as_slice() {
-                return Err(Stop::NoTree);
-            }
-            reader.rest = rest;
-            Ok(())
-        }
-        _ => Err(Stop::NoTree),
+    let TokenKind::Name(name) = &token.kind else {
+        return Err(Stop::NoTree);
+    };
+    if name.as_slice() != b"circom".as_slice() {
+        return Err(Stop::NoTree);
     }
+    reader.rest = rest;
+    Ok(())
 }
 
 // What stands behind `pragma`.
@@ -102,8 +85,29 @@ fn parameters(alloc: Global, reader: &mut Reader) -> Result<Vec<Text>, Stop>
     Ok(parameters)
 }
 
-// What stands behind `template`.
-#[tactic(auto, unfolding(crate::specs::Reading::template))]
+// What stands behind `function`, and behind the words of a template.
+#[tactic(auto, unfolding(crate::specs::Reading::definition))]
+fn definition<S: Drop, N: Blank + Drop, M: Marks<S>>(
+    alloc: Global,
+    marks: &M,
+    reader: &mut Reader,
+    room: u32,
+) -> Result<Function<S, N>, Stop>
+    requires { room + 1 < 2 ^ 16 }
+    ensures { Reads seen_definition result (kinds reader.new.rest.now)
+        (definition (M.mark marks.now) room (kinds reader.old.rest.now)) }
+{
+    let name = reader.name(alloc)?;
+    let parameters = parameters(alloc, reader)?;
+    let body = block(alloc, marks, reader, room)?;
+    Ok(Function {
+        name,
+        parameters: tight(parameters),
+        body: Block::of(tight(body)),
+    })
+}
+
+// What stands behind the words of a template.
 fn template<S: Drop, N: Blank + Drop, M: Marks<S>>(
     alloc: Global,
     marks: &M,
@@ -112,55 +116,22 @@ fn template<S: Drop, N: Blank + Drop, M: Marks<S>>(
     room: u32,
     parallel: bool,
 ) -> Result<Item<S, N>, Stop>
-    requires { room < 2 ^ 16 }
+    requires { room + 1 < 2 ^ 16 }
     ensures { Reads seen_item result (kinds reader.new.rest.now)
         (template (M.mark marks.now) spot room parallel (kinds reader.old.rest.now)) }
 {
-    let name = reader.name(alloc)?;
-    let parameters = parameters(alloc, reader)?;
-    let body = block(alloc, marks, reader, room)?;
+    let Function {
+        name,
+        parameters,
+        body,
+    } = definition(alloc, marks, reader, room)?;
     let form = ItemForm::Definition(Definition::Template(Template {
         parallel,
         name,
-        parameters: tight(parameters),
-        body: Block::of(tight(body)),
+        parameters,
+        body,
     }));
     Ok(Item { spot, form })
-}
-
-// What stands behind `function`.
-#[tactic(auto, unfolding(crate::specs::Reading::function))]
-fn function<S: Drop, N: Blank + Drop, M: Marks<S>>(
-    alloc: Global,
-    marks: &M,
-    spot: S,
-    reader: &mut Reader,
-    room: u32,
-) -> Result<Item<S, N>, Stop>
-    requires { room < 2 ^ 16 }
-    ensures { Reads seen_item result (kinds reader.new.rest.now)
-        (function (M.mark marks.now) spot room (kinds reader.old.rest.now)) }
-{
-    let name = reader.name(alloc)?;
-    let parameters = parameters(alloc, reader)?;
-    let body = block(alloc, marks, reader, room)?;
-    let form = ItemForm::Definition(Definition::Function(Function {
-        name,
-        parameters: tight(parameters),
-        body: Block::of(tight(body)),
-    }));
-    Ok(Item { spot, form })
-}
-
-// One name or more in brackets.
-fn bracketed_names(alloc: Global, reader: &mut Reader) -> Result<Vec<Text>, Stop>
-    ensures { Reads (λ v. v.items) result (kinds reader.new.rest.now)
-        (closed CloseBracket (after OpenBracket (separated name_at) (kinds reader.old.rest.now))) }
-{
-    reader.behind(Symbol::OpenBracket)?;
-    let names = names(alloc, reader)?;
-    reader.behind(Symbol::CloseBracket)?;
-    Ok(names)
 }
 
 // The public inputs, or none where they aren't written.
@@ -174,45 +145,11 @@ fn public_names(alloc: Global, reader: &mut Reader) -> Result<Vec<Text>, Stop>
     }
     reader.skip();
     reader.behind_word(Reserved::Public)?;
-    let names = bracketed_names(alloc, reader)?;
+    reader.behind(Symbol::OpenBracket)?;
+    let names = names(alloc, reader)?;
+    reader.behind(Symbol::CloseBracket)?;
     reader.behind(Symbol::CloseBrace)?;
     Ok(names)
-}
-
-// `=` and a name.
-fn equal_name(alloc: Global, reader: &mut Reader) -> Result<Text, Stop>
-    ensures { Reads (λ x. x) result (kinds reader.new.rest.now)
-        (after Equal name_at (kinds reader.old.rest.now)) }
-{
-    reader.behind(Symbol::Equal)?;
-    let name = reader.name(alloc)?;
-    Ok(name)
-}
-
-// What stands behind the public inputs: `=`, a template's name and its arguments, and `;`.
-#[tactic(auto, unfolding(crate::specs::Reading::instance))]
-fn instance<S: Drop, N: Blank + Drop>(
-    alloc: Global,
-    spot: S,
-    reader: &mut Reader,
-    room: u32,
-    public: Vec<Text>,
-) -> Result<Item<S, N>, Stop>
-    requires { room < 2 ^ 16 }
-    ensures { Reads seen_item result (kinds reader.new.rest.now)
-        (instance spot room public.items (kinds reader.old.rest.now)) }
-{
-    let template = equal_name(alloc, reader)?;
-    reader.behind(Symbol::OpenParenthesis)?;
-    let arguments = reader.arguments(alloc, room)?;
-    reader.behind(Symbol::Semicolon)?;
-    let form = ItemForm::Main(Main {
-        public: tight(public),
-        template,
-        meant: N::blank(),
-        arguments: tight(arguments),
-    });
-    Ok(Item { spot, form })
 }
 
 // What stands behind `component` in an item.
@@ -229,26 +166,21 @@ fn main<S: Drop, N: Blank + Drop>(
 {
     reader.behind_word(Reserved::Main)?;
     let public = public_names(alloc, reader)?;
-    let main = instance(alloc, spot, reader, room, public)?;
-    Ok(main)
-}
-
-// `include "name";`, behind its word.
-fn include<S: Drop, N: Drop>(
-    alloc: Global,
-    spot: S,
-    reader: &mut Reader,
-) -> Result<Item<S, N>, Stop>
-    ensures { Reads seen_item result (kinds reader.new.rest.now)
-        (made (IncludeTree spot) (closed Semicolon (words_at (kinds reader.old.rest.now)))) }
-{
-    let name = words(alloc, reader)?;
+    reader.behind(Symbol::Equal)?;
+    let template = reader.name(alloc)?;
+    reader.behind(Symbol::OpenParenthesis)?;
+    let arguments = reader.arguments(alloc, room)?;
     reader.behind(Symbol::Semicolon)?;
-    let form = ItemForm::Include(Include { name });
+    let form = ItemForm::Main(Main {
+        public: tight(public),
+        template,
+        meant: N::blank(),
+        arguments: tight(arguments),
+    });
     Ok(Item { spot, form })
 }
 
-/// An item that is at most this high.
+/// An item, where the statements of its block are at most this high.
 #[tactic(auto, unfolding(crate::specs::Reading::item))]
 pub fn item<S: Drop, N: Blank + Drop, M: Marks<S>>(
     alloc: Global,
@@ -256,32 +188,34 @@ pub fn item<S: Drop, N: Blank + Drop, M: Marks<S>>(
     reader: &mut Reader,
     room: u32,
 ) -> Result<Item<S, N>, Stop>
-    requires { room < 2 ^ 16 }
+    requires { room + 1 < 2 ^ 16 }
     ensures { Reads seen_item result (kinds reader.new.rest.now)
         (item (M.mark marks.now) room (kinds reader.old.rest.now)) }
 {
-    if room == 0 {
-        return Err(Stop::NoTree);
-    }
     let spot = marks.mark(reader.rest);
     if reader.begins_word(Reserved::Pragma) {
         reader.skip();
         pragma(spot, reader)
     } else if reader.begins_word(Reserved::Include) {
         reader.skip();
-        include(alloc, spot, reader)
+        let name = words(alloc, reader)?;
+        reader.behind(Symbol::Semicolon)?;
+        let form = ItemForm::Include(Include { name });
+        Ok(Item { spot, form })
     } else if reader.begins_word(Reserved::Template) {
         reader.skip();
         let parallel = reader.begins_word(Reserved::Parallel);
         if parallel {
             reader.skip();
         }
-        template(alloc, marks, spot, reader, room - 1, parallel)
+        template(alloc, marks, spot, reader, room, parallel)
     } else if reader.begins_word(Reserved::Function) {
         reader.skip();
-        function(alloc, marks, spot, reader, room - 1)
+        let function = definition(alloc, marks, reader, room)?;
+        let form = ItemForm::Definition(Definition::Function(function));
+        Ok(Item { spot, form })
     } else {
         reader.behind_word(Reserved::Component)?;
-        main(alloc, spot, reader, room - 1)
+        main(alloc, spot, reader, room + 1)
     }
 }

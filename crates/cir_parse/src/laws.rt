@@ -7,6 +7,7 @@ ghost use Rattle.cir_ast.specs.Shape.{IsShaped, IsShapedItem};
 ghost use Rattle.cir_parse.specs.Contract.{IsFirstUnread};
 
 /// Two shaped trees that print the same tokens are equal, however high they are.
+#[tactic(auto, using(crate::proofs::Files::one_tree))]
 pub fn one_tree()
     ensures { (f g : PlainFile (Unit {0})) → IsShaped f → IsShaped g → file_tokens f ≡ file_tokens g
         → f ≡ g }

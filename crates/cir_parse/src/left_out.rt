@@ -17,13 +17,6 @@ fn custom(word: &[u8], tokens: &[Token]) -> Option<Form>
     }
 }
 
-// Behind `template`, the word of a custom template.
-fn custom_template(tokens: &[Token]) -> Option<Form>
-    ensures { result ≡ custom_at (codes "custom") (kinds tokens.now) }
-{
-    custom(b"custom".as_slice(), tokens)
-}
-
 // Behind `pragma`, the word that allows custom templates.
 fn custom_pragma(tokens: &[Token]) -> Option<Form>
     ensures { result ≡ custom_at (codes "custom_templates") (kinds tokens.now) }
@@ -54,7 +47,7 @@ fn left_out(tokens: &[Token]) -> Option<Form>
     match &first.kind {
         TokenKind::Reserved(word) => match word {
             Reserved::Bus => Some(Form::Bus),
-            Reserved::Template => custom_template(rest),
+            Reserved::Template => custom(b"custom".as_slice(), rest),
             Reserved::Pragma => custom_pragma(rest),
             Reserved::Signal => tag(rest),
             _ => None,

@@ -17,14 +17,6 @@ pub struct Head<S, N> {
     pub step: Step<S, N>,
 }
 
-/// An `if` and its chosen statement, before an `else` is looked for.
-#[derive(Drop)]
-pub struct Chosen<S, N> {
-    pub spot: S,
-    pub condition: Box<Expr<N>>,
-    pub chosen: Box<Statement<S, N>>,
-}
-
 /// Puts a statement behind the others.
 pub fn add<S: Drop, N: Drop>(
     statements: &mut Vec<Statement<S, N>>,
@@ -51,34 +43,28 @@ pub fn block_of<S: Drop, N: Drop>(
 
 pub fn if_of<S: Drop, N: Drop>(
     alloc: Global,
-    found: Chosen<S, N>,
+    spot: S,
+    condition: Box<Expr<N>>,
+    chosen: Box<Statement<S, N>>,
 ) -> Result<Box<Statement<S, N>>, AllocError>
     ensures { IfOk result (λ s. seen_statement s.value
-        ≡ If found.spot (seen found.condition.value) (seen_statement found.chosen.value)) }
+        ≡ If spot (seen condition.value) (seen_statement chosen.value)) }
 {
-    let Chosen {
-        spot,
-        condition,
-        chosen,
-    } = found;
     let form = StatementForm::If(Box::into_inner(condition), chosen);
     Ok(Box::new(alloc, Statement { spot, form })?)
 }
 
 pub fn if_else_of<S: Drop, N: Drop>(
     alloc: Global,
-    found: Chosen<S, N>,
+    spot: S,
+    condition: Box<Expr<N>>,
+    chosen: Box<Statement<S, N>>,
     other: Box<Statement<S, N>>,
 ) -> Result<Box<Statement<S, N>>, AllocError>
     ensures { IfOk result (λ s. seen_statement s.value
-        ≡ IfElse found.spot (seen found.condition.value) (seen_statement found.chosen.value)
+        ≡ IfElse spot (seen condition.value) (seen_statement chosen.value)
         (seen_statement other.value)) }
 {
-    let Chosen {
-        spot,
-        condition,
-        chosen,
-    } = found;
     let form = StatementForm::IfElse(Box::into_inner(condition), chosen, other);
     Ok(Box::new(alloc, Statement { spot, form })?)
 }

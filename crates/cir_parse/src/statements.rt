@@ -1,5 +1,5 @@
 //! Statements and blocks, as functions that read on.
-ghost use Rattle.std.specs.Prelude.{◌<◌, ◌^◌, ◌+◌, [], map};
+ghost use Rattle.std.specs.Prelude.{◌<◌, ◌^◌, ◌+◌, map};
 ghost use Rattle.cir_ast.specs.Tree.{Block, as_statements};
 ghost use Rattle.cir_expression.specs.Answers.{kinds, Reads, seen};
 ghost use Rattle.cir_token.specs.declared.token.Symbol.TheVariants.{Semicolon, OpenParenthesis};
@@ -10,11 +10,11 @@ ghost use Rattle.cir_simple_statement.specs.Front.{enclosed, words_at};
 ghost use Rattle.cir_simple_statement.specs.Reading.{assign};
 ghost use Rattle.cir_parse.specs.Reading.{first, condition, marked_by, head, argument, returned};
 ghost use Rattle.cir_parse.specs.Reading.{asserted, logged, simply, plain, statement, if_by};
-ghost use Rattle.cir_parse.specs.Reading.{else_by, while_by, for_by, rest_by, block};
+ghost use Rattle.cir_parse.specs.Reading.{while_by, for_by, rest_by, block};
 ghost use Rattle.cir_simple_statement.specs.Answers.{seen_assign};
 ghost use Rattle.cir_parse.specs.Answers.{seen_first, seen_argument, seen_head, seen_statement};
 
-use crate::making::{Chosen, Head, add, block_of, for_of, if_else_of, if_of, while_of};
+use crate::making::{Head, add, block_of, for_of, if_else_of, if_of, while_of};
 use crate::marks::Marks;
 use cir_ast::marked::{Expr, First, FirstForm, LogArgument, Statement, StatementForm, Step, Vars};
 use cir_ast::{Blank, Text};
@@ -31,14 +31,12 @@ pub fn words(alloc: Global, reader: &mut Reader) -> Result<Text, Stop>
     let Some((token, rest)) = reader.rest.split_first() else {
         return Err(Stop::NoTree);
     };
-    match &token.kind {
-        TokenKind::Str(words) => {
-            let words = Text::from_slice(alloc, words.as_slice())?;
-            reader.rest = rest;
-            Ok(words)
-        }
-        _ => Err(Stop::NoTree),
-    }
+    let TokenKind::Str(words) = &token.kind else {
+        return Err(Stop::NoTree);
+    };
+    let words = Text::from_slice(alloc, words.as_slice())?;
+    reader.rest = rest;
+    Ok(words)
 }
 
 // What the head of a `for` begins with.
@@ -150,32 +148,19 @@ fn head<S: Drop, N: Blank + Drop, M: Marks<S>>(
     marks: &M,
     reader: &mut Reader,
     room: u32,
-) -> Result<Head<S, N>, Stop>
-    requires { room < 2 ^ 16 }
-    ensures { Reads seen_head result (kinds reader.new.rest.now)
-        (head (M.mark marks.now) room (kinds reader.old.rest.now)) }
-{
-    let first = opened(alloc, marks, reader, room)?;
-    let condition = ended(alloc, reader, room)?;
-    let step = last(alloc, marks, reader, room)?;
-    Ok(Head {
-        first,
-        condition,
-        step,
-    })
-}
-
-fn head_boxed<S: Drop, N: Blank + Drop, M: Marks<S>>(
-    alloc: Global,
-    marks: &M,
-    reader: &mut Reader,
-    room: u32,
 ) -> Result<Box<Head<S, N>>, Stop>
     requires { room < 2 ^ 16 }
     ensures { Reads (λ h. seen_head h.value) result (kinds reader.new.rest.now)
         (head (M.mark marks.now) room (kinds reader.old.rest.now)) }
 {
-    let head = head(alloc, marks, reader, room)?;
+    let first = opened(alloc, marks, reader, room)?;
+    let condition = ended(alloc, reader, room)?;
+    let step = last(alloc, marks, reader, room)?;
+    let head = Head {
+        first,
+        condition,
+        step,
+    };
     Ok(Box::new(alloc, head)?)
 }
 
@@ -310,10 +295,9 @@ fn simply<S: Drop, N: Blank + Drop>(
         (simply spot room (kinds reader.old.rest.now)) }
 {
     let simple = simple(alloc, reader, room)?;
-    let form = StatementForm::Simple(simple);
-    let statement = Box::new(alloc, Statement { spot, form })?;
     reader.behind(Symbol::Semicolon)?;
-    Ok(statement)
+    let form = StatementForm::Simple(simple);
+    Ok(Box::new(alloc, Statement { spot, form })?)
 }
 
 // A statement without one inside.
@@ -418,8 +402,9 @@ fn rest_of_block<S: Drop, N: Blank + Drop, M: Marks<S>>(
     Err(Stop::NoTree)
 }
 
-// What stands behind `if`.
+// What stands behind `if`; an `else` belongs to the innermost `if`.
 #[cycle(statements)]
+#[tactic(auto, unfolding(crate::specs::Reading::if_by))]
 fn if_statement<S: Drop, N: Blank + Drop, M: Marks<S>>(
     alloc: Global,
     marks: &M,
@@ -433,35 +418,12 @@ fn if_statement<S: Drop, N: Blank + Drop, M: Marks<S>>(
 {
     let condition = condition_boxed(alloc, reader, room)?;
     let chosen = statement(alloc, marks, reader, room)?;
-    let found = Chosen {
-        spot,
-        condition,
-        chosen,
-    };
-    else_branch(alloc, marks, reader, room, found)
-}
-
-// An `else`, where one comes: it belongs to the innermost `if`.
-#[cycle(statements)]
-fn else_branch<S: Drop, N: Blank + Drop, M: Marks<S>>(
-    alloc: Global,
-    marks: &M,
-    reader: &mut Reader,
-    room: u32,
-    found: Chosen<S, N>,
-) -> Result<Box<Statement<S, N>>, Stop>
-    requires { room + 1 < 2 ^ 16 }
-    ensures { Reads (λ s. seen_statement s.value) result (kinds reader.new.rest.now)
-        (else_by found.spot (statement (M.mark marks.now) room) (seen found.condition.value)
-        (seen_statement found.chosen.value)
-        (kinds reader.old.rest.now)) }
-{
     if !reader.begins_word(Reserved::Else) {
-        return Ok(if_of(alloc, found)?);
+        return Ok(if_of(alloc, spot, condition, chosen)?);
     }
     reader.skip();
     let other = statement(alloc, marks, reader, room)?;
-    Ok(if_else_of(alloc, found, other)?)
+    Ok(if_else_of(alloc, spot, condition, chosen, other)?)
 }
 
 // What stands behind `while`.
@@ -496,27 +458,23 @@ fn for_statement<S: Drop, N: Blank + Drop, M: Marks<S>>(
         (for_by (M.mark marks.now) spot room (statement (M.mark marks.now) room)
         (kinds reader.old.rest.now)) }
 {
-    let head = head_boxed(alloc, marks, reader, room)?;
+    let head = head(alloc, marks, reader, room)?;
     let body = statement(alloc, marks, reader, room)?;
     Ok(for_of(alloc, spot, head, body)?)
 }
 
-/// A block that is at most this high.
-#[tactic(auto, unfolding(crate::specs::Reading::block))]
+/// A block whose statements are at most this high.
 pub fn block<S: Drop, N: Blank + Drop, M: Marks<S>>(
     alloc: Global,
     marks: &M,
     reader: &mut Reader,
     room: u32,
 ) -> Result<Vec<Statement<S, N>>, Stop>
-    requires { room < 2 ^ 16 }
+    requires { room + 1 < 2 ^ 16 }
     ensures { Reads (λ v. map seen_statement v.items) result (kinds reader.new.rest.now)
         (block (M.mark marks.now) room (kinds reader.old.rest.now)) }
 {
-    if room == 0 {
-        return Err(Stop::NoTree);
-    }
     reader.behind(Symbol::OpenBrace)?;
-    let statements = rest_of_block(alloc, marks, reader, room - 1)?;
+    let statements = rest_of_block(alloc, marks, reader, room)?;
     Ok(statements)
 }

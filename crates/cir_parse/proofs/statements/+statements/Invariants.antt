@@ -17,9 +17,6 @@ decreases-inner_block g l = 3 * l.room + 2
 abbrev pub decreases-if_statement : goal.decreases-if_statement
 decreases-if_statement g l = 3 * l.room + 2
 
-abbrev pub decreases-else_branch : goal.decreases-else_branch
-decreases-else_branch g l = 3 * l.room + 1
-
 abbrev pub decreases-while_statement : goal.decreases-while_statement
 decreases-while_statement g l = 3 * l.room + 1
 

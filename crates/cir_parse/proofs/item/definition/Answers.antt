@@ -1,10 +1,10 @@
 use Rattle.std.proofs.Common.{refl}
 use Rattle.cir_parse.proofs.Seen.{seen_statements}
-use Rattle.cir_parse.specs.Reading.{function}
-use Rattle.cir_parse.proofs.item.function.Goals as goal
+use Rattle.cir_parse.specs.Reading.{definition}
+use Rattle.cir_parse.proofs.item.definition.Goals as goal
 
 pub returns : goal.returns
-unfolding function
+unfolding definition
 returns g c =
     rw (
       c.in_ok-name.ensures,
