@@ -1,10 +1,7 @@
 pub mod Paths
-pub mod Bounded
 pub mod Walk
 pub mod Decoding
 pub mod Searching
-pub mod Reaching
-pub mod Following
-pub mod Program
+pub mod Steps
 pub mod OneLoading
 pub mod Resting

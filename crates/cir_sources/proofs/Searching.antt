@@ -1,40 +1,29 @@
 -- Which file an include names.
-use Rattle.std.proofs.Common.{◌≡◌, ◌⊎◌, inl, inr, ℕ, Bool, true, false, List, sym, subst, ap, refl}
-use Rattle.std.proofs.Common.{◌∙◌, cond}
-use Rattle.std.proofs.Common.{Option, None, Some, Vec, String, string_bytes}
-use Rattle.std.specs.Prelude.{is_some}
-use Rattle.std.specs.declared.alloc.Global.{Global}
+use Rattle.std.proofs.Common.{◌≡◌, ℕ, true, false, List, sym, ap, refl, ◌∙◌, cond, Option, None}
+use Rattle.std.proofs.Common.{Some, Vec, String, string_bytes}
+use Rattle.std.specs.Prelude.{All}
 use Rattle.std.specs.Str.{IsUtf8, bytes_eq, is_utf8}
-use Rattle.std.specs.String.{string_cmp}
-use Rattle.std.specs.BTreeSet.{BTreeSet, contains_text, UpdatesBy}
-use Rattle.std.proofs.lemmas.Bool.{false_from_ne_true}
-use Rattle.std.proofs.lemmas.Map.Text.{btree_set_updates_text}
+use Rattle.std.proofs.lemmas.Bool.{cond_both, false_from_ne_true}
+use Rattle.std.proofs.lemmas.List.Elements.{All-weaker}
 use Rattle.std.proofs.lemmas.Slice.Eq.{bytes_eq-Decides}
 use Rattle.std.proofs.lemmas.Str.{is_utf8-from_IsUtf8, IsUtf8-from_is_utf8}
-use Rattle.out_io.specs.Calls.{IfTold}
-use Rattle.out_io.specs.Contents.{Contents, Finds}
-use Rattle.cir_sources.specs.declared.source.Site.{Site}
-use Rattle.cir_sources.specs.declared.search.Target.{Target}
+use Rattle.out_io.specs.Contents.{Finds}
+use Rattle.out_io.proofs.Telling.{answer_here, others_stay, with_answer}
 use Rattle.cir_sources.specs.declared.search.Target.TheVariants.{Loaded, Absent, Found}
-use Rattle.cir_sources.specs.Names.{in_folder, resolved}
-use Rattle.cir_sources.specs.Includes.{beside, chosen, held, if_held, in_library}
-use Rattle.cir_sources.specs.Steps.{AreHeld, AreMissing, FindsTarget, HasFile, IsThere, Learns}
-use Rattle.cir_sources.specs.Steps.{Looks, Targets}
-
-if_told : (contents : Option Contents) (P : Contents → Type 0) → ((files : Contents) → P files)
-    → IfTold contents P
-if_told None P all = tt
-if_told (Some files) P all = all files
-
--- two facts of the contents lead to what follows from both
-pub if_told_both : (contents : Option Contents) (P Q R : Contents → Type 0)
-    → ((files : Contents) → P files → Q files → R files) → IfTold contents P → IfTold contents Q
-    → IfTold contents R
-if_told_both None P Q R leads p q = tt
-if_told_both (Some files) P Q R leads p q = leads files p q
+use Rattle.cir_sources.specs.Includes.{Contents, Site, IsSource, Source, chosen, held}
+use Rattle.cir_sources.specs.Loading.{Global}
+use Rattle.cir_sources.specs.Steps.{BTreeSet, contains_text, Target, AreHeld, AreMissing, Fits}
+use Rattle.cir_sources.specs.Steps.{Learns, Looks, Targets}
 
 pub held_at : (files : Contents) (name : List ℕ) → IsUtf8 name → held files name ≡ files name
 held_at files name text = ap (λ b. cond b (files name) None) (is_utf8-from_IsUtf8 name text)
+
+-- what is held is there
+pub held_there : (files : Contents) (name bytes : List ℕ) → held files name ≡ Some bytes
+    → files name ≡ Some bytes
+held_there files name bytes =
+    cond_both (is_utf8 name) (files name) None (λ o. o ≡ Some bytes → files name ≡ Some bytes)
+    (λ _ e. e) (λ _ e. cc)
 
 -- a name that isn't UTF-8 has no file
 pub no_text : (files : Contents) (name : List ℕ) → ¬ IsUtf8 name → held files name ≡ None
@@ -44,169 +33,111 @@ no_text files name isnt =
 
 -- nor has one that isn't there
 pub none_held : (files : Contents) (name : List ℕ) → files name ≡ None → held files name ≡ None
-none_held files name none = by_test (is_utf8 name)
+none_held files name none =
+    cond_both (is_utf8 name) (files name) None (λ o. o ≡ None) (λ _. none) (λ _. refl)
+
+-- another answer for a name that had no file
+module _ (files : Contents) (name : List ℕ) (answer : Option (List ℕ)) (none : files name ≡ None)
   where
-    by_test : (b : Bool) → cond b (files name) None ≡ None
-    by_test true = none
-    by_test false = refl
+    abbrev more : Contents
+    more = with_answer name answer files
 
--- one more name that has no file
-module _ (old new : BTreeSet (String Global)) (text : List ℕ)
-    (now : (q : List ℕ) → contains_text new q ≡ cond (bytes_eq text q) true (contains_text old q))
-  where
-    added : (q : List ℕ) → contains_text new q ≡ true → (text ≡ q) ⊎ (contains_text old q ≡ true)
-    added q e = by_test (bytes_eq text q) refl (sym (now q) ∙ e)
-      where
-        by_test : (b : Bool) → bytes_eq text q ≡ b → cond b true (contains_text old q) ≡ true
-            → (text ≡ q) ⊎ (contains_text old q ≡ true)
-        by_test true same f = inl ((bytes_eq-Decides text q).0 same)
-        by_test false other f = inr f
+    held_stays : (q : List ℕ) → ¬ (name ≡ q) → held more q ≡ held files q
+    held_stays q other =
+        ap (λ (o : Option (List ℕ)). cond (is_utf8 q) o None)
+        (others_stay name answer files q other)
 
-    stays : (q : List ℕ) → contains_text old q ≡ true → contains_text new q ≡ true
-    stays q e = now q ∙ by_test (bytes_eq text q)
-      where
-        by_test : (b : Bool) → cond b true (contains_text old q) ≡ true
-        by_test true = refl
-        by_test false = e
-
-    missing_more : (files : Contents) → files text ≡ None → AreMissing files old
-        → AreMissing files new
-    missing_more files none missing q e = elim (added q e) [
-      | inl same ↦ subst (λ (n : List ℕ). held files n ≡ None) same (none_held files text none)
-      | inr before ↦ missing q before
-    ]
-
-    apart_more : (names : BTreeSet (String Global)) → contains_text names text ≡ false
-        → ((q : List ℕ) → contains_text old q ≡ true → contains_text names q ≡ false) → (q : List ℕ)
-        → contains_text new q ≡ true → contains_text names q ≡ false
-    apart_more names fresh apart q e = elim (added q e) [
-      | inl same ↦ ap (contains_text names) (sym same) ∙ fresh
-      | inr before ↦ apart q before
-    ]
-
--- nothing was asked
-pub learns_absent : (contents : Option Contents) (names missing : BTreeSet (String Global))
-    → Learns contents names missing missing Absent
-learns_absent contents names missing = record {
-  more = λ q e. e;
-  apart = λ apart. apart;
-  fresh = tt;
-  so = if_told contents
-      (λ files. AreMissing files missing → AreMissing files missing × IsThere files Absent)
-      (λ files missing_are. (missing_are, tt));
-}
-
-module _ (old new : BTreeSet (String Global)) (name : String Global) (text : List ℕ)
-    (updates : UpdatesBy string_cmp (string_cmp name) old new true) (is : string_bytes name ≡ text)
-  where
-    inserted : (q : List ℕ)
-        → contains_text new q ≡ cond (bytes_eq text q) true (contains_text old q)
-    inserted q =
-        btree_set_updates_text (string_bytes name) old new true updates q
-        ∙ ap (λ (n : List ℕ). cond (bytes_eq n q) true (contains_text old q)) is
-
-    pub inserted_here : contains_text new text ≡ true
-    inserted_here =
-        inserted text ∙ ap (λ b. cond b true (contains_text old text))
-        ((bytes_eq-Decides text text).1 refl)
-
-    -- there is no file of the name
-    pub learns_missing : (contents : Option Contents) (names : BTreeSet (String Global))
-        → contains_text names text ≡ false → Finds contents text None
-        → Learns contents names old new Absent
-    learns_missing contents names fresh finds = record {
-      more = stays old new text inserted;
-      apart = λ apart. apart_more old new text inserted names fresh apart;
-      fresh = tt;
-      so = learned contents finds;
+    source_stays : (s : Source) → IsSource files s → IsSource more s
+    source_stays s source = record {
+      bytes = source.bytes;
+      there = held_stays s.name
+          (λ same. cc (none_held files s.name (ap files (sym same) ∙ none), source.there))
+          ∙ source.there;
+      read = source.read;
     }
-      where
-        learned : (o : Option Contents) → Finds o text None
-            → IfTold o (λ files. AreMissing files old → AreMissing files new × IsThere files Absent)
-        learned None found = tt
-        learned (Some files) found =
-            λ missing. (missing_more old new text inserted files (sym found) missing, tt)
+
+    pub sources_stay : (all : List Source) → All (IsSource files) all → All (IsSource more) all
+    sources_stay = All-weaker (IsSource files) (IsSource more) source_stays
+
+    pub missing_stay : (missing : BTreeSet (String Global)) → contains_text missing name ≡ false
+        → AreMissing files missing → AreMissing more missing
+    missing_stay missing fresh are q e = held_stays q (λ same. cc) ∙ are q e
+
+module _ (contents : Option Contents) (names old : BTreeSet (String Global)) (text : List ℕ)
+    (fresh : contains_text names text ≡ false) where
+  -- there is no file of the name, which is put among those that are missing
+  pub learns_missing : (new : BTreeSet (String Global))
+      → ((q : List ℕ) → contains_text new q ≡ cond (bytes_eq text q) true (contains_text old q))
+      → Finds contents text None → Learns contents names old new Absent
+  learns_missing new now finds = record {
+    more = λ files are q e. are q
+        (now q ∙ cond_both (bytes_eq text q) true (contains_text old q) (λ b. b ≡ true) (λ _. refl)
+        (λ _. e));
+    knows = λ all knows. record {
+      so = λ files e. one_more all files (sym (rw e at finds)) (knows.so files e);
+      files = knows.files;
+      can = one_more all knows.files (knows.others text fresh) knows.can;
+      others = knows.others;
+    };
+  }
+    where
+      one_more : (all : List Source) (files : Contents) → files text ≡ None
+          → Fits all old Loaded files → Fits all new Absent files
+      one_more all files none fits = record {
+        sources = fits.sources;
+        missing = λ q e. cond_both (bytes_eq text q) true (contains_text old q)
+            (λ b. b ≡ true → held files q ≡ None)
+            (λ same _. none_held files q (ap files (sym ((bytes_eq-Decides text q).0 same)) ∙ none))
+            (λ _. fits.missing q) (sym (now q) ∙ e);
+        there = tt;
+      }
 
 -- there is a file of the name
 pub learns_found : (contents : Option Contents) (names missing : BTreeSet (String Global))
-    (text : List ℕ) (found : String Global) (bytes : Vec ℕ Global) → IsUtf8 text
-    → string_bytes found ≡ text → contains_text names text ≡ false
-    → contains_text missing text ≡ false → Finds contents text (Some bytes)
+    (found : String Global) (bytes : Vec ℕ Global) → IsUtf8 (string_bytes found)
+    → contains_text names (string_bytes found) ≡ false
+    → contains_text missing (string_bytes found) ≡ false
+    → Finds contents (string_bytes found) (Some bytes)
     → Learns contents names missing missing (Found found bytes)
-learns_found contents names missing text found bytes utf8 is unloaded unasked finds = record {
-  more = λ q e. e;
-  apart = λ apart. apart;
-  fresh = (
-    subst IsUtf8 (sym is) utf8,
-    ap (contains_text names) is ∙ unloaded,
-    ap (contains_text missing) is ∙ unasked,
-  );
-  so = learned contents finds;
-}
-  where
-    learned : (o : Option Contents) → Finds o text (Some bytes) → IfTold o (λ files.
-        AreMissing files missing → AreMissing files missing × IsThere files (Found found bytes))
-    learned None f = tt
-    learned (Some files) f =
-        λ missing_are. (missing_are, ap (held files) is ∙ held_at files text utf8 ∙ sym f)
-
--- one search and then another
-pub learns_both : (contents now : Option Contents) (names a b c : BTreeSet (String Global))
-    (target : Target) → now ≡ contents → Learns contents names a b Absent
-    → Learns now names b c target → Learns contents names a c target
-learns_both contents now names a b c target same first second = record {
-  more = λ q e. second.more q (first.more q e);
-  apart = λ apart. second.apart (first.apart apart);
-  fresh = second.fresh;
-  so = if_told_both contents
-      (λ files. AreMissing files a → AreMissing files b × IsThere files Absent)
-      (λ files. AreMissing files b → AreMissing files c × IsThere files target)
-      (λ files. AreMissing files a → AreMissing files c × IsThere files target)
-      (λ files p q missing. q (p missing).0) first.so
-      (subst
-      (λ (o : Option Contents). IfTold o
-      (λ files. AreMissing files b → AreMissing files c × IsThere files target)) same second.so);
+learns_found contents names missing found bytes utf8 fresh unasked finds = record {
+  more = λ files are. are;
+  knows = λ all knows.
+      let text : List ℕ = string_bytes found in
+      let none : knows.files text ≡ None = knows.others text fresh in
+      let more : Contents = with_answer text (Some bytes.items) knows.files in
+      record {
+        so = λ files e. record {
+          sources = (knows.so files e).sources;
+          missing = (knows.so files e).missing;
+          there = held_at files text utf8 ∙ sym (rw e at finds);
+        };
+        files = more;
+        can = record {
+          sources = sources_stay knows.files text (Some bytes.items) none all knows.can.sources;
+          missing = missing_stay knows.files text (Some bytes.items) none missing unasked
+              knows.can.missing;
+          there = held_at more text utf8 ∙ answer_here text (Some bytes.items) knows.files;
+        };
+        others = λ q. elim (bytes_eq (string_bytes found) q) as (λ b.
+            cond b true (contains_text names q) ≡ false
+            → cond b (Some bytes.items) (knows.files q) ≡ None) [
+              | true ↦ λ e. cc
+              | false ↦ knows.others q
+            ];
+      };
 }
 
 -- what was looked up is what the include names, where it names that name if it has a file
-looked : (files : Contents) (names : BTreeSet (String Global)) (library : Option (List ℕ))
+pub looked : (files : Contents) (names : BTreeSet (String Global)) (library : Option (List ℕ))
     (site : Site) (name : List ℕ) (target : Target)
     → ((b : List ℕ) → held files name ≡ Some b → chosen files library site ≡ Some name)
-    → (held files name ≡ None → target ≡ Absent → chosen files library site ≡ None)
-    → AreHeld files names → HasFile files target → Looks files names name target
+    → (held files name ≡ None → chosen files library site ≡ None)
+    → AreHeld files names → Looks files names name target
     → Targets files names library site target
-looked files names library site name Loaded some none are has looks =
+looked files names library site name Loaded some none are looks =
     (name, some (are name looks).0 (are name looks).1, looks)
-looked files names library site name Absent some none are has looks = none looks refl
-looked files names library site name (Found found bytes) some none are has looks = (
-  some has.0 (sym (ap (held files) looks.0) ∙ has.1) ∙ ap Some (sym looks.0),
-  ap (contains_text names) looks.0 ∙ looks.1,
+looked files names library site name Absent some none are looks = none looks
+looked files names library site name (Found found bytes) some none are looks = (
+  rw looks.0 looks.1,
+  λ b there. rw looks.0 (some b (rw looks.0 at there)),
 )
-
-chosen_by : Contents → Option (List ℕ) → Site → Option (List ℕ) → Option (List ℕ)
-chosen_by files library site here =
-    cond (is_some here) (Some (beside site)) (if_held files (in_library library site))
-
-pub finds_in_library : (names first missing : BTreeSet (String Global)) (folder : List ℕ)
-    (site : Site) (far : List ℕ) (target : Target) → far ≡ resolved (in_folder folder site.name)
-    → ((q : List ℕ) → contains_text first q ≡ true → contains_text missing q ≡ true)
-    → ((files : Contents) → AreMissing files first → Looks files names (beside site) Absent)
-    → ((files : Contents) → AreMissing files missing → Looks files names far target)
-    → FindsTarget names missing (Some folder) site target
-unfolding chosen_by
-finds_in_library names first missing folder site far target is more near looks files are
-    missing_are has =
-    let absent : held files (beside site) ≡ None =
-    near files (λ q e. missing_are q (more q e)) in
-    let there : chosen files (Some folder) site
-    ≡ if_held files (Some (resolved (in_folder folder site.name))) =
-    ap (chosen_by files (Some folder) site) absent in
-    looked files names (Some folder) site (resolved (in_folder folder site.name)) target
-    (λ b e. there
-    ∙ ap (λ (o : Option (List ℕ)).
-    cond (is_some o) (Some (resolved (in_folder folder site.name))) None) e)
-    (λ e is_absent. there
-    ∙ ap (λ (o : Option (List ℕ)).
-    cond (is_some o) (Some (resolved (in_folder folder site.name))) None) e)
-    are has
-    (subst (λ (n : List ℕ). Looks files names n target) is (looks files missing_are))

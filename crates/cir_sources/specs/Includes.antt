@@ -3,24 +3,22 @@ use Rattle.std.specs.Prelude.{◌≡◌, ◌≤◌, ℕ, ◌==◌, Bool, not, fa
 use Rattle.std.specs.Prelude.{if◌then◌else◌, Option, None, Some, Ok, is_some}
 use Rattle.std.specs.List.{list_any}
 use Rattle.std.specs.Str.{bytes_eq, is_utf8}
-use Rattle.out_io.specs.Contents.{Contents}
-use Rattle.cir_token.specs.declared.token.Token.{Token}
+pub use Rattle.out_io.specs.Contents.{Contents}
 use Rattle.cir_lexer.specs.Reading.{IsReading}
 use Rattle.cir_ast.specs.declared.marked.Item.{Item as CodeItem}
-use Rattle.cir_ast.specs.declared.program.Spot.{Spot}
 use Rattle.cir_ast.specs.declared.program.Meant.{Meant}
 use Rattle.cir_ast.specs.Tree.{Pragma, Include, bare_item}
-use Rattle.cir_ast.specs.Plain.{PlainFile, plain_item}
+pub use Rattle.cir_ast.specs.Plain.{PlainFile}
+use Rattle.cir_ast.specs.Plain.{plain_item}
 use Rattle.cir_expression.specs.Answers.{kinds}
 use Rattle.cir_parse.specs.Contract.{IsTree}
 use Rattle.cir_parse.specs.LeftOut.{first_left_out}
 use Rattle.cir_parse.specs.Marking.{marked_file}
 use Rattle.cir_parse.specs.Marks.{spot_before}
 use Rattle.cir_sources.specs.declared.source.Source.{Source as CodeSource}
-use Rattle.cir_sources.specs.declared.source.Site.{Site}
-use Rattle.cir_sources.specs.Limits.{most_bytes}
+pub use Rattle.cir_sources.specs.declared.source.Site.{Site}
 use Rattle.cir_sources.specs.Names.{folder_of, resolved, in_folder}
-use Rattle.cir_sources.specs.Places.{spots_of}
+use Rattle.cir_sources.specs.Places.{Token, Spot, spots_of, most_bytes}
 
 -- a source file, with its tree as plain data, in which each item and statement has its place
 pub record Source : Type 0 where

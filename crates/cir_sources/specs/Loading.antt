@@ -1,19 +1,16 @@
 -- What the loading of a program's sources answers.
 use Rattle.std.specs.Prelude.{◌≡◌, ℕ, ◌+◌, ◌≤◌, List, [], ◌∷◌, length, map, ⊤, ◌⊎◌, All, Option}
 use Rattle.std.specs.Prelude.{None, Some, Result, Ok, Err, Vec}
-use Rattle.std.specs.declared.alloc.Global.{Global}
+pub use Rattle.std.specs.declared.alloc.Global.{Global}
 use Rattle.out_io.specs.Calls.{Told}
-use Rattle.out_io.specs.Contents.{Contents}
 use Rattle.out_io.specs.declared.fault.IoFault.{IoFault}
 use Rattle.out_io.specs.declared.fault.IoFault.TheVariants as io
-use Rattle.cir_ast.specs.declared.refusal.Refusal.{Refusal}
-use Rattle.cir_sources.specs.declared.source.Source.{Source as CodeSource}
-use Rattle.cir_sources.specs.declared.source.Site.{Site}
-use Rattle.cir_sources.specs.Limits.{most_files}
-use Rattle.cir_sources.specs.declared.fault.LoadFault.{LoadFault}
+pub use Rattle.cir_sources.specs.declared.source.Source.{Source as CodeSource}
+pub use Rattle.cir_sources.specs.declared.fault.LoadFault.{LoadFault}
 use Rattle.cir_sources.specs.declared.fault.LoadFault.TheVariants as fault
-use Rattle.cir_sources.specs.Includes.{Source, seen, IsRead, IsSource, includes_of, left_after}
-use Rattle.cir_sources.specs.Faults.{IsFault, IsStop}
+use Rattle.cir_sources.specs.Includes.{Contents, Site, Source, seen, IsRead, IsSource, includes_of}
+use Rattle.cir_sources.specs.Includes.{left_after}
+use Rattle.cir_sources.specs.Faults.{Refusal, IsFault, IsStop, most_files}
 
 -- these sources are reached from the first file of this name, in this order, no more than a program
 -- may have, and these includes are left to follow

@@ -1,6 +1,7 @@
 -- The names of files: folders, and the segments between the slashes.
 use Rattle.std.specs.Prelude.{ℕ, ◌==◌, Bool, true, false, List, [], ◌∷◌, ◌++◌, reverse, fold}
-use Rattle.std.specs.Prelude.{if◌then◌else◌, not, codes}
+use Rattle.std.specs.Prelude.{if◌then◌else◌, not, codes, ◌-◌, length, slice_get}
+use Rattle.std.specs.Option.{option_map_or}
 use Rattle.std.specs.List.{list_any, slice_split, join_with_byte}
 use Rattle.std.specs.Str.{bytes_eq}
 
@@ -38,9 +39,8 @@ resolved name = join_with_byte 47 (reverse (fold keep [] (slice_split is_slash n
 -- whether a slash has to stand between the folder and a name: not behind another one, and not at
 -- the start
 abbrev pub wants_slash : List ℕ → Bool
-wants_slash [] = false
-wants_slash (c ∷ []) = not (is_slash c)
-wants_slash (c ∷ (d ∷ cs)) = wants_slash (d ∷ cs)
+wants_slash folder =
+    option_map_or (λ c. not (is_slash c)) (slice_get folder (length folder - 1)) false
 
 -- a name in a folder
 abbrev pub in_folder : List ℕ → List ℕ → List ℕ

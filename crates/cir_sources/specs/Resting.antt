@@ -1,15 +1,11 @@
 -- What the sources of a program rest on: the files of their names, and names that have no file.
 use Rattle.std.specs.Prelude.{◌≡◌, ℕ, true, false, List, map, All, Option, None, Result, Ok, Err}
 use Rattle.std.specs.Prelude.{String}
-use Rattle.std.specs.declared.alloc.Global.{Global}
-use Rattle.std.specs.BTreeSet.{BTreeSet, contains_text}
 use Rattle.out_io.specs.Calls.{Told}
-use Rattle.out_io.specs.Contents.{Contents}
-use Rattle.cir_sources.specs.declared.fault.LoadFault.{LoadFault}
 use Rattle.cir_sources.specs.declared.loading.Reached.{Reached}
-use Rattle.cir_sources.specs.Includes.{Source, IsSource, is_among, seen}
-use Rattle.cir_sources.specs.Loading.{AreAll, Loads}
-use Rattle.cir_sources.specs.Steps.{AreMissing, names_of}
+use Rattle.cir_sources.specs.Includes.{Contents, Source, IsSource, is_among, seen}
+use Rattle.cir_sources.specs.Loading.{Global, LoadFault, AreAll, Loads}
+use Rattle.cir_sources.specs.Steps.{BTreeSet, contains_text, AreMissing, names_of}
 
 -- These sources are those of the program in all files from which they are read, where these names
 -- have no file. There are such files with no other names.

@@ -1,9 +1,6 @@
 //! From the bytes of a file to a source, or to its first fault.
-ghost use Rattle.std.specs.Prelude.{◌≡◌, ◌<◌, ◌≤◌, ◌^◌, Ok, length, IfOk};
-ghost use Rattle.cir_lexer.specs.Reading.{IsReading};
+ghost use Rattle.std.specs.Prelude.{◌≡◌, ◌<◌, ◌^◌, length, IfOk};
 ghost use Rattle.cir_sources.specs.Includes.{seen, seen_items, includes_of, other_version};
-ghost use Rattle.cir_sources.specs.Limits.{most_bytes};
-ghost use Rattle.cir_sources.specs.Places.{spots_of};
 ghost use Rattle.cir_sources.specs.Steps.{Lexes, ParsesFile, Decodes};
 
 use crate::fault::{LoadFault, refusal};
@@ -22,7 +19,9 @@ pub(crate) fn source(alloc: Global, name: &[u8], bytes: Vec<u8>) -> Result<Sourc
 {
     let text = bytes.as_slice();
     let tokens = tokens_of(alloc, name, text)?;
-    let file = file_of(alloc, name, text, tokens.as_slice())?;
+    let tokens = tokens.as_slice();
+    let spots = spots(alloc, text, tokens)?;
+    let file = file_of(alloc, name, tokens, spots.as_slice())?;
     let name = Text::from_slice(alloc, name)?;
     Ok(Source { name, file })
 }
@@ -31,12 +30,9 @@ fn tokens_of(alloc: Global, name: &[u8], bytes: &[u8]) -> Result<Vec<Token>, Loa
     ensures { Lexes name.now bytes.now result }
 {
     if bytes.len() > MAX_SOURCE {
-        let kind = Kind::Limit {
-            which: Which::Source,
-            count: bytes.len() as u64,
-        };
+        let (which, count) = (Which::Source, bytes.len() as u64);
         let start = Spot { line: 1, column: 1 };
-        return Err(refusal(alloc, name, kind, start));
+        return Err(refusal(alloc, name, Kind::Limit { which, count }, start));
     }
     match lex(alloc, bytes) {
         Ok(tokens) => Ok(tokens),
@@ -48,24 +44,8 @@ fn tokens_of(alloc: Global, name: &[u8], bytes: &[u8]) -> Result<Vec<Token>, Loa
     }
 }
 
-// The file of the tokens of these bytes.
-fn file_of(
-    alloc: Global,
-    name: &[u8],
-    bytes: &[u8],
-    tokens: &[Token],
-) -> Result<File<Spot, Meant>, LoadFault>
-    requires short { length bytes.now ≤ most_bytes }
-    requires reading { IsReading bytes.now (Ok tokens.now) }
-    ensures { ParsesFile name.now tokens.now (spots_of bytes.now tokens.now) result }
-{
-    let spots = spots(alloc, bytes, tokens)?;
-    let file = tree_of(alloc, name, tokens, spots.as_slice())?;
-    Ok(file)
-}
-
 // The file of the tokens with these places.
-fn tree_of(
+fn file_of(
     alloc: Global,
     name: &[u8],
     tokens: &[Token],
@@ -78,10 +58,8 @@ fn tree_of(
         Ok(file) => match other_version(file.items.as_slice()) {
             None => Ok(file),
             Some(spot) => {
-                let kind = Kind::NotInProfile {
-                    form: Form::Version,
-                };
-                Err(refusal(alloc, name, kind, spot))
+                let form = Form::Version;
+                Err(refusal(alloc, name, Kind::NotInProfile { form }, spot))
             }
         },
         Err(ParseFault::Form { token, form }) => {
@@ -109,15 +87,6 @@ fn other_version(items: &[Item<Spot, Meant>]) -> Option<Spot>
     None
 }
 
-fn site(alloc: Global, file: &[u8], name: &[u8], spot: Spot) -> Result<Site, AllocError>
-    ensures { IfOk result
-        (λ site. site ≡ record { file = file.now; name = name.now; spot = spot }) }
-{
-    let file = Text::from_slice(alloc, file)?;
-    let name = Text::from_slice(alloc, name)?;
-    Ok(Site { file, name, spot })
-}
-
 /// The includes of the source, in order.
 pub(crate) fn sites(alloc: Global, source: &Source) -> Result<Vec<Site>, AllocError>
     ensures { IfOk result (λ v. v.items ≡ includes_of (seen source.now)) }
@@ -125,9 +94,10 @@ pub(crate) fn sites(alloc: Global, source: &Source) -> Result<Vec<Site>, AllocEr
     let mut sites = Vec::new(alloc);
     for item in source.file.items.as_slice() {
         if let ItemForm::Include(include) = &item.form {
-            let file = source.name.as_slice();
-            let site = site(alloc, file, include.name.as_slice(), item.spot)?;
-            sites.push(site)?;
+            let file = Text::from_slice(alloc, source.name.as_slice())?;
+            let name = Text::from_slice(alloc, include.name.as_slice())?;
+            let spot = item.spot;
+            sites.push(Site { file, name, spot })?;
         }
     }
     Ok(sites)

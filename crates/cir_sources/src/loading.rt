@@ -1,13 +1,12 @@
 //! The files that a program reaches.
-ghost use Rattle.std.specs.Prelude.{◌≡◌, ◌≤◌, ◌++◌, reverse, string_bytes, length, IfOk, OnOk, map};
+ghost use Rattle.std.specs.Prelude.{◌≡◌, ◌≤◌, string_bytes, IfOk, OnOk, map};
 ghost use Rattle.std.specs.Option.{option_copied};
 ghost use Rattle.out_io.specs.Faults.{Rose};
 ghost use Rattle.cir_sources.specs.Includes.{seen};
 ghost use Rattle.out_io.specs.Calls.{OnlyReads};
-ghost use Rattle.cir_sources.specs.Limits.{most_files};
 ghost use Rattle.cir_sources.specs.Loading.{Loads, AreSources};
 ghost use Rattle.cir_sources.specs.Resting.{Reaches, RestOn};
-ghost use Rattle.cir_sources.specs.Steps.{Adds, Begins, Follows, all_of};
+ghost use Rattle.cir_sources.specs.Steps.{Adds, Follows, to_go};
 
 use crate::decode;
 use crate::fault::{LoadFault, refusal};
@@ -30,35 +29,15 @@ struct Loading {
     pending: Vec<Site>,
 }
 
-// Puts the includes on the pile so that the first one lies on top.
-fn pile(pending: &mut Vec<Site>, mut sites: Vec<Site>) -> Result<(), AllocError>
-    ensures { OnOk result (reverse pending.new.items ≡ sites.items ++ reverse pending.old.items) }
-{
-    while let Some(site) = sites.pop() {
-        pending.push(site)?;
-    }
-    Ok(())
-}
-
 impl Loading {
-    fn new(alloc: Global) -> Loading
-        ensures { Begins result }
-    {
-        Loading {
-            sources: Vec::new(alloc),
-            names: BTreeSet::new(alloc),
-            missing: BTreeSet::new(alloc),
-            pending: Vec::new(alloc),
-        }
-    }
-
     // Its includes are followed before the ones that were left.
     fn add(&mut self, alloc: Global, name: String, source: Source) -> Result<(), AllocError>
         requires { string_bytes name ≡ source.name }
         ensures { OnOk result (Adds self.old (seen source) self.new) }
     {
-        let sites = decode::sites(alloc, &source)?;
-        pile(&mut self.pending, sites)?;
+        let mut sites = decode::sites(alloc, &source)?;
+        sites.reverse();
+        self.pending.append(&mut sites)?;
         self.names.insert(name)?;
         self.sources.push(source)?;
         Ok(())
@@ -72,10 +51,10 @@ impl Loading {
         library: Option<&str>,
         site: &Site,
     ) -> Result<(), LoadFault>
-        requires few { length (all_of self.old) ≤ most_files }
         ensures follows { Follows (S.contents store.old)
             (option_copied library.entry) self.old site.now self.new
             (Rose (S.faults store.old) (S.faults store.new)) result }
+        ensures less { OnOk result (to_go self.new ≤ to_go self.old) }
         ensures store { OnlyReads (S.contents store.old) (S.contents store.new)
             (S.faults store.old) (S.faults store.new) (S.never_fails store.old)
             (S.never_fails store.new) }
@@ -88,12 +67,9 @@ impl Loading {
             }
             Target::Found { name, bytes } => {
                 if self.sources.len() >= MAX_FILES {
-                    let kind = Kind::Limit {
-                        which: Which::Files,
-                        count: MAX_FILES as u64 + 1,
-                    };
+                    let (which, count) = (Which::Files, MAX_FILES as u64 + 1);
                     let file = site.file.as_slice();
-                    return Err(refusal(alloc, file, kind, site.spot));
+                    return Err(refusal(alloc, file, Kind::Limit { which, count }, site.spot));
                 }
                 let source = decode::source(alloc, name.as_bytes(), bytes)?;
                 self.add(alloc, name, source)?;
@@ -153,15 +129,18 @@ pub fn reach<S: Store>(
     };
     let source = decode::source(alloc, name.as_bytes(), bytes)?;
     let name = String::from_str(alloc, name)?;
-    let mut loading = Loading::new(alloc);
+    let mut loading = Loading {
+        sources: Vec::new(alloc),
+        names: BTreeSet::new(alloc),
+        missing: BTreeSet::new(alloc),
+        pending: Vec::new(alloc),
+    };
     loading.add(alloc, name, source)?;
     while let Some(site) = loading.pending.pop() {
         loading.follow(alloc, store, library, &site)?;
     }
-    let Loading {
-        sources,
-        missing,
-        ..
-    } = loading;
-    Ok(Reached { sources, missing })
+    Ok(Reached {
+        sources: loading.sources,
+        missing: loading.missing,
+    })
 }

@@ -1,41 +1,28 @@
 //! Places in a text, found from token to token.
 ghost use Rattle.std.specs.Prelude.{◌≡◌, ◌+◌, ◌<◌, ◌≤◌, ◌^◌, length, fold, IfOk};
 ghost use Rattle.cir_ast.specs.Spot.{behind, spot_at};
-ghost use Rattle.cir_sources.specs.Limits.{most_bytes};
-ghost use Rattle.cir_sources.specs.Places.{IsRight, spots_of, spot_of};
+ghost use Rattle.cir_sources.specs.Places.{IsRight, most_bytes, spots_of, spot_of};
 
 use cir_ast::program::Spot;
 use cir_lexer::Token;
 use std::alloc::{AllocError, Global};
 
-/// The place behind one more byte.
-fn behind(spot: Spot, byte: u8) -> Spot
-    requires line { spot.line < 2 ^ 31 }
-    requires column { spot.column < 2 ^ 31 }
-    ensures { result ≡ behind spot byte }
-{
-    if byte == b'\n' {
-        Spot {
-            line: spot.line + 1,
-            column: 1,
-        }
-    } else {
-        Spot {
-            line: spot.line,
-            column: spot.column + 1,
-        }
-    }
-}
-
 /// The place behind these bytes, from the place before them.
 fn behind_all(from: Spot, bytes: &[u8]) -> Spot
     requires line { from.line + length bytes.now < 2 ^ 31 }
     requires column { from.column + length bytes.now < 2 ^ 31 }
-    ensures { result ≡ fold behind from bytes.now }
+    ensures spot { result ≡ fold behind from bytes.now }
+    ensures line { result.line ≤ from.line + length bytes.now }
+    ensures column { result.column ≤ from.column + length bytes.now }
 {
     let mut spot = from;
     for byte in bytes {
-        spot = behind(spot, *byte);
+        if *byte == b'\n' {
+            spot.line += 1;
+            spot.column = 1;
+        } else {
+            spot.column += 1;
+        }
     }
     spot
 }
@@ -76,6 +63,7 @@ impl<'t> Places<'t> {
     }
 
     /// The place of the byte at this offset, that of the end for an offset behind it.
+    #[tactic(auto, using(crate::proofs::Walk::spot_on, crate::proofs::Walk::spot_min))]
     pub(crate) fn of_offset(&mut self, offset: u32) -> Spot
         requires { IsRight self.old }
         ensures spot { result ≡ spot_at self.old.bytes.now offset }

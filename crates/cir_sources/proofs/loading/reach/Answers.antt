@@ -1,11 +1,10 @@
-use Rattle.std.proofs.Common.{None, arith, ap, vec_len, reverse}
+use Rattle.std.proofs.Common.{◌∙◌, None, arith, ap, reverse}
+use Rattle.std.specs.Option.{option_copied}
 use Rattle.std.proofs.lemmas.Result.{err_from_is_err_and}
 use Rattle.std.proofs.lemmas.List.{nil_from_length}
-use Rattle.std.specs.Option.{option_copied}
-use Rattle.out_io.proofs.Telling.{found_told, rose_on}
-use Rattle.cir_sources.specs.Steps.{all_of, left_of}
-use Rattle.cir_sources.proofs.Program.{first_bad, first_loads, top_of, stops, goes_on, ends, rests}
-use Rattle.cir_sources.proofs.Program.{gets_smaller, reads_on}
+use Rattle.out_io.proofs.Telling.{found_told}
+use Rattle.cir_sources.proofs.Steps.{first_bad, first_loads, loads_on, on_top, ends, rests}
+use Rattle.cir_sources.proofs.Steps.{are_sources}
 use Rattle.cir_sources.proofs.loading.reach.Goals as goal
 
 pub returns-in_err-source-clause-reaches : goal.returns-in_err-source-clause-reaches
@@ -26,67 +25,56 @@ pub loop-site-init : goal.loop-site-init
 loop-site-init g c = record {
   loading =
       first_loads (g.S.Store.contents c.args.store.now) c.args.name.now c.as_bytes.result.now
-      (option_copied c.args.library) c.in-Some.bytes c.in_ok-source.source c.new-loading.result
-      c.add.new.self
-      c.utf8.name (rw c.in-Some.is at c.in_ok-bytes.ensures.found) c.as_bytes.ensures.value
-      c.in_ok-source.ensures c.new-loading.ensures c.in_ok-add.ensures;
-  store = record {
-    same = c.read.ensures.same;
-    later = c.read.ensures.cause.later;
-    steady = c.read.ensures.steady;
-  };
+      (option_copied c.args.library) c.in_ok-name.name c.in-Some.bytes c.in_ok-source.source _
+      c.add.new.self c.utf8.name c.in_ok-name.ensures.ok c.as_bytes.ensures.value
+      (rw c.in-Some.is at c.in_ok-bytes.ensures.found) c.in_ok-source.ensures c.in_ok-add.ensures
+      c.new.ensures.items c.new-4.ensures.items (λ q. rw c.new-2.ensures.empty)
+      (λ q. rw c.new-3.ensures.empty);
+  store = assumption c.read.ensures;
 }
 
 pub returns-in_err-follow-clause-reaches : goal.returns-in_err-follow-clause-reaches
 returns-in_err-follow-clause-reaches g c =
     let p = err_from_is_err_and c.from_residual-in_err-follow.result
     c.from_residual-in_err-follow.ensures.1 in
+    let now = on_top c.pop.new.self.items c.in-Some-pop.site c.loop-site.invariant.store.same
+    c.in-Some-pop.ensures.items c.loop-site.invariant.loading in
     rw (p.1, p.2)
-    (stops (g.S.Store.contents c.args.store.now)
-    (g.S.Store.contents c.loop-site.store) c.args.name.now (option_copied c.args.library)
-    (record c.loop-site.loading { pending = c.pop.new.self }) c.in-Some-pop.site c.follow.new.self
-    (left_of c.loop-site.loading) _ _ c.in_err-follow.field-0.0
-    c.loop-site.invariant.store.same c.loop-site.invariant.loading
-    (top_of c.loop-site.loading.pending c.pop.new.self c.in-Some-pop.site
-    c.in-Some-pop.ensures.items)
-    (λ r. rose_on _ (g.S.Store.faults c.loop-site.store) _ c.loop-site.invariant.store.later r)
-    c.in_err-follow.ensures.follows)
+    (loads_on (g.S.Store.contents c.args.store.now) (g.S.Store.contents c.loop-site.store)
+    c.args.name.now (option_copied c.args.library)
+    (g.S.Store.faults c.args.store.now) (g.S.Store.faults c.loop-site.store)
+    (g.S.Store.faults c.follow.new.store) c.in_err-follow.field-0.0
+    c.loop-site.invariant.store.same c.loop-site.invariant.store.later
+    (c.in_err-follow.ensures.follows c.args.name.now now))
 
 pub loop-site-smaller : goal.loop-site-smaller
-loop-site-smaller g c =
-    gets_smaller _ (option_copied c.args.library)
-    (record c.loop-site.loading { pending = c.pop.new.self }) c.follow.new.self
-    c.in-Some-pop.site (vec_len c.loop-site.loading.pending)
-    c.in_ok-follow.ensures.follows (omega (arith, c.in-Some-pop.ensures.len))
-    (omega (arith, c.follow.new.self.pending.small))
+loop-site-smaller g c = omega (arith, c.in_ok-follow.ensures.less, c.in-Some-pop.ensures.len)
 
 pub loop-site-preserved : goal.loop-site-preserved
-loop-site-preserved g c = record {
-  loading =
-      goes_on (g.S.Store.contents c.args.store.now)
-      (g.S.Store.contents c.loop-site.store) c.args.name.now (option_copied c.args.library)
-      (record c.loop-site.loading { pending = c.pop.new.self }) c.in-Some-pop.site c.follow.new.self
-      (left_of c.loop-site.loading)
-      c.loop-site.invariant.store.same c.loop-site.invariant.loading
-      (top_of c.loop-site.loading.pending c.pop.new.self c.in-Some-pop.site
-      c.in-Some-pop.ensures.items) c.in_ok-follow.ensures.follows;
-  store = reads_on _ _ _ _ _ _ _ _ _ c.loop-site.invariant.store c.follow.ensures.store;
-}
+loop-site-preserved g c =
+    let now = on_top c.pop.new.self.items c.in-Some-pop.site c.loop-site.invariant.store.same
+    c.in-Some-pop.ensures.items c.loop-site.invariant.loading in
+    record {
+      loading = rw c.loop-site.invariant.store.same
+          at (c.in_ok-follow.ensures.follows c.args.name.now now);
+      store = record {
+        same = c.follow.ensures.store.same ∙ c.loop-site.invariant.store.same;
+        later = omega (arith, c.loop-site.invariant.store.later, c.follow.ensures.store.later);
+        steady = λ quiet.
+            let before = c.loop-site.invariant.store.steady quiet in
+            let after = c.follow.ensures.store.steady before.0 in (after.0, after.1 ∙ before.1);
+      };
+    }
 
-pub returns-clause-reaches : goal.returns-clause-reaches
-returns-clause-reaches g c =
-    ends _ c.args.name.now (option_copied c.args.library) c.loop-site.loading.names
-    c.loop-site.loading.missing
-    (all_of c.loop-site.loading) (left_of c.loop-site.loading) c.loop-site.invariant.loading
-    (ap reverse
-    (nil_from_length c.loop-site.loading.pending.items
-    (omega (arith, c.loop-site.loading.pending.ok, c.in_default-pop.ensures.cases.0))))
-
-pub returns-clause-rest : goal.returns-clause-rest
-returns-clause-rest g c =
-    rests _ c.args.name.now (option_copied c.args.library) c.loop-site.loading.names
-    c.loop-site.loading.missing
-    (all_of c.loop-site.loading) (left_of c.loop-site.loading) c.loop-site.invariant.loading
-    (ap reverse
-    (nil_from_length c.loop-site.loading.pending.items
-    (omega (arith, c.loop-site.loading.pending.ok, c.in_default-pop.ensures.cases.0))))
+pub returns : goal.returns
+returns g c =
+    let l = c.loop-site.loading in
+    let none = nil_from_length l.pending.items
+    (omega (arith, l.pending.ok, c.in_default-pop.ensures.cases.0)) in
+    let loading = rw (ap reverse none) at c.loop-site.invariant.loading in
+    record {
+      reaches = ends loading;
+      read = are_sources loading;
+      rest = rests loading;
+      store = c.loop-site.invariant.store;
+    }

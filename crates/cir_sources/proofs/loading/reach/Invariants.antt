@@ -1,8 +1,6 @@
-use Rattle.std.proofs.Common.{◌+◌, ◌-◌, ◌*◌, ◌^◌, vec_len, length}
 use Rattle.std.specs.Option.{option_copied}
 use Rattle.out_io.specs.Calls.{OnlyReads}
-use Rattle.cir_sources.specs.Limits.{most_files}
-use Rattle.cir_sources.specs.Steps.{IsLoading, all_of, left_of}
+use Rattle.cir_sources.specs.Steps.{IsLoading, all_of, left_of, to_go}
 use Rattle.cir_sources.proofs.loading.reach.Given as goal
 
 abbrev pub invariant-loop-site : goal.invariant-loop-site
@@ -15,7 +13,5 @@ invariant-loop-site g l = record {
       (g.S.Store.never_fails l.store);
 }
 
--- a file more, or an include less
 abbrev pub decreases-loop-site : goal.decreases-loop-site
-decreases-loop-site g l =
-    (most_files - length (all_of l.loading)) * 2 ^ 64 + vec_len l.loading.pending
+decreases-loop-site g l = to_go l.loading

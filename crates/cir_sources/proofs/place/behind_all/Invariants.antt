@@ -8,4 +8,4 @@ abbrev pub invariant-loop-byte : goal.invariant-loop-byte
 invariant-loop-byte l =
     (fold behind l.spot (drop l.byte-index l.bytes) ≡ fold behind l.fn.from l.bytes)
     × (l.spot.line ≤ l.fn.from.line + l.byte-index)
-    × (l.spot.column ≤ l.fn.from.column + l.byte-index + 1)
+    × (l.spot.column ≤ l.fn.from.column + l.byte-index)

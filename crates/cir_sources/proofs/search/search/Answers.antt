@@ -1,28 +1,28 @@
-use Rattle.std.proofs.Common.{List, ℕ, ap, subst, ◌∙◌}
+use Rattle.std.proofs.Common.{◌≡◌, ◌∙◌, List, None, Some, ℕ, ap}
 use Rattle.cir_sources.specs.Names.{in_folder, resolved}
-use Rattle.cir_sources.specs.declared.search.Target.TheVariants.{Absent}
-use Rattle.cir_sources.specs.Steps.{Looks}
-use Rattle.cir_sources.proofs.Searching.{finds_in_library, learns_both}
+use Rattle.cir_sources.specs.Includes.{beside, held}
+use Rattle.cir_sources.proofs.Searching.{looked}
 use Rattle.cir_sources.proofs.search.search.Goals as goal
 
 pub returns-in-Absent-Some-clause-learns : goal.returns-in-Absent-Some-clause-learns
 returns-in-Absent-Some-clause-learns g c =
-    learns_both (g.S.Store.contents c.args.store.now) (g.S.Store.contents c.look.new.store)
-    c.args.names.now c.args.missing.now c.look.new.missing c.look-in-Absent-Some.new.missing
-    c.in_ok-target-in-Absent-Some.target c.look.ensures.same
-    (rw c.in-Absent-Some.is-0 at c.in_ok-target.ensures.learns)
-    c.in_ok-target-in-Absent-Some.ensures.learns
+    let first = rw c.in-Absent-Some.is-0 at c.in_ok-target.ensures.learns in
+    let second = rw c.look.ensures.same at c.in_ok-target-in-Absent-Some.ensures.learns in
+    record {
+      more = λ files are. first.more files (second.more files are);
+      knows = λ all knows. second.knows all (first.knows all knows);
+    }
 
 pub returns-in-Absent-Some-clause-targets : goal.returns-in-Absent-Some-clause-targets
 returns-in-Absent-Some-clause-targets g c =
-    let looks = rw c.in-Absent-Some.is-0 at c.in_ok-target.ensures.looks in
-    rw c.in-Absent-Some.is-1
-    (finds_in_library c.args.names.now c.look.new.missing c.look-in-Absent-Some.new.missing
-    c.in-Absent-Some.folder.now c.args.site.now c.as_slice-in-Absent-Some.result.now
-    c.in_ok-target-in-Absent-Some.target
-    (c.as_slice-in-Absent-Some.ensures.value ∙ c.in_ok-name-in-Absent-Some.ensures
+    let near = rw (c.in-Absent-Some.is-0, c.as_slice.ensures.value ∙ c.in_ok-name.ensures)
+    at c.in_ok-target.ensures.looks in
+    let far = rw (c.as_slice-in-Absent-Some.ensures.value ∙ c.in_ok-name-in-Absent-Some.ensures
     ∙ ap (λ (f : List ℕ). resolved (in_folder f c.args.site.now.name)) c.as_bytes.ensures.value)
-    c.in_ok-target-in-Absent-Some.ensures.learns.more
-    (λ files missing. subst (λ (n : List ℕ). Looks files c.args.names.now n Absent)
-    (c.as_slice.ensures.value ∙ c.in_ok-name.ensures) (looks files missing))
-    c.in_ok-target-in-Absent-Some.ensures.looks)
+    at c.in_ok-target-in-Absent-Some.ensures.looks in
+    rw c.in-Absent-Some.is-1 (λ files are missing.
+    let absent : held files (beside c.args.site.now) ≡ None =
+    near files (c.in_ok-target-in-Absent-Some.ensures.learns.more files missing) in
+    looked files c.args.names.now (Some c.in-Absent-Some.folder.now) c.args.site.now _
+    c.in_ok-target-in-Absent-Some.target (λ b e. rw (absent, e)) (λ e. rw (absent, e)) are
+    (far files missing))
