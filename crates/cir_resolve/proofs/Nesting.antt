@@ -1,10 +1,10 @@
 -- Scopes of nested blocks.
-use Rattle.std.proofs.Common.{◌≡◌, ℕ, List, [], ◌∷◌, ◌++◌, length, refl, ap, ◌∙◌}
-use Rattle.std.proofs.Common.{length-append, arith}
+use Rattle.std.proofs.Common.{◌≡◌, ◌∙◌, ℕ, List, [], ◌∷◌, ◌++◌, reverse, refl, ap, sym}
 use Rattle.std.specs.Option.{option_or}
+use Rattle.std.proofs.lemmas.List.{reverse-append, reverse-reverse}
 use Rattle.std.proofs.lemmas.List.Sums.{fold-append}
 use Rattle.cir_resolve.specs.declared.names.Names.{Names}
-use Rattle.cir_resolve.specs.Scope.{Lookup, State, nothing}
+use Rattle.cir_resolve.specs.Scope.{nothing}
 use Rattle.cir_resolve.specs.Answers.{names_in, hiding, nested}
 
 -- a block inside these
@@ -25,33 +25,10 @@ pub nested_last : (blocks around : List Names) (names : Names) (name : List ℕ)
 nested_last blocks around names name is =
     ap (λ b. nested b name) is ∙ ap (λ f. f name) (nested_push around names)
 
-pub same_state : (defined outer outer' inner inner' : Lookup) (v s c : ℕ) → outer ≡ outer'
-    → inner ≡ inner'
-    → ◌≡◌ {A = State} record {
-      defined = defined;
-      outer = outer;
-      inner = inner;
-      variables = v;
-      signals = s;
-      components = c;
-    }
-    record {
-      defined = defined;
-      outer = outer';
-      inner = inner';
-      variables = v;
-      signals = s;
-      components = c;
-    }
-same_state defined outer outer' inner inner' v s c o i = cc
-
 -- lists that are equal have the same last element, and the same ones before it
 pub last_of : {A : Type 0} (xs ys : List A) (x y : A) → xs ++ x ∷ [] ≡ ys ++ y ∷ []
     → (xs ≡ ys) × (x ≡ y)
-last_of [] [] x y e = (refl, cc)
-last_of [] (z ∷ ys) x y e = absurd (omega (arith, length-append ys (y ∷ []), ap length e))
-last_of (z ∷ xs) [] x y e = absurd (omega (arith, length-append xs (x ∷ []), ap length e))
-last_of (w ∷ xs) (z ∷ ys) x y e =
-    let rest : xs ++ x ∷ [] ≡ ys ++ y ∷ [] = cc in
-    let same = last_of xs ys x y rest in
-    (cc, same.1)
+last_of xs ys x y e =
+    let back : x ∷ reverse xs ≡ y ∷ reverse ys =
+    sym (reverse-append xs (x ∷ [])) ∙ ap reverse e ∙ reverse-append ys (y ∷ []) in
+    (cc (reverse-reverse xs, reverse-reverse ys), cc)

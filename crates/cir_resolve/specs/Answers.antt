@@ -8,10 +8,12 @@ use Rattle.std.specs.HashMap.{get_by}
 use Rattle.cir_resolve.specs.declared.names.Named.{Named}
 use Rattle.cir_resolve.specs.declared.names.Names.{Names as CodeNames}
 use Rattle.cir_resolve.specs.declared.scope.Scopes.{Scopes}
+use Rattle.cir_resolve.specs.declared.table.Numbers.{Numbers as CodeNumbers}
 use Rattle.cir_resolve.specs.declared.stop.Stop.{Stop}
 use Rattle.cir_resolve.specs.declared.stop.Stop.TheVariants.{Twice, OutOfMemory}
 use Rattle.cir_resolve.specs.Steps.{Step}
 use Rattle.cir_resolve.specs.Scope.{Lookup, nothing, State}
+use Rattle.cir_resolve.specs.Definitions.{Numbers}
 
 -- the newest last
 abbrev pub newest_in : List Named → Lookup
@@ -38,6 +40,10 @@ state_of s = record {
   signals = s.signals;
   components = s.components;
 }
+
+-- how many definitions the code has passed
+abbrev pub numbers_of : CodeNumbers → Numbers
+numbers_of n = record { templates = n.templates; functions = n.functions }
 
 -- a block is open inside these scopes
 pub record IsInside (around inner : Scopes) : Type 0 where

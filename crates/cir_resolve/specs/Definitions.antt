@@ -86,8 +86,8 @@ with_definition defined n (IsFunction f) = with_new defined f.name (meant.Functi
 with_definition defined n (IsMain m) = defined
 
 abbrev pub behind_definition : Numbers → Definition → Numbers
-behind_definition n (IsTemplate t) = record { templates = n.templates + 1; functions = n.functions }
-behind_definition n (IsFunction f) = record { templates = n.templates; functions = n.functions + 1 }
+behind_definition n (IsTemplate t) = record n { templates = n.templates + 1 }
+behind_definition n (IsFunction f) = record n { functions = n.functions + 1 }
 behind_definition n (IsMain m) = n
 
 abbrev pub defined_by : Lookup → Numbers → List Definition → Lookup
@@ -106,12 +106,7 @@ named_body defined spot parameters body =
     (λ names st. named_statements st body)
 
 abbrev pub template_of : Template → Naming (Statements Spot Meant) → Result Template Spot
-template_of t (Ok given) = Ok record {
-  file = t.file;
-  spot = t.spot;
-  parallel = t.parallel;
-  name = t.name;
-  parameters = t.parameters;
+template_of t (Ok given) = Ok record t {
   variables = given.1.variables;
   signals = given.1.signals;
   components = given.1.components;
@@ -120,14 +115,7 @@ template_of t (Ok given) = Ok record {
 template_of t (Err spot) = Err spot
 
 abbrev pub function_of : Function → Naming (Statements Spot Meant) → Result Function Spot
-function_of f (Ok given) = Ok record {
-  file = f.file;
-  spot = f.spot;
-  name = f.name;
-  parameters = f.parameters;
-  variables = given.1.variables;
-  body = given.0;
-}
+function_of f (Ok given) = Ok record f { variables = given.1.variables; body = given.0 }
 function_of f (Err spot) = Err spot
 
 abbrev pub named_template : Lookup → Template → Result Template Spot
@@ -137,11 +125,7 @@ abbrev pub named_function : Lookup → Function → Result Function Spot
 named_function defined f = function_of f (named_body defined f.spot f.parameters f.body)
 
 abbrev pub named_main : Lookup → Main → Main
-named_main defined m = record {
-  file = m.file;
-  spot = m.spot;
-  public_names = m.public_names;
-  template = m.template;
+named_main defined m = record m {
   meant = called_at (opening defined) m.template;
   arguments = named_exprs (opening defined) m.arguments;
 }

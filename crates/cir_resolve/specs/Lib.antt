@@ -3,4 +3,3 @@ pub mod Scope
 pub mod Naming
 pub mod Definitions
 pub mod Answers
-pub mod Numbers

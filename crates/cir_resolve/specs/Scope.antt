@@ -54,27 +54,11 @@ called_at st name = meaning (option_or (st.defined name) (in_scope st name))
 
 -- inside a block that opens
 abbrev pub entered : State → State
-entered st =
-    record {
-      defined = st.defined;
-      outer = in_scope st;
-      inner = nothing;
-      variables = st.variables;
-      signals = st.signals;
-      components = st.components;
-    }
+entered st = record st { outer = in_scope st; inner = nothing }
 
 -- behind a block that closes, from before it and from its end
 abbrev pub left : State → State → State
-left around st =
-    record {
-      defined = st.defined;
-      outer = around.outer;
-      inner = around.inner;
-      variables = st.variables;
-      signals = st.signals;
-      components = st.components;
-    }
+left around st = record st { outer = around.outer; inner = around.inner }
 
 -- what is named, and what is in scope behind it; or the place where a name is declared a second
 -- time
@@ -89,38 +73,15 @@ closed around (Err spot) = Err spot
 abbrev pub within : {A : Type 0} → State → (State → Naming A) → Naming A
 within st part = closed st (part (entered st))
 
-abbrev pub variables_in : Meant → ℕ
-variables_in (Variable n) = 1
-variables_in _ = 0
-
-abbrev pub signals_in : Meant → ℕ
-signals_in (Signal direction n) = 1
-signals_in _ = 0
-
-abbrev pub components_in : Meant → ℕ
-components_in (Component n) = 1
-components_in _ = 0
-
 -- one more declaration
 abbrev pub counted : State → Meant → State
-counted st m = record {
-  defined = st.defined;
-  outer = st.outer;
-  inner = st.inner;
-  variables = st.variables + variables_in m;
-  signals = st.signals + signals_in m;
-  components = st.components + components_in m;
-}
+counted st (Variable n) = record st { variables = st.variables + 1 }
+counted st (Signal direction n) = record st { signals = st.signals + 1 }
+counted st (Component n) = record st { components = st.components + 1 }
+counted st _ = st
 
 abbrev pub with_name : State → List ℕ → Meant → State
-with_name st name m = record {
-  defined = st.defined;
-  outer = st.outer;
-  inner = update bytes_eq st.inner name (Some m);
-  variables = st.variables;
-  signals = st.signals;
-  components = st.components;
-}
+with_name st name m = record st { inner = update bytes_eq st.inner name (Some m) }
 
 -- a name is declared in the innermost block, which must not have it yet
 abbrev pub declared : Spot → State → List ℕ → Meant → Naming Meant

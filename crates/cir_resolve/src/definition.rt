@@ -1,4 +1,4 @@
-ghost use Rattle.std.specs.Prelude.{◌≡◌, ◌++◌, [], ◌∷◌, map, Option, Some, None, OnOk};
+ghost use Rattle.std.specs.Prelude.{◌≡◌, ◌++◌, map, Option, Some, None, OnOk};
 ghost use Rattle.cir_ast.specs.Tree.{bare_item};
 ghost use Rattle.cir_resolve.specs.Definitions.{bare_definition, definitions_in, definitions_of};
 ghost use Rattle.cir_resolve.specs.Answers.{listed};

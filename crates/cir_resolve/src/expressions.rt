@@ -1,9 +1,8 @@
 //! Expressions: each name in them gets its meaning, where it stands.
-ghost use Rattle.std.specs.Prelude.{◌≡◌, [], ◌∷◌};
-ghost use Rattle.cir_ast.specs.declared.marked.Expr.TheVariants.{Anonymous as AnonymousCode};
-ghost use Rattle.cir_ast.specs.Tree.{bare, bare_exprs, bare_place, bare_anonymous, bare_inputs};
+ghost use Rattle.std.specs.Prelude.{◌≡◌, map};
+ghost use Rattle.cir_ast.specs.Tree.{bare, bare_exprs, bare_place, bare_anonymous};
 ghost use Rattle.cir_ast.specs.Tree.{as_accessors, as_named};
-ghost use Rattle.cir_resolve.specs.Naming.{named_expr, named_exprs, named_accessors, named_inputs};
+ghost use Rattle.cir_resolve.specs.Naming.{named_expr, named_exprs, named_accessors};
 ghost use Rattle.cir_resolve.specs.Naming.{named_each};
 ghost use Rattle.cir_resolve.specs.Answers.{state_of};
 
@@ -12,6 +11,7 @@ use cir_ast::program::{Accessor, Anonymous, Expr, Inputs, NamedInput, Place};
 use items::Items;
 use std::mem;
 
+#[tactic(auto, using(crate::proofs::Named::rows))]
 impl Scopes<'_> {
     #[cycle(naming)]
     pub(crate) fn name(&self, expression: &mut Expr)
@@ -26,7 +26,7 @@ impl Scopes<'_> {
                 *meant = self.called(name.as_slice());
                 self.name_all(arguments);
             }
-            Expr::Anonymous(anonymous) => self.name_boxed(anonymous),
+            Expr::Anonymous(anonymous) => self.name_anonymous(anonymous),
             Expr::Parentheses(inner) => self.name(inner),
             Expr::Array(elements) => self.name_all(elements),
             Expr::Unary(_, operand) => self.name(operand),
@@ -44,7 +44,9 @@ impl Scopes<'_> {
 
     #[cycle(naming)]
     pub(crate) fn name_all(&self, expressions: &mut Items<Expr>)
-        ensures { bare_exprs expressions.new
+        ensures each { map bare expressions.new
+            ≡ map (named_expr (state_of self.now)) (map bare expressions.old) }
+        ensures named { bare_exprs expressions.new
             ≡ named_exprs (state_of self.now) (bare_exprs expressions.old) }
     {
         let mut all = mem::replace(expressions, Items::new(self.alloc)).into_vec();
@@ -72,27 +74,11 @@ impl Scopes<'_> {
         }
         let mut all = mem::replace(accessors, Items::new(self.alloc)).into_vec();
         for i in 0..all.len() {
-            self.name_accessor(&mut all[i]);
+            if let Accessor::Index(index) = &mut all[i] {
+                self.name(index);
+            }
         }
         *accessors = Items::of(all);
-    }
-
-    #[cycle(naming)]
-    fn name_accessor(&self, accessor: &mut Accessor)
-        ensures { as_accessors (accessor.new ∷ [])
-            ≡ named_accessors (state_of self.now) (as_accessors (accessor.old ∷ [])) }
-    {
-        if let Accessor::Index(index) = accessor {
-            self.name(index);
-        }
-    }
-
-    #[cycle(naming)]
-    fn name_boxed(&self, anonymous: &mut Box<Anonymous>)
-        ensures { bare (AnonymousCode anonymous.new)
-            ≡ named_expr (state_of self.now) (bare (AnonymousCode anonymous.old)) }
-    {
-        self.name_anonymous(anonymous);
     }
 
     #[cycle(naming)]
@@ -102,15 +88,7 @@ impl Scopes<'_> {
     {
         anonymous.meant = self.called(anonymous.name.as_slice());
         self.name_all(&mut anonymous.arguments);
-        self.name_inputs(&mut anonymous.inputs);
-    }
-
-    #[cycle(naming)]
-    fn name_inputs(&self, inputs: &mut Inputs)
-        ensures { bare_inputs inputs.new
-            ≡ named_inputs (state_of self.now) (bare_inputs inputs.old) }
-    {
-        match inputs {
+        match &mut anonymous.inputs {
             Inputs::Listed(values) => self.name_all(values),
             Inputs::Named(inputs) => self.name_each(inputs),
         }
@@ -125,21 +103,5 @@ impl Scopes<'_> {
             self.name(&mut all[i].value);
         }
         *inputs = Items::of(all);
-    }
-
-    pub(crate) fn expression(&self, expression: Expr) -> Expr
-        ensures { bare result ≡ named_expr (state_of self.now) (bare expression) }
-    {
-        let mut expression = expression;
-        self.name(&mut expression);
-        expression
-    }
-
-    pub(crate) fn expressions(&self, expressions: Items<Expr>) -> Items<Expr>
-        ensures { bare_exprs result ≡ named_exprs (state_of self.now) (bare_exprs expressions) }
-    {
-        let mut expressions = expressions;
-        self.name_all(&mut expressions);
-        expressions
     }
 }

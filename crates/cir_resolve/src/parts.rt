@@ -11,6 +11,7 @@ use cir_ast::program::{Assign, Expr, LogArgument, SignalValue, Slot, Source, Tar
 use items::Items;
 use std::mem;
 
+#[tactic(auto, using(crate::proofs::InTurn::changed_all))]
 impl Scopes<'_> {
     pub(crate) fn value(&self, value: &mut Option<Expr>)
         ensures { bare_value value.new ≡ named_value (state_of self.now) (bare_value value.old) }
@@ -51,32 +52,17 @@ impl Scopes<'_> {
         }
     }
 
-    fn argument(&self, argument: &mut LogArgument)
-        ensures { bare_argument argument.new
-            ≡ named_argument (state_of self.now) (bare_argument argument.old) }
-    {
-        if let LogArgument::Value(value) = argument {
-            self.name(value);
-        }
-    }
-
     pub(crate) fn arguments(&self, arguments: &mut Items<LogArgument>)
         ensures { map bare_argument arguments.new
             ≡ map (named_argument (state_of self.now)) (map bare_argument arguments.old) }
     {
         let mut all = mem::replace(arguments, Items::new(self.alloc)).into_vec();
         for i in 0..all.len() {
-            self.argument(&mut all[i]);
+            if let LogArgument::Value(value) = &mut all[i] {
+                self.name(value);
+            }
         }
         *arguments = Items::of(all);
-    }
-
-    fn slot(&self, slot: &mut Slot)
-        ensures { bare_slot slot.new ≡ named_slot (state_of self.now) (bare_slot slot.old) }
-    {
-        if let Slot::Place(place) = slot {
-            self.name_place(place);
-        }
     }
 
     fn slots(&self, slots: &mut Items<Slot>)
@@ -85,7 +71,9 @@ impl Scopes<'_> {
     {
         let mut all = mem::replace(slots, Items::new(self.alloc)).into_vec();
         for i in 0..all.len() {
-            self.slot(&mut all[i]);
+            if let Slot::Place(place) = &mut all[i] {
+                self.name_place(place);
+            }
         }
         *slots = Items::of(all);
     }

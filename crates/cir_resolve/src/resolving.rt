@@ -1,14 +1,13 @@
 //! The definitions of a program, with the meaning of each name.
-ghost use Rattle.std.specs.Prelude.{◌≡◌, map, if◌then◌else◌, Err, OnOk};
+ghost use Rattle.std.specs.Prelude.{◌≡◌, map, if◌then◌else◌, Err};
 ghost use Rattle.cir_ast.specs.Tree.{bare_block};
 ghost use Rattle.cir_ast.specs.Program.{bare_template, bare_function, bare_main};
 ghost use Rattle.cir_resolve.specs.Steps.{behind, in_turn};
 ghost use Rattle.cir_resolve.specs.Naming.{named_statements};
 ghost use Rattle.cir_resolve.specs.Definitions.{bare_definition, named_parameter, named_template};
-ghost use Rattle.cir_resolve.specs.Definitions.{named_function, named_main, named_definition};
-ghost use Rattle.cir_resolve.specs.Definitions.{is_template, is_function, resolved};
-ghost use Rattle.cir_resolve.specs.Answers.{names_in, state_of, Gives, Answers};
-ghost use Rattle.cir_resolve.specs.Numbers.{numbers_of};
+ghost use Rattle.cir_resolve.specs.Definitions.{named_function, named_main};
+ghost use Rattle.cir_resolve.specs.Definitions.{is_template, is_function, named_next, resolved};
+ghost use Rattle.cir_resolve.specs.Answers.{names_in, state_of, numbers_of, Gives, Answers};
 
 use crate::definition::Definition;
 use crate::names::Names;
@@ -20,108 +19,23 @@ use cir_ast::program::{Block, Function, Main, Meant, Spot, Template};
 use std::alloc::Global;
 
 impl Scopes<'_> {
-    /// Declares the parameters of a definition.
-    fn parameters(&mut self, spot: Spot, parameters: &[Text]) -> Result<(), Stop<Spot>>
-        ensures { Gives (λ _. parameters.now) result (state_of self.new)
-            (in_turn (named_parameter spot) (state_of self.old) parameters.now) }
-    {
-        for parameter in parameters {
-            let meant = Meant::Variable(self.variables);
-            self.declare(spot, parameter.as_slice(), meant)?;
-        }
-        Ok(())
-    }
-
     /// The body of a definition, whose parameters stand in its block.
     fn whole_body(
         &mut self,
         spot: Spot,
         parameters: &[Text],
-        body: Block,
-    ) -> Result<Block, Stop<Spot>>
-        ensures { Gives bare_block result (state_of self.new)
+        body: &mut Block,
+    ) -> Result<(), Stop<Spot>>
+        ensures { Gives (λ _. bare_block body.new) result (state_of self.new)
             (behind (in_turn (named_parameter spot) (state_of self.old) parameters.now)
-            (λ names st. named_statements st (bare_block body))) }
+            (λ names st. named_statements st (bare_block body.old))) }
     {
-        let mut body = body;
-        self.parameters(spot, parameters)?;
-        self.body(&mut body)?;
-        Ok(body)
-    }
-}
-
-fn template(alloc: Global, defined: &Names, template: Template) -> Result<Template, Stop<Spot>>
-    ensures { Answers bare_template result
-        (named_template (names_in defined.now) (bare_template template)) }
-{
-    let Template {
-        file,
-        spot,
-        parallel,
-        name,
-        parameters,
-        body,
-        ..
-    } = template;
-    let mut scopes = Scopes::new(alloc, defined);
-    let body = scopes.whole_body(spot, parameters.as_slice(), body)?;
-    Ok(Template {
-        file,
-        spot,
-        parallel,
-        name,
-        parameters,
-        variables: scopes.variables,
-        signals: scopes.signals,
-        components: scopes.components,
-        body,
-    })
-}
-
-fn function(alloc: Global, defined: &Names, function: Function) -> Result<Function, Stop<Spot>>
-    ensures { Answers bare_function result
-        (named_function (names_in defined.now) (bare_function function)) }
-{
-    let Function {
-        file,
-        spot,
-        name,
-        parameters,
-        body,
-        ..
-    } = function;
-    let mut scopes = Scopes::new(alloc, defined);
-    let body = scopes.whole_body(spot, parameters.as_slice(), body)?;
-    Ok(Function {
-        file,
-        spot,
-        name,
-        parameters,
-        variables: scopes.variables,
-        body,
-    })
-}
-
-fn main(alloc: Global, defined: &Names, main: Main) -> Main
-    ensures { bare_main result ≡ named_main (names_in defined.now) (bare_main main) }
-{
-    let Main {
-        file,
-        spot,
-        public,
-        template,
-        arguments,
-        ..
-    } = main;
-    let scopes = Scopes::new(alloc, defined);
-    let meant = scopes.called(template.as_slice());
-    Main {
-        file,
-        spot,
-        public,
-        template,
-        meant,
-        arguments: scopes.expressions(arguments),
+        for parameter in parameters {
+            let meant = Meant::Variable(self.variables);
+            self.declare(spot, parameter.as_slice(), meant)?;
+        }
+        self.body(body)?;
+        Ok(())
     }
 }
 
@@ -146,69 +60,101 @@ fn is_function(defined: &Names, name: &[u8], number: u32) -> bool
 }
 
 /// A template, whose name must mean the template of this number.
-fn own_template(
+fn template(
     alloc: Global,
     defined: &Names,
     number: u32,
-    definition: Template,
-) -> Result<Template, Stop<Spot>>
-    ensures { Answers bare_template result
-        (if is_template number (names_in defined.now definition.name)
-        then named_template (names_in defined.now) (bare_template definition)
-        else Err definition.spot) }
+    template: &mut Template,
+) -> Result<(), Stop<Spot>>
+    ensures { Answers (λ _. bare_template template.new) result
+        (if is_template number (names_in defined.now template.old.name)
+        then named_template (names_in defined.now) (bare_template template.old)
+        else Err template.old.spot) }
 {
-    if !is_template(defined, definition.name.as_slice(), number) {
-        return Err(Stop::Twice(definition.spot));
+    if !is_template(defined, template.name.as_slice(), number) {
+        return Err(Stop::Twice(template.spot));
     }
-    template(alloc, defined, definition)
+    let mut scopes = Scopes::new(alloc, defined);
+    scopes.whole_body(
+        template.spot,
+        template.parameters.as_slice(),
+        &mut template.body,
+    )?;
+    template.variables = scopes.variables;
+    template.signals = scopes.signals;
+    template.components = scopes.components;
+    Ok(())
 }
 
 /// A function, whose name must mean the function of this number.
-fn own_function(
+fn function(
     alloc: Global,
     defined: &Names,
     number: u32,
-    definition: Function,
-) -> Result<Function, Stop<Spot>>
-    ensures { Answers bare_function result
-        (if is_function number (names_in defined.now definition.name)
-        then named_function (names_in defined.now) (bare_function definition)
-        else Err definition.spot) }
+    function: &mut Function,
+) -> Result<(), Stop<Spot>>
+    ensures { Answers (λ _. bare_function function.new) result
+        (if is_function number (names_in defined.now function.old.name)
+        then named_function (names_in defined.now) (bare_function function.old)
+        else Err function.old.spot) }
 {
-    if !is_function(defined, definition.name.as_slice(), number) {
-        return Err(Stop::Twice(definition.spot));
+    if !is_function(defined, function.name.as_slice(), number) {
+        return Err(Stop::Twice(function.spot));
     }
-    function(alloc, defined, definition)
+    let mut scopes = Scopes::new(alloc, defined);
+    scopes.whole_body(
+        function.spot,
+        function.parameters.as_slice(),
+        &mut function.body,
+    )?;
+    function.variables = scopes.variables;
+    Ok(())
 }
 
+fn main(alloc: Global, defined: &Names, main: &mut Main)
+    ensures { bare_main main.new ≡ named_main (names_in defined.now) (bare_main main.old) }
+{
+    let scopes = Scopes::new(alloc, defined);
+    main.meant = scopes.called(main.template.as_slice());
+    scopes.name_all(&mut main.arguments);
+}
+
+/// The next definition, which is counted.
 fn definition(
     alloc: Global,
     defined: &Names,
-    numbers: Numbers,
-    definition: Definition,
-) -> Result<Definition, Stop<Found>>
-    ensures { Answers bare_definition result
-        (named_definition (names_in defined.now) (numbers_of numbers)
-        (bare_definition definition)) }
+    numbers: &mut Numbers,
+    definition: &mut Definition,
+) -> Result<(), Stop<Found>>
+    ensures { Gives (λ _. bare_definition definition.new) result (numbers_of numbers.new)
+        (named_next (names_in defined.now) (numbers_of numbers.old)
+        (bare_definition definition.old)) }
 {
+    let before = *numbers;
+    if !numbers.pass(definition) {
+        return Err(Stop::OutOfMemory);
+    }
     match definition {
-        Definition::Template(template) => {
-            let file = template.file;
-            match own_template(alloc, defined, numbers.templates, template) {
-                Ok(template) => Ok(Definition::Template(template)),
+        Definition::Template(found) => {
+            let file = found.file;
+            match template(alloc, defined, before.templates, found) {
+                Ok(()) => Ok(()),
                 Err(Stop::Twice(spot)) => Err(Stop::Twice(Found { file, spot })),
                 Err(Stop::OutOfMemory) => Err(Stop::OutOfMemory),
             }
         }
-        Definition::Function(function) => {
-            let file = function.file;
-            match own_function(alloc, defined, numbers.functions, function) {
-                Ok(function) => Ok(Definition::Function(function)),
+        Definition::Function(found) => {
+            let file = found.file;
+            match function(alloc, defined, before.functions, found) {
+                Ok(()) => Ok(()),
                 Err(Stop::Twice(spot)) => Err(Stop::Twice(Found { file, spot })),
                 Err(Stop::OutOfMemory) => Err(Stop::OutOfMemory),
             }
         }
-        Definition::Main(found) => Ok(Definition::Main(main(alloc, defined, found))),
+        Definition::Main(found) => {
+            main(alloc, defined, found);
+            Ok(())
+        }
     }
 }
 
@@ -218,17 +164,16 @@ pub fn resolve(alloc: Global, definitions: Vec<Definition>) -> Result<Vec<Defini
     ensures { Answers (λ v. map bare_definition v.items) result
         (resolved (map bare_definition definitions.items)) }
 {
+    let mut definitions = definitions;
     let Some(defined) = Names::of(alloc, definitions.as_slice())? else {
         return Err(Stop::OutOfMemory);
     };
-    let mut numbers = Numbers::first();
-    let mut named = Vec::new(alloc);
-    for unnamed in definitions {
-        let before = numbers;
-        if !numbers.pass(&unnamed) {
-            return Err(Stop::OutOfMemory);
-        }
-        named.push(definition(alloc, &defined, before, unnamed)?)?;
+    let mut numbers = Numbers {
+        templates: 0,
+        functions: 0,
+    };
+    for i in 0..definitions.len() {
+        definition(alloc, &defined, &mut numbers, &mut definitions[i])?;
     }
-    Ok(named)
+    Ok(definitions)
 }

@@ -38,6 +38,7 @@ fn nested(blocks: &[Names], name: &[u8]) -> Option<Meant>
     None
 }
 
+#[tactic(auto, unfolding(crate::specs::Answers::state_of))]
 impl<'d> Scopes<'d> {
     /// At the beginning of a definition.
     pub(crate) fn new(alloc: Global, defined: &'d Names) -> Scopes<'d>

@@ -1,7 +1,7 @@
 //! Statements, in their scopes.
-ghost use Rattle.std.specs.Prelude.{◌≡◌, map, OnOk};
-ghost use Rattle.cir_ast.specs.Tree.{bare, bare_first, bare_assign, bare_statement};
-ghost use Rattle.cir_ast.specs.Tree.{bare_block, as_statements, For};
+ghost use Rattle.std.specs.Prelude.{◌≡◌, OnOk};
+ghost use Rattle.cir_ast.specs.Tree.{bare, bare_first, bare_assign, bare_statement, bare_block};
+ghost use Rattle.cir_ast.specs.Tree.{For};
 ghost use Rattle.cir_resolve.specs.Scope.{within};
 ghost use Rattle.cir_resolve.specs.Naming.{named_statement, named_statements};
 ghost use Rattle.cir_resolve.specs.Answers.{state_of, Gives};
@@ -21,47 +21,29 @@ impl Scopes<'_> {
     {
         let spot = statement.spot;
         match &mut statement.form {
-            StatementForm::Block(block) => {
-                self.block(block)?;
-                Ok(())
-            }
+            StatementForm::Block(block) => self.block(block)?,
             StatementForm::If(condition, chosen) => {
                 self.name(condition);
                 self.branch(chosen)?;
-                Ok(())
             }
             StatementForm::IfElse(condition, chosen, other) => {
                 self.name(condition);
                 self.branch(chosen)?;
                 self.branch(other)?;
-                Ok(())
             }
             StatementForm::While(condition, body) => {
                 self.name(condition);
                 self.branch(body)?;
-                Ok(())
             }
             StatementForm::For(first, condition, step, body) => {
                 self.for_loop(body, spot, first, condition, step)?;
-                Ok(())
             }
-            StatementForm::Return(value) => {
-                self.name(value);
-                Ok(())
-            }
-            StatementForm::Assert(condition) => {
-                self.name(condition);
-                Ok(())
-            }
-            StatementForm::Log(arguments) => {
-                self.arguments(arguments);
-                Ok(())
-            }
-            StatementForm::Simple(simple) => {
-                self.simple(spot, simple)?;
-                Ok(())
-            }
+            StatementForm::Return(value) => self.name(value),
+            StatementForm::Assert(condition) => self.name(condition),
+            StatementForm::Log(arguments) => self.arguments(arguments),
+            StatementForm::Simple(simple) => self.simple(spot, simple)?,
         }
+        Ok(())
     }
 
     /// A statement with a scope of its own.
@@ -97,23 +79,12 @@ impl Scopes<'_> {
             (named_statements (state_of self.old) (bare_block block.old)) }
         ensures outer { OnOk result (self.new.outer.items ≡ self.old.outer.items) }
     {
-        let statements = mem::replace(&mut block.statements, Items::new(self.alloc));
-        *block = Block::of(self.statements(statements)?);
-        Ok(())
-    }
-
-    #[cycle(statements)]
-    fn statements(&mut self, statements: Items<Statement>) -> Result<Items<Statement>, Stop<Spot>>
-        ensures named { Gives (λ ss. as_statements (map bare_statement ss)) result
-            (state_of self.new)
-            (named_statements (state_of self.old) (as_statements (map bare_statement statements))) }
-        ensures outer { OnOk result (self.new.outer.items ≡ self.old.outer.items) }
-    {
-        let mut statements = statements.into_vec();
-        for i in 0..statements.len() {
-            self.statement(&mut statements[i])?;
+        let mut all = mem::replace(&mut block.statements, Items::new(self.alloc)).into_vec();
+        for i in 0..all.len() {
+            self.statement(&mut all[i])?;
         }
-        Ok(Items::of(statements))
+        *block = Block::of(Items::of(all));
+        Ok(())
     }
 
     // The step stands before the body, and sees what a body without braces declares.

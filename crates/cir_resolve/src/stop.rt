@@ -1,7 +1,7 @@
 ghost use Rattle.std.specs.Prelude.{◌≡◌};
 
 use cir_ast::program::Spot;
-use std::alloc::{AllocError, AllocFailed};
+use std::alloc::AllocError;
 
 /// A place in the file of this place in the program's list.
 #[derive(Clone, Copy)]
@@ -23,16 +23,6 @@ impl<P> From<AllocError> for Stop<P> {
     ghost from_gives = { λ _ stop. stop ≡ OutOfMemory };
 
     fn from(_: AllocError) -> Stop<P> {
-        Stop::OutOfMemory
-    }
-}
-
-impl<P, T: Drop> From<AllocFailed<T>> for Stop<P> {
-    ghost use Rattle.cir_resolve.specs.declared.stop.Stop.TheVariants.{OutOfMemory};
-
-    ghost from_gives = { λ _ stop. stop ≡ OutOfMemory };
-
-    fn from(_: AllocFailed<T>) -> Stop<P> {
         Stop::OutOfMemory
     }
 }

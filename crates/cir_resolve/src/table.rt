@@ -3,8 +3,7 @@ ghost use Rattle.std.specs.Prelude.{◌≡◌, ◌+◌, map, IsTrue, IfOk, IfSom
 ghost use Rattle.cir_resolve.specs.Scope.{nothing};
 ghost use Rattle.cir_resolve.specs.Definitions.{bare_definition, first_numbers, with_new};
 ghost use Rattle.cir_resolve.specs.Definitions.{with_definition, behind_definition, defined_by};
-ghost use Rattle.cir_resolve.specs.Answers.{names_in};
-ghost use Rattle.cir_resolve.specs.Numbers.{numbers_of};
+ghost use Rattle.cir_resolve.specs.Answers.{names_in, numbers_of};
 
 use crate::definition::Definition;
 use crate::names::Names;
@@ -19,15 +18,6 @@ pub(crate) struct Numbers {
 }
 
 impl Numbers {
-    pub(crate) fn first() -> Numbers
-        ensures { numbers_of result ≡ first_numbers }
-    {
-        Numbers {
-            templates: 0,
-            functions: 0,
-        }
-    }
-
     /// Counts a definition, where its number still has a next one.
     pub(crate) fn pass(&mut self, definition: &Definition) -> bool
         ensures { IsTrue result
@@ -97,7 +87,10 @@ impl Names {
             ≡ defined_by nothing first_numbers (map bare_definition definitions.now))) }
     {
         let mut names = Names::new(alloc);
-        let mut numbers = Numbers::first();
+        let mut numbers = Numbers {
+            templates: 0,
+            functions: 0,
+        };
         for definition in definitions {
             names.add_definition(alloc, numbers, definition)?;
             if !numbers.pass(definition) {

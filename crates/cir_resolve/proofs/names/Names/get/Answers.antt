@@ -1,5 +1,4 @@
-use Rattle.std.proofs.Common.{◌≡◌, rules, ap, sym, ◌∙◌}
-use Rattle.std.specs.Option.{option_or}
+use Rattle.std.proofs.Common.{◌≡◌, rules, refl, ap, sym, ◌∙◌}
 use Rattle.std.specs.Str.{bytes_eq}
 use Rattle.std.specs.HashMap.{hash_map_len}
 use Rattle.cir_resolve.specs.Answers.{newest_in, names_in}
@@ -13,19 +12,14 @@ returns-then-is_empty c =
     let none : hash_map_len names.many ≡ 0 = c.is_empty.ensures.0 (search rules) in
     c.newest_in.ensures
     ∙ ap (λ few. newest_in few c.args.name.now) c.as_slice.ensures.value
-    ∙ sym (none_hide (λ k. bytes_eq c.args.name.now k.items) names.many
-    (newest_in names.few.items c.args.name.now) none)
+    ∙ sym (none_hide (λ k. bytes_eq c.args.name.now k.items) names.many _ none)
 
 pub returns-in-Some : goal.returns-in-Some
 unfolding names_in
-returns-in-Some c =
-    ap (λ found. option_or found (newest_in c.args.self.now.few.items c.args.name.now))
-    (sym c.in-Some.is ∙ c.copied.ensures ∙ c.get.ensures.value)
+returns-in-Some c = rw (← c.get.ensures.value, ← c.copied.ensures, c.in-Some.is) refl
 
 pub returns-in-None : goal.returns-in-None
 unfolding names_in
 returns-in-None c =
-    c.newest_in-in-None.ensures
-    ∙ ap (λ few. newest_in few c.args.name.now) c.as_slice-in-None.ensures.value
-    ∙ ap (λ found. option_or found (newest_in c.args.self.now.few.items c.args.name.now))
-    (sym c.in-None.is ∙ c.copied.ensures ∙ c.get.ensures.value)
+    rw (← c.get.ensures.value, ← c.copied.ensures, c.in-None.is, c.newest_in-in-None.ensures)
+    (ap (λ few. newest_in few c.args.name.now) c.as_slice-in-None.ensures.value)

@@ -2,8 +2,7 @@ use Rattle.std.proofs.Common.{◌≡◌, drop}
 use Rattle.std.specs.Prelude.{map}
 use Rattle.cir_resolve.specs.Scope.{nothing}
 use Rattle.cir_resolve.specs.Definitions.{bare_definition, first_numbers, defined_by}
-use Rattle.cir_resolve.specs.Answers.{names_in}
-use Rattle.cir_resolve.specs.Numbers.{numbers_of}
+use Rattle.cir_resolve.specs.Answers.{names_in, numbers_of}
 use Rattle.cir_resolve.proofs.names.Names.of.Given as goal
 
 -- with those that are left these are all

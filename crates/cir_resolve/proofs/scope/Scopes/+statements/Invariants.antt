@@ -14,18 +14,15 @@ decreases-branch l = 8 * goal.size-branch l + 3
 abbrev pub decreases-for_loop : goal.decreases-for_loop
 decreases-for_loop l = 8 * goal.size-for_loop l + 3
 
-abbrev pub decreases-statements : goal.decreases-statements
-decreases-statements l = 8 * goal.size-statements l + 3
-
 abbrev pub decreases-body : goal.decreases-body
 decreases-body l = 8 * goal.size-body l + 4
 
 abbrev pub decreases-block : goal.decreases-block
 decreases-block l = 8 * goal.size-block l + 5
 
-abbrev pub invariant-statements-loop-i : goal.invariant-statements-loop-i
-invariant-statements-loop-i l = record {
+abbrev pub invariant-body-loop-i : goal.invariant-body-loop-i
+invariant-body-loop-i l = record {
   given : IsGiven bare_statement named_statement (state_of l.fn.self)
-      (state_of l.self) l.initial.statements.items l.statements.items l.i;
+      (state_of l.self) l.initial.all.items l.all.items l.i;
   outer : l.self.outer.items ≡ l.fn.self.outer.items;
 }

@@ -1,11 +1,9 @@
-use Rattle.std.specs.Prelude.{map}
 use Rattle.cir_ast.specs.Tree.{bare_argument}
 use Rattle.cir_resolve.specs.Naming.{named_argument}
 use Rattle.cir_resolve.specs.Answers.{state_of}
-use Rattle.cir_resolve.proofs.InPlace.{IsChanged, seen_list}
+use Rattle.cir_resolve.proofs.InTurn.{IsChanged}
 use Rattle.cir_resolve.proofs.scope.Scopes.arguments.Given as goal
 
 abbrev pub invariant-loop-i : goal.invariant-loop-i
 invariant-loop-i l =
-    IsChanged (seen_list bare_argument)
-    (map (named_argument (state_of l.self))) l.initial.all.items l.all.items l.i
+    IsChanged bare_argument (named_argument (state_of l.self)) l.initial.all.items l.all.items l.i
