@@ -1,303 +1,438 @@
--- The same of tuples, statements, definitions and programs.
-use Rattle.std.proofs.Common.{◌≡◌, ◌∙◌, ℕ, true, false, List, [], ◌∷◌, length, Option}
-use Rattle.std.proofs.Common.{Some, None, refl, ap, sym, subst}
-use Rattle.std.specs.Prelude.{IsTrue}
+-- Where the checks find no fault, names are used as they may be.
+use Rattle.std.proofs.Common.{◌≡◌, ◌≢◌, ◌∙◌, ℕ, ◌⊎◌, inl, inr, Bool, true, false, List, [], ◌∷◌}
+use Rattle.std.proofs.Common.{Option, Some, None, length, refl, ap, sym, subst}
+use Rattle.std.specs.Prelude.{◌==◌, ◌||◌, ◌&&◌, not, IsTrue, IsFalse, slice_get, ⊤, option_map}
+use Rattle.std.specs.Prelude.{unwrap_or}
+use Rattle.std.proofs.lemmas.Bool.{eqb-true}
+use Rattle.cir_ast.specs.declared.operators.Direction.{Direction}
+use Rattle.cir_ast.specs.declared.operators.Direction.TheVariants as direction
 use Rattle.cir_ast.specs.declared.program.Spot.{Spot}
 use Rattle.cir_ast.specs.declared.program.Meant.{Meant}
-use Rattle.cir_ast.specs.declared.refusal.Kind.TheVariants.{UnknownName, Arity, NotInProfile}
-use Rattle.cir_ast.specs.declared.refusal.Form.TheVariants.{NoReturn}
-use Rattle.cir_ast.specs.Tree.{Expr, Number, Place, Call, Anonymous, Parentheses, Array, Unary}
-use Rattle.cir_ast.specs.Tree.{Binary, Choice}
-use Rattle.cir_ast.specs.Tree.{First, FirstVars, FirstAssign}
-use Rattle.cir_ast.specs.Tree.{Slot, SlotPlace, SlotDiscard, Target, Discard, Slots}
-use Rattle.cir_ast.specs.Tree.{Source, One, Values, Simple, Vars, Signals, Declared, Created}
-use Rattle.cir_ast.specs.Tree.{Assigned, Constrain, Right, TargetLeft, TargetRight, Alone}
-use Rattle.cir_ast.specs.Tree.{Statement, Block, If, IfElse, While, For, Return, Assert, Log, Ended}
-use Rattle.cir_ast.specs.Tree.{Statements, empty, then_more}
-use Rattle.cir_checks.specs.declared.positions.Room.TheVariants.{Barred}
-use Rattle.cir_checks.specs.declared.positions.Position.{Position}
-use Rattle.cir_checks.specs.declared.positions.Position.TheVariants.{InFunction, Outermost}
+use Rattle.cir_ast.specs.declared.program.Meant.TheVariants as meant
+use Rattle.cir_ast.specs.declared.refusal.Kind.{Kind}
+use Rattle.cir_ast.specs.declared.refusal.Kind.TheVariants as kind
+use Rattle.cir_ast.specs.Tree as tree
+use Rattle.cir_ast.specs.Tree.{Expr, Accessors, Inputs, Slot, Target, Source, Simple, Statements}
 use Rattle.cir_ast.specs.Program.{Function, Main}
-use Rattle.cir_resolve.specs.Definitions.{Definition}
 use Rattle.cir_resolve.specs.Definitions as defined
-use Rattle.cir_checks.specs.declared.stop.Fault.{Fault}
-use Rattle.cir_checks.specs.Faults.{unless, at, in_file, Names}
-use Rattle.cir_checks.specs.Heads.{Head, Table, TemplateOf, callee, template_callee}
+use Rattle.cir_checks.specs.declared.calls.Access.TheVariants as access
+use Rattle.cir_checks.specs.declared.positions.Room.{Room}
+use Rattle.cir_checks.specs.declared.positions.Room.TheVariants as room
+use Rattle.cir_checks.specs.declared.positions.Position.{Position}
+use Rattle.cir_checks.specs.declared.positions.Position.TheVariants as position
+use Rattle.cir_checks.specs.Faults.{◌⨾◌, first_in, unless, Names, no_names, and_name}
+use Rattle.cir_checks.specs.Heads.{Head, Table, Callee, TemplateOf, FunctionOf, Unknown, callee}
 use Rattle.cir_checks.specs.Heads.{templates_among, functions_among}
-use Rattle.cir_checks.specs.Uses.{count, value_fault, values_fault, whole_fault, component_fault}
-use Rattle.cir_checks.specs.Uses.{component_call_fault, nameless_fault}
-use Rattle.cir_checks.specs.Statements.{inside, in_loop, value_room, other_room, only_in_template}
-use Rattle.cir_checks.specs.Statements.{only_in_function, log_fault, declaration_fault}
-use Rattle.cir_checks.specs.Statements.{signal_place_fault}
-use Rattle.cir_checks.specs.Statements.{signals_fault, components_fault}
-use Rattle.cir_checks.specs.Statements.{arrow_place_fault, assign_fault}
-use Rattle.cir_checks.specs.Statements.{arguments_fault, outputs_fault, one_fault, tuple_fault}
-use Rattle.cir_checks.specs.Statements.{slots_fault, target_fault, slot_value_fault, first_slot}
-use Rattle.cir_checks.specs.Statements.{other_slots, slot_values_fault, slots_of, source_fault}
-use Rattle.cir_checks.specs.Statements.{simple_fault, head_fault, statement_fault, statements_fault}
-use Rattle.cir_checks.specs.Statements.{last_returns, function_fault, public_fault, publics_fault}
-use Rattle.cir_checks.specs.Statements.{main_fault}
-use Rattle.cir_checks.specs.Checks.{second_main, mains_fault, use_fault, first_use_fault}
-use Rattle.cir_checks.specs.Checks.{table_among, first_fault, mains_among, program_with}
-use Rattle.cir_checks.specs.Checked.{Each, IsTemplateOf}
-use Rattle.cir_checks.specs.Checked.{Fills, Matches, IsSlot, IsTarget}
-use Rattle.cir_checks.specs.Checked.{IsSlotValue, AreSlotValues, IsSource, IsSimple, IsHead}
+use Rattle.cir_checks.specs.Uses as fault
+use Rattle.cir_checks.specs.Uses.{inward, on_the_right, members, count, inputs_count}
+use Rattle.cir_checks.specs.Statements as faults
+use Rattle.cir_checks.specs.Statements.{inside, in_loop, value_room, other_room, first_slot}
+use Rattle.cir_checks.specs.Statements.{other_slots, slots_of, last_returns}
+use Rattle.cir_checks.specs.Checks.{mains_fault, use_fault, table_among, first_fault, mains_among}
+use Rattle.cir_checks.specs.Checks.{program_with}
+use Rattle.cir_checks.specs.Checked.{Each, IsRead, IsCall, IsTemplateOf, IsCreated, IsAnonymous}
+use Rattle.cir_checks.specs.Checked.{IsValue, AreValues, AreIndices, AreInputs, AreNamed}
+use Rattle.cir_checks.specs.Checked.{IsNameless, IsWhole, Creates, IsWritten, IsDriven, IsGiven}
+use Rattle.cir_checks.specs.Checked.{IsAssign, IsOptional, IsSignalValue, InTemplate, MayDeclare}
+use Rattle.cir_checks.specs.Checked.{MayDeclareSignal, IsArgument, IsSlot, IsTarget, IsSlotValue}
+use Rattle.cir_checks.specs.Checked.{AreSlotValues, IsSource, IsSimple, Fills, Matches, IsHead}
 use Rattle.cir_checks.specs.Checked.{IsStatement, AreStatements, IsTemplate, IsFunction, IsMain}
 use Rattle.cir_checks.specs.Checked.{IsUsed}
-use Rattle.cir_checks.proofs.Used.{neither, holds, nowhere, same, is_value, are_values, is_created}
-use Rattle.cir_checks.proofs.Used.{is_nameless, is_whole, creates}
-use Rattle.cir_checks.proofs.UsedStatements.{elsewhere, in_template, in_function, may_log}
-use Rattle.cir_checks.proofs.UsedStatements.{may_declare, may_declare_signal, is_driven_place}
-use Rattle.cir_checks.proofs.UsedStatements.{is_assign, are_variables, are_signals, are_components}
-use Rattle.cir_checks.proofs.UsedStatements.{are_arguments}
 
-callee_is : (t : Table) (m : Meant) (h : Head) → IsTemplateOf t m h → callee t m ≡ TemplateOf h
-callee_is t m h is = ap (callee t) is.means ∙ ap template_callee is.is
+-- ---- what holds where there is no fault
+abbrev Shows : {A : Type 0} → Option A → Type 0 → Type 0
+Shows fault P = fault ≡ None → P
 
--- ---- tuples
-is_filled : (t : Table) (p : Position) (slots : ℕ) (e : Expr Meant) → one_fault t slots e ≡ None
-    → whole_fault t (value_room p) e ≡ None → Fills t slots e
-is_filled t p slots (Anonymous parallel name m arguments inputs) h w =
-    let n = (is_nameless t (value_room p) true m arguments inputs w).2 in (
-      n.0,
-      n.1.template,
-      same n.0.outputs slots Arity
-          (ap (λ c. outputs_fault c slots) (sym (callee_is t m n.0 n.1.template)) ∙ h),
-    )
-is_filled t p slots (Parentheses e) h w = is_filled t p slots e h w
-is_filled t p slots (Number n) h w = sym (same slots 1 Arity h)
-is_filled t p slots (Place name m accessors) h w = sym (same slots 1 Arity h)
-is_filled t p slots (Call parallel name m arguments) h w = sym (same slots 1 Arity h)
-is_filled t p slots (Array elements) h w = sym (same slots 1 Arity h)
-is_filled t p slots (Unary op a) h w = sym (same slots 1 Arity h)
-is_filled t p slots (Binary op a b) h w = sym (same slots 1 Arity h)
-is_filled t p slots (Choice c a b) h w = sym (same slots 1 Arity h)
+some_none : {A : Type 0} (x : A) → Some x ≡ None → ⊥
+some_none x h = cc
 
-matches : (t : Table) (p : Position) (target : Target Meant) (source : Source Meant)
-    → tuple_fault t target source ≡ None → source_fault t p target source ≡ None
-    → Matches t target source
-matches t p Discard (One e) h w = tt
-matches t p Discard (Values es) h w = cc
-matches t p (Slots slots) (One e) h w = is_filled t p (length slots) e h w
-matches t p (Slots slots) (Values es) h w = same (length es) (length slots) Arity h
+never : {A P : Type 0} {x : A} → Shows (Some x) P
+never {x = x} h = absurd (some_none x h)
 
-are_slots : (t : Table) (p : Position) (slots : List (Slot Meant)) → slots_fault t p slots ≡ None
-    → Each (IsSlot t p) slots
-are_slots t p [] h = tt
-are_slots t p (SlotPlace name m accessors ∷ slots) h =
-    let w = neither (arrow_place_fault t p m accessors) (slots_fault t p slots) h in
-    (is_driven_place t p m accessors w.0, are_slots t p slots w.1)
-are_slots t p (SlotDiscard ∷ slots) h = (tt, are_slots t p slots h)
+neither : {A : Type 0} (a b : Option A) → a ⨾ b ≡ None → (a ≡ None) × (b ≡ None)
+neither None b h = (refl, h)
+neither (Some x) b h = never h
 
-is_target : (t : Table) (p : Position) (target : Target Meant) → target_fault t p target ≡ None
-    → IsTarget t p target
-is_target t p Discard h = tt
-is_target t p (Slots slots) h = are_slots t p slots h
+-- of several parts, each has none
+both : {A P Q : Type 0} {a b : Option A} → Shows a P → Shows b Q → Shows (a ⨾ b) (P × Q)
+both {a = a} {b = b} p q h = let w = neither a b h in (p w.0, q w.1)
 
-is_slot_value : (t : Table) (p : Position) (slot : Option (Slot Meant)) (e : Expr Meant)
-    → slot_value_fault t p slot e ≡ None → IsSlotValue t p slot e
-is_slot_value t p (Some SlotDiscard) e h = is_whole t (value_room p) e h
-is_slot_value t p (Some (SlotPlace name m accessors)) e h = is_value t (value_room p) e h
-is_slot_value t p None e h = is_value t (value_room p) e h
+three : {A P Q R : Type 0} {a b c : Option A} → Shows a P → Shows b Q → Shows c R
+    → Shows (a ⨾ b ⨾ c) (P × Q × R)
+three p q r h = let w = both p (both q r) h in (w.0, w.1.0, w.1.1)
 
-are_slot_values : (t : Table) (p : Position) (slots : List (Slot Meant)) (es : List (Expr Meant))
-    → slot_values_fault t p slots es ≡ None → AreSlotValues t p slots es
-are_slot_values t p slots [] h = tt
-are_slot_values t p slots (e ∷ es) h =
-    let w = neither (slot_value_fault t p (first_slot slots) e)
-    (slot_values_fault t p (other_slots slots) es) h in
-    (is_slot_value t p (first_slot slots) e w.0, are_slot_values t p (other_slots slots) es w.1)
+four : {A P Q R S : Type 0} {a b c d : Option A} → Shows a P → Shows b Q → Shows c R → Shows d S
+    → Shows (a ⨾ b ⨾ c ⨾ d) (P × Q × R × S)
+four p q r s h = let w = both p (three q r s) h in (w.0, w.1.0, w.1.1, w.1.2)
 
-is_source : (t : Table) (p : Position) (target : Target Meant) (source : Source Meant)
-    → source_fault t p target source ≡ None → IsSource t p target source
-is_source t p target (One e) h = is_whole t (value_room p) e h
-is_source t p target (Values es) h = are_slot_values t p (slots_of target) es h
+each : {A F : Type 0} {fault : A → Option F} {P : A → Type 0} → ((x : A) → Shows (fault x) (P x))
+    → (xs : List A) → Shows (first_in fault xs) (Each P xs)
+each shows [] h = tt
+each shows (x ∷ xs) h = both (shows x) (each shows xs) h
 
--- ---- statements
-is_simple : (t : Table) (p : Position) (s : Simple Meant) → simple_fault t p s ≡ None
-    → IsSimple t p s
-is_simple t p (Vars variables) h = are_variables t p variables h
-is_simple t p (Signals d signals) h =
-    let w = neither (signal_place_fault p d) (signals_fault t p d signals) h in
-    (may_declare_signal p d w.0, are_signals t p d signals w.1)
-is_simple t p (Declared components) h =
-    let w = neither (declaration_fault p) (components_fault t p components) h in
-    (may_declare p w.0, are_components t p components w.1)
-is_simple t p (Created name m e) h =
-    let w = neither (declaration_fault p) (component_fault t (other_room p) e) h in
-    (may_declare p w.0, creates t (other_room p) e (elsewhere p) w.1)
-is_simple t p (Assigned a) h = is_assign t p a h
-is_simple t p (Constrain a b) h =
-    let w = neither (only_in_template p) _ h in
-    let v = neither (value_fault t (value_room p) a) (value_fault t (value_room p) b) w.1 in
-    (in_template p w.0, is_value t (value_room p) a v.0, is_value t (value_room p) b v.1)
-is_simple t p (Right e arrow name m accessors) h =
-    let w = neither (value_fault t (value_room p) e) (arrow_place_fault t p m accessors) h in
-    (is_value t (value_room p) e w.0, is_driven_place t p m accessors w.1)
-is_simple t p (TargetLeft target arrow source) h =
-    let w = neither (only_in_template p) _ h in
-    let v = neither (tuple_fault t target source) _ w.1 in
-    let u = neither (target_fault t p target) (source_fault t p target source) v.1 in (
-      in_template p w.0,
-      matches t p target source v.0 u.1,
-      is_target t p target u.0,
-      is_source t p target source u.1,
-    )
-is_simple t p (TargetRight source arrow target) h =
-    let w = neither (only_in_template p) _ h in
-    let v = neither (tuple_fault t target source) _ w.1 in
-    let u = neither (source_fault t p target source) (target_fault t p target) v.1 in (
-      in_template p w.0,
-      matches t p target source v.0 u.0,
-      is_target t p target u.1,
-      is_source t p target source u.0,
-    )
-is_simple t p (Alone parallel name m arguments inputs) h =
-    let w = neither (only_in_template p) (nameless_fault t (value_room p) true m arguments inputs)
-    h in
-    (in_template p w.0, is_nameless t (value_room p) true m arguments inputs w.1)
+-- at its place, or in its file
+placed : {A B P : Type 0} (f : A → B) {o : Option A} → Shows o P → Shows (option_map f o) P
+placed f {o = None} p h = p refl
+placed f {o = Some x} p h = never h
 
-is_head : (t : Table) (p : Position) (f : First Meant) → head_fault t p f ≡ None → IsHead t p f
-is_head t p (FirstVars variables) h = are_variables t p variables h
-is_head t p (FirstAssign a) h = is_assign t p a h
+holds : (b : Bool) (k : Kind) → Shows (unless b k) (IsTrue b)
+holds true k h = refl
+holds false k h = cc
 
-mutual
-  is_statement : (t : Table) (p : Position) (s : Statement Spot Meant)
-      → statement_fault t p s ≡ None → IsStatement t p s
-  is_statement t p (Block spot ss) h = are_statements t (inside p) ss h
-  is_statement t p (If spot c s) h =
-      let w = neither (at spot (value_fault t (other_room p) c))
-      (statement_fault t (inside p) s) h in
-      (is_value t (other_room p) c (nowhere spot _ w.0), is_statement t (inside p) s w.1)
-  is_statement t p (IfElse spot c s u) h =
-      let w = neither (at spot (value_fault t (other_room p) c)) _ h in
-      let v = neither (statement_fault t (inside p) s) (statement_fault t (inside p) u) w.1 in (
-        is_value t (other_room p) c (nowhere spot _ w.0),
-        is_statement t (inside p) s v.0,
-        is_statement t (inside p) u v.1,
+fails : (b : Bool) (k : Kind) → Shows (unless (not b) k) (IsFalse b)
+fails true k h = cc
+fails false k h = refl
+
+same : (a b : ℕ) (k : Kind) → Shows (unless (a == b) k) (a ≡ b)
+same a b k h = eqb-true a b (holds (a == b) k h)
+
+-- ---- names
+is_read : (m : Meant) (dots : ℕ) → Shows (fault.name_fault m access.Read dots) (IsRead m dots)
+is_read (meant.Variable n) dots h = same dots 0 kind.WrongKind h
+is_read (meant.Signal d n) dots h = same dots 0 kind.WrongKind h
+is_read (meant.Component n) dots h = same dots 1 kind.WrongKind h
+is_read _ dots h = cc
+
+is_written : (m : _) (dots : _) → Shows (fault.name_fault m access.Write dots) (IsWritten m dots)
+is_written (meant.Variable n) dots h = same dots 0 kind.WrongKind h
+is_written _ dots h = cc
+
+is_driven : (m : Meant) (dots : ℕ) → Shows (fault.name_fault m access.Drive dots) (IsDriven m dots)
+is_driven (meant.Signal direction.Inner n) dots h = same dots 0 kind.WrongKind h
+is_driven (meant.Signal direction.Output n) dots h = same dots 0 kind.WrongKind h
+is_driven (meant.Component n) dots h = same dots 1 kind.WrongKind h
+is_driven _ dots h = cc
+
+-- ---- calls
+called : (c : Callee) (n : ℕ)
+    → Shows (fault.call_fault c true n) ((d : Head) × (c ≡ TemplateOf d) × (n ≡ d.parameters))
+called (TemplateOf d) n h = (d, refl, same n d.parameters kind.Arity (neither _ _ h).0)
+called (FunctionOf p) n h = never (neither _ _ h).1
+called _ n h = never h
+
+valued : (c : Callee) (n : ℕ) → Shows (fault.call_fault c false n) (c ≡ FunctionOf n)
+valued (FunctionOf p) n h = ap FunctionOf (sym (same n p kind.Arity (neither _ _ h).0))
+valued (TemplateOf d) n h = never (neither _ _ h).1
+valued _ n h = cc
+
+either : (whole : Bool) (outputs : ℕ)
+    → Shows (unless (whole || (outputs == 1)) kind.WrongKind) (IsTrue whole ⊎ (outputs ≡ 1))
+either true outputs h = inl refl
+either false outputs h = inr (same outputs 1 kind.WrongKind h)
+
+allowed : (r : Room) → Shows (fault.room_fault r) (r ≡ room.Allowed)
+allowed room.Allowed h = refl
+allowed _ h = cc
+
+elsewhere : (p : Position) → other_room p ≢ room.Allowed
+elsewhere position.InFunction e = cc
+elsewhere _ e = cc
+
+-- ---- positions
+in_template : (p : _) (k : _) → Shows (unless (not (faults.in_function p)) k) (InTemplate p)
+in_template position.InFunction k h = cc
+in_template _ k h = tt
+
+in_function : (p : _) (k : _) → Shows (unless (faults.in_function p) k) (p ≡ position.InFunction)
+in_function position.InFunction k h = refl
+in_function _ k h = cc
+
+may_declare : (p : Position) → Shows (faults.declaration_fault p) (MayDeclare p)
+may_declare position.InFunction h = cc
+may_declare position.Looped h = cc
+may_declare _ h = tt
+
+may_declare_signal : (p : _) (d : _) → Shows (faults.signal_place_fault p d) (MayDeclareSignal p d)
+may_declare_signal position.Outermost direction.Inner h = tt
+may_declare_signal position.Outermost d h = refl
+may_declare_signal position.Inner direction.Inner h = tt
+may_declare_signal p d h = cc
+
+-- what holds of a form of several parts
+ruleset parts =
+    (both, three, each, is_written, is_driven, in_template, may_declare, may_declare_signal)
+
+module _ (t : Table) where
+  -- what a called name is
+  abbrev IsCallee : Meant → Callee → Type 0
+  IsCallee m (TemplateOf d) = IsTemplateOf t m d
+  IsCallee m (FunctionOf n) = IsCall t m n
+  IsCallee m _ = ⊤
+
+  found : {A : Type 0} (P : Callee → Type 0) (made : A → Callee) (o : Option A) → P Unknown
+      → ((x : A) → o ≡ Some x → P (made x)) → P (unwrap_or (option_map made o) Unknown)
+  found P made None u f = u
+  found P made (Some x) u f = f x refl
+
+  is_callee : (m : Meant) → IsCallee m (callee t m)
+  is_callee (meant.Template k) =
+      found (IsCallee (meant.Template k)) TemplateOf (slice_get t.templates k) tt
+      (λ d is. record { number = k; means = refl; is = is })
+  is_callee (meant.Function k) =
+      found (IsCallee (meant.Function k)) FunctionOf (slice_get t.functions k) tt (λ n is. is)
+  is_callee _ = tt
+
+  callee_is : (m : Meant) (d : Head) → IsTemplateOf t m d → callee t m ≡ TemplateOf d
+  callee_is m d is =
+      ap (callee t) is.means ∙ ap (λ o. unwrap_or (option_map TemplateOf o) Unknown) is.is
+
+  is_called : (m : Meant) (n : ℕ) → Shows (fault.call_fault (callee t m) false n) (IsCall t m n)
+  is_called m n h = subst (IsCallee m) (valued (callee t m) n h) (is_callee m)
+
+  is_created : (m : Meant) (n : ℕ) → Shows (fault.call_fault (callee t m) true n) (IsCreated t m n)
+  is_created m n h =
+      let c = called (callee t m) n h in
+      record { head = c.0; template = subst (IsCallee m) c.1 (is_callee m); fits = c.2 }
+
+  -- ---- expressions
+  is_nameless : (r : _) (whole : _) (m : _) (arguments : _) (inputs : _)
+      → Shows (fault.values_fault t (inward r) arguments) (AreValues t (inward r) arguments)
+      → ((d : Head)
+      → Shows (fault.inputs_fault t (TemplateOf d) r inputs) (AreInputs t d r inputs))
+      → Shows (fault.nameless_fault t r whole m arguments inputs)
+      (IsNameless t r whole m arguments inputs)
+  is_nameless r whole m arguments inputs given named h =
+      let w = neither (fault.call_fault (callee t m) true (count arguments)) _ h in
+      let c = is_created m (count arguments) w.0 in
+      let d = c.head in
+      let v =
+      both (three (same (inputs_count inputs) d.inputs kind.Arity) (either whole d.outputs)
+      (allowed r)) (both given (named d))
+      (subst (λ k. fault.anonymous_fault k r whole (inputs_count inputs)
+      ⨾ fault.values_fault t (inward r) arguments ⨾ fault.inputs_fault t k r inputs ≡ None)
+      (callee_is m d c.template) w.1) in
+      let a : IsAnonymous t m whole (count arguments) (inputs_count inputs) d =
+      record { template = c.template; fits = c.fits; given = v.0.0; outputs = v.0.1 } in
+      (v.0.2, v.1.0, (d, a, v.1.1))
+
+  mutual
+    is_value : (r : Room) (e : Expr Meant) → Shows (fault.value_fault t r e) (IsValue t r e)
+    is_value r (tree.Number n) = λ h. tt
+    is_value r (tree.Place name m accessors) =
+        both (is_read m (members accessors)) (are_indices r accessors)
+    is_value r (tree.Call parallel name m arguments) =
+        both (is_called m (count arguments)) (are_values (inward r) arguments)
+    is_value r (tree.Anonymous parallel name m arguments inputs) =
+        is_nameless r false m arguments inputs (are_values (inward r) arguments)
+        (λ d. are_inputs d r inputs)
+    is_value r (tree.Parentheses e) = is_value r e
+    is_value r (tree.Array elements) = are_values r elements
+    is_value r (tree.Unary op a) = is_value r a
+    is_value r (tree.Binary op a b) = both (is_value r a) (is_value (on_the_right op r) b)
+    is_value r (tree.Choice c a b) =
+        three (is_value r c) (is_value (inward r) a) (is_value (inward r) b)
+
+    are_values : (r : _) (es : _) → Shows (fault.values_fault t r es) (AreValues t r es)
+    are_values r tree.none = λ h. tt
+    are_values r (tree.more e es) = both (is_value r e) (are_values r es)
+
+    are_indices : (r : _) (a : _) → Shows (fault.accessors_fault t r a) (AreIndices t r a)
+    are_indices r tree.done = λ h. tt
+    are_indices r (tree.index e rest) = both (is_value (inward r) e) (are_indices r rest)
+    are_indices r (tree.member name rest) = are_indices r rest
+
+    are_inputs : (d : Head) (r : Room) (inputs : Inputs Meant)
+        → Shows (fault.inputs_fault t (TemplateOf d) r inputs) (AreInputs t d r inputs)
+    are_inputs d r (tree.Listed es) = are_values r es
+    are_inputs d r (tree.Named is) = are_named d.is_input no_names r is
+
+    are_named : (inputs earlier : Names) (r : Room) (is : tree.NamedInputs Meant)
+        → Shows (fault.named_fault t inputs earlier r is) (AreNamed t inputs earlier r is)
+    are_named inputs earlier r tree.unnamed = λ h. tt
+    are_named inputs earlier r (tree.named name arrow e rest) =
+        four (holds (inputs name) kind.UnknownName) (fails (earlier name) kind.Arity)
+        (is_value r e) (are_named inputs (and_name earlier name) r rest)
+
+  is_whole : (r : Room) (e : Expr Meant) → Shows (fault.whole_fault t r e) (IsWhole t r e)
+  is_whole r (tree.Anonymous parallel name m arguments inputs) =
+      is_nameless r true m arguments inputs (are_values (inward r) arguments)
+      (λ d. are_inputs d r inputs)
+  is_whole r (tree.Parentheses e) = is_whole r e
+  is_whole r e = is_value r e
+
+  creates : (r : _) (e : _) → r ≢ room.Allowed → Shows (fault.component_fault t r e) (Creates t r e)
+  creates r (tree.Call parallel name m arguments) apart =
+      both (is_created m (count arguments)) (are_values (inward r) arguments)
+  creates r (tree.Anonymous parallel name m arguments inputs) apart =
+      λ h. apart (is_nameless r false m arguments inputs (are_values (inward r) arguments)
+      (λ d. are_inputs d r inputs) h).0
+  creates r (tree.Parentheses e) apart = creates r e apart
+  creates r _ apart = never
+
+  -- ---- places and assignments
+  nothing_behind : (call : Bool) (dots : ℕ)
+      → Shows (unless (call && (dots == 0)) kind.WrongKind) (dots ≡ 0)
+  nothing_behind true dots h = same dots 0 kind.WrongKind h
+  nothing_behind false dots h = never h
+
+  is_given : (p : Position) (m : Meant) (a : Accessors Meant) (e : Expr Meant)
+      → Shows (faults.given_fault t (other_room p) m a e) (IsGiven t p m a e)
+  is_given p (meant.Component n) a e =
+      three (nothing_behind (fault.is_call e) (members a)) (are_indices (other_room p) a)
+      (creates (other_room p) e (elsewhere p))
+  is_given p m a e =
+      both (both (is_written m (members a)) (are_indices (other_room p) a))
+      (is_value (other_room p) e)
+
+  is_assign : (p : _) (a : _) → Shows (faults.assign_fault t p a) (IsAssign t p a)
+  is_assign p (tree.Set name m accessors e) = is_given p m accessors e
+  is_assign p _ = search (parts, are_indices, is_value)
+
+  -- ---- declarations
+  is_optional : (r : _) (v : _) → Shows (faults.optional_fault t r v) (IsOptional t r v)
+  is_optional r None = λ h. tt
+  is_optional r (Some e) = is_value r e
+
+  is_signal_value : (p : Position) (d : Direction) (v : tree.SignalValue Meant)
+      → Shows (faults.signal_value_fault t p d v) (IsSignalValue t p d v)
+  is_signal_value p d tree.Nothing = λ h. tt
+  is_signal_value p direction.Input (tree.Given arrow e) = never
+  is_signal_value p _ (tree.Given arrow e) = is_value (value_room p) e
+
+  is_argument : (p : _) (a : _) → Shows (faults.argument_fault t p a) (IsArgument t p a)
+  is_argument p (tree.Words w) = λ h. tt
+  is_argument p (tree.LogValue e) = is_value (other_room p) e
+
+  -- ---- tuples
+  is_slot : (p : _) (slot : _) → Shows (faults.slot_fault t p slot) (IsSlot t p slot)
+  is_slot p (tree.SlotPlace name m accessors) =
+      both (is_driven m (members accessors)) (are_indices (other_room p) accessors)
+  is_slot p tree.SlotDiscard = λ h. tt
+
+  is_target : (p : Position) (target : Target Meant)
+      → Shows (first_in (faults.slot_fault t p) (slots_of target)) (IsTarget t p target)
+  is_target p tree.Discard = λ h. tt
+  is_target p (tree.Slots slots) = each (is_slot p) slots
+
+  is_slot_value : (p : Position) (slot : Option (Slot Meant)) (e : Expr Meant)
+      → Shows (faults.slot_value_fault t p slot e) (IsSlotValue t p slot e)
+  is_slot_value p (Some tree.SlotDiscard) e = is_whole (value_room p) e
+  is_slot_value p _ e = is_value (value_room p) e
+
+  are_slot_values : (p : Position) (slots : List (Slot Meant)) (es : List (Expr Meant))
+      → Shows (faults.slot_values_fault t p slots es) (AreSlotValues t p slots es)
+  are_slot_values p slots [] = λ h. tt
+  are_slot_values p slots (e ∷ es) =
+      both (is_slot_value p (first_slot slots) e) (are_slot_values p (other_slots slots) es)
+
+  is_source : (p : Position) (target : Target Meant) (source : Source Meant)
+      → Shows (faults.source_fault t p target source) (IsSource t p target source)
+  is_source p target (tree.One e) = is_whole (value_room p) e
+  is_source p target (tree.Values es) = are_slot_values p (slots_of target) es
+
+  is_filled : (p : Position) (slots : ℕ) (e : Expr Meant)
+      → Shows (faults.one_fault t slots e) (IsWhole t (value_room p) e → Fills t slots e)
+  is_filled p slots (tree.Anonymous parallel name m arguments inputs) h w =
+      let d = w.2.0 in
+      let is = w.2.1.template in (
+        d,
+        is,
+        same d.outputs slots kind.Arity
+            (subst (λ c. faults.outputs_fault c slots ≡ None) (callee_is m d is) h),
       )
-  is_statement t p (While spot c s) h =
-      let w = neither (at spot (value_fault t (other_room p) c))
-      (statement_fault t (in_loop p) s) h in
-      (is_value t (other_room p) c (nowhere spot _ w.0), is_statement t (in_loop p) s w.1)
-  is_statement t p (For spot first_spot f c step_spot a s) h =
-      let w = neither (at first_spot (head_fault t p f)) _ h in
-      let v = neither (at spot (value_fault t (other_room p) c)) _ w.1 in
-      let u = neither (at step_spot (assign_fault t p a)) (statement_fault t (in_loop p) s) v.1 in (
-        is_head t p f (nowhere first_spot _ w.0),
-        is_value t (other_room p) c (nowhere spot _ v.0),
-        is_assign t p a (nowhere step_spot _ u.0),
-        is_statement t (in_loop p) s u.1,
-      )
-  is_statement t p (Return spot e) h =
-      let w = neither (only_in_function p) (value_fault t (other_room p) e) (nowhere spot _ h) in
-      (in_function p w.0, is_value t (other_room p) e w.1)
-  is_statement t p (Assert spot e) h = is_value t (other_room p) e (nowhere spot _ h)
-  is_statement t p (Log spot arguments) h =
-      let w = neither (log_fault p) (arguments_fault t p arguments) (nowhere spot _ h) in
-      (may_log p w.0, are_arguments t p arguments w.1)
-  is_statement t p (Ended spot s) h = is_simple t p s (nowhere spot _ h)
+  is_filled p slots (tree.Parentheses e) h w = is_filled p slots e h w
+  is_filled p slots _ h w = same slots 1 kind.Arity h
 
-  are_statements : (t : Table) (p : Position) (ss : Statements Spot Meant)
-      → statements_fault t p ss ≡ None → AreStatements t p ss
-  are_statements t p empty h = tt
-  are_statements t p (then_more s ss) h =
-      let w = neither (statement_fault t p s) (statements_fault t p ss) h in
-      (is_statement t p s w.0, are_statements t p ss w.1)
+  matches : (p : Position) (target : Target Meant) (source : Source Meant)
+      → Shows (faults.tuple_fault t target source)
+      (IsSource t p target source → Matches t target source)
+  matches p tree.Discard (tree.One e) h w = tt
+  matches p tree.Discard (tree.Values es) h w = never h
+  matches p (tree.Slots slots) (tree.One e) h w = is_filled p (length slots) e h w
+  matches p (tree.Slots slots) (tree.Values es) h w = same (length es) (length slots) kind.Arity h
 
--- ---- definitions
-is_function : (t : Table) (d : Function) → function_fault t d ≡ None → IsFunction t d
-is_function t d h =
-    let w = neither (at d.spot (unless (last_returns false d.body) (NotInProfile NoReturn)))
-    (statements_fault t InFunction d.body) h in (
-      holds (last_returns false d.body) _ (nowhere d.spot _ w.0),
-      are_statements t InFunction d.body w.1,
-    )
+  -- ---- statements
+  is_simple : (p : Position) (s : Simple Meant) → Shows (faults.simple_fault t p s) (IsSimple t p s)
+  is_simple p (tree.TargetLeft target arrow source) = λ h.
+      let w = four (in_template p kind.WrongKind) (matches p target source) (is_target p target)
+      (is_source p target source) h in
+      (w.0, w.1 w.3, w.2, w.3)
+  is_simple p (tree.TargetRight source arrow target) = λ h.
+      let w = four (in_template p kind.WrongKind) (matches p target source)
+      (is_source p target source) (is_target p target) h in
+      (w.0, w.1 w.2, w.3, w.2)
+  is_simple p (tree.Alone parallel name m arguments inputs) =
+      both (in_template p kind.WrongKind)
+      (is_nameless (value_room p) true m arguments inputs
+      (are_values (inward (value_room p)) arguments) (λ d. are_inputs d (value_room p) inputs))
+  is_simple p (tree.Assigned a) = is_assign p a
+  is_simple p (tree.Created name m e) =
+      both (may_declare p) (creates (other_room p) e (elsewhere p))
+  is_simple p _ =
+      search (parts, is_optional, is_signal_value, are_indices, are_values, is_value)
 
-publics : (inputs : Names) (names : List (List ℕ)) → public_fault inputs names ≡ None
-    → Each (λ name. IsTrue (inputs name)) names
-publics inputs [] h = tt
-publics inputs (name ∷ names) h =
-    let w = neither (unless (inputs name) UnknownName) (public_fault inputs names) h in
-    (holds (inputs name) UnknownName w.0, publics inputs names w.1)
+  is_head : (p : Position) (f : tree.First Meant) → Shows (faults.head_fault t p f) (IsHead t p f)
+  is_head p (tree.FirstAssign a) = is_assign p a
+  is_head p _ = search (parts, are_values, is_optional)
 
-is_main : (t : Table) (m : Main) → main_fault t m ≡ None → IsMain t m
-is_main t m h =
-    let w = neither (publics_fault (callee t m.meant) m.public_names) _ (nowhere m.spot _ h) in
-    let v = neither (component_call_fault (callee t m.meant) (count m.arguments))
-    (values_fault t Barred m.arguments) w.1 in
-    let c = is_created t m.meant (count m.arguments) v.0 in
-    record {
-      head = c.head;
-      template = c.template;
-      fits = c.fits;
-      publics =
-          publics c.head.is_input m.public_names
-          (ap (λ k. publics_fault k m.public_names) (sym (callee_is t m.meant c.head c.template))
-          ∙ w.0);
-      given = are_values t Barred m.arguments v.1;
-    }
+  mutual
+    is_statement : (p : _) (s : _) → Shows (faults.statement_fault t p s) (IsStatement t p s)
+    is_statement p (tree.Block spot ss) = are_statements (inside p) ss
+    is_statement p (tree.If spot c s) =
+        both (placed _ (is_value (other_room p) c)) (is_statement (inside p) s)
+    is_statement p (tree.IfElse spot c s u) =
+        three (placed _ (is_value (other_room p) c)) (is_statement (inside p) s)
+        (is_statement (inside p) u)
+    is_statement p (tree.While spot c s) =
+        both (placed _ (is_value (other_room p) c)) (is_statement (in_loop p) s)
+    is_statement p (tree.For spot first_spot f c step_spot a s) =
+        four (placed _ (is_head p f)) (placed _ (is_value (other_room p) c))
+        (placed _ (is_assign p a)) (is_statement (in_loop p) s)
+    is_statement p _ =
+        search (parts, placed, in_function, is_argument, is_value, is_simple)
 
--- ---- programs
-in_no_file : (file : ℕ) (f : Option Fault) → in_file file f ≡ None → f ≡ None
-in_no_file file None h = refl
-in_no_file file (Some f) h = cc
+    are_statements : (p : Position) (ss : Statements Spot Meant)
+        → Shows (faults.statements_fault t p ss) (AreStatements t p ss)
+    are_statements p tree.empty = λ h. tt
+    are_statements p (tree.then_more s ss) = both (is_statement p s) (are_statements p ss)
 
-record AreUsed (t : Table) (ds : List Definition) : Type 0 where
-  templates : Each (IsTemplate t) (templates_among ds)
-  functions : Each (IsFunction t) (functions_among ds)
-  mains : Each (IsMain t) (mains_among ds)
+  -- ---- definitions
+  is_function : (d : Function) → Shows (faults.function_fault t d) (IsFunction t d)
+  is_function d =
+      both (placed _ (holds (last_returns false d.body) _))
+      (are_statements position.InFunction d.body)
 
-are_used : (t : Table) (ds : List Definition) → first_use_fault t ds ≡ None → AreUsed t ds
-are_used t [] h = record { templates = tt; functions = tt; mains = tt }
-are_used t (defined.IsTemplate d ∷ ds) h =
-    let w = neither (use_fault t (defined.IsTemplate d)) (first_use_fault t ds) h in
-    let u = are_used t ds w.1 in
-    record {
-      templates = (are_statements t Outermost d.body (in_no_file d.file _ w.0), u.templates);
-      functions = u.functions;
-      mains = u.mains;
-    }
-are_used t (defined.IsFunction d ∷ ds) h =
-    let w = neither (use_fault t (defined.IsFunction d)) (first_use_fault t ds) h in
-    let u = are_used t ds w.1 in
-    record {
-      templates = u.templates;
-      functions = (is_function t d (in_no_file d.file _ w.0), u.functions);
-      mains = u.mains;
-    }
-are_used t (defined.IsMain m ∷ ds) h =
-    let w = neither (use_fault t (defined.IsMain m)) (first_use_fault t ds) h in
-    let u = are_used t ds w.1 in
-    record {
-      templates = u.templates;
-      functions = u.functions;
-      mains = (is_main t m (in_no_file m.file _ w.0), u.mains);
-    }
+  is_main : (m : Main) → Shows (faults.main_fault t m) (IsMain t m)
+  is_main m h =
+      let w =
+      placed _ (three {a = faults.publics_fault (callee t m.meant) m.public_names} (λ k. k)
+      (is_created m.meant (count m.arguments)) (are_values room.Barred m.arguments)) h in
+      record {
+        created = w.1;
+        publics =
+            each (λ name. holds (w.1.head.is_input name) kind.UnknownName) m.public_names
+            (subst (λ k. faults.publics_fault k m.public_names ≡ None)
+            (callee_is m.meant w.1.head w.1.template) w.0);
+        given = w.2;
+      }
 
-no_second : (ds : List Definition) → second_main ds ≡ None → mains_among ds ≡ []
-no_second [] h = refl
-no_second (defined.IsTemplate d ∷ ds) h = no_second ds h
-no_second (defined.IsFunction d ∷ ds) h = no_second ds h
-no_second (defined.IsMain m ∷ ds) h = cc
+  are_used : (ds : List defined.Definition)
+      → Shows (first_in (use_fault t) ds)
+      (Each (IsTemplate t) (templates_among ds) × Each (IsFunction t) (functions_among ds)
+      × Each (IsMain t) (mains_among ds))
+  are_used [] h = (tt, tt, tt)
+  are_used (defined.IsTemplate d ∷ ds) h =
+      let w = both (placed _ (are_statements position.Outermost d.body)) (are_used ds) h in
+      ((w.0, w.1.0), w.1.1, w.1.2)
+  are_used (defined.IsFunction d ∷ ds) h =
+      let w = both (placed _ (is_function d)) (are_used ds) h in (w.1.0, (w.0, w.1.1), w.1.2)
+  are_used (defined.IsMain m ∷ ds) h =
+      let w = both (placed _ (is_main m)) (are_used ds) h in (w.1.0, w.1.1, (w.0, w.1.2))
 
-one_main : (ds : List Definition) → mains_fault ds ≡ None → (m : Main) × (mains_among ds ≡ m ∷ [])
-one_main [] h = cc
-one_main (defined.IsTemplate d ∷ ds) h = one_main ds h
-one_main (defined.IsFunction d ∷ ds) h = one_main ds h
-one_main (defined.IsMain m ∷ ds) h = (m, ap (λ ms. m ∷ ms) (no_second ds h))
+one_main : (ms : List Main) → Shows (mains_fault ms) ((m : Main) × (ms ≡ m ∷ []))
+one_main [] h = never h
+one_main (m ∷ []) h = (m, refl)
+one_main (m ∷ _ ∷ _) h = never h
 
 -- where there is no fault, the program is used as it may be
-pub is_used : (files : List (List ℕ)) (ds : List Definition) → first_fault ds ≡ None
+pub is_used : (files : List (List ℕ)) (ds : List defined.Definition) → first_fault ds ≡ None
     → IsUsed (program_with files ds)
 is_used files ds h =
-    let w = neither (mains_fault ds) (first_use_fault (table_among ds) ds) h in
-    let m = one_main ds w.0 in
-    let u = are_used (table_among ds) ds w.1 in
+    let w = both (one_main (mains_among ds)) (are_used (table_among ds) ds) h in
     record {
-      main = m.0;
-      one = m.1;
-      is = (subst (λ ms. Each (IsMain (table_among ds)) ms) m.1 u.mains).0;
-      templates = u.templates;
-      functions = u.functions;
+      main = w.0.0;
+      one = w.0.1;
+      is = (subst (Each (IsMain (table_among ds))) w.0.1 w.1.2).0;
+      templates = w.1.0;
+      functions = w.1.1;
     }

@@ -1,9 +1,15 @@
 -- What the code's tables stand for, and what its calls answer.
-use Rattle.std.specs.Prelude.{◌≡◌, map, Option, Some, None, is_some, Result, Ok, Err}
-use Rattle.std.specs.Prelude.{⊤}
+use Rattle.std.specs.Prelude.{◌≡◌, ◌+◌, List, ◌++◌, map, length, Option, Some, None, is_some}
+use Rattle.std.specs.Prelude.{Result, Ok, Err, ⊤}
 use Rattle.std.specs.Ordering.{nat_cmp}
 use Rattle.std.specs.Cmp.Lexicographic.{slice_cmp}
 use Rattle.std.specs.BTreeMap.{get_by}
+use Rattle.cir_ast.specs.declared.operators.Direction.{Direction}
+use Rattle.cir_ast.specs.declared.operators.Direction.TheVariants as direction
+use Rattle.cir_ast.specs.declared.program.Spot.{Spot}
+use Rattle.cir_ast.specs.declared.program.Meant.{Meant}
+use Rattle.cir_ast.specs.Tree.{Signal, Signals, Statement, Ended, Statements, empty, then_more}
+use Rattle.cir_resolve.specs.Definitions.{Definition}
 use Rattle.cir_checks.specs.declared.name_set.NameSet.{NameSet}
 use Rattle.cir_checks.specs.declared.stop.Stop.{Stop}
 use Rattle.cir_checks.specs.declared.stop.Stop.TheVariants.{At, OutOfMemory}
@@ -11,8 +17,9 @@ use Rattle.cir_checks.specs.declared.table.Head.{Head as CodeHead}
 use Rattle.cir_checks.specs.declared.table.Table.{Table as CodeTable}
 use Rattle.cir_checks.specs.declared.table.Callee.{Callee as CodeCallee}
 use Rattle.cir_checks.specs.declared.table.Callee.TheVariants as callee
-use Rattle.cir_checks.specs.Faults.{Names}
+use Rattle.cir_checks.specs.Faults.{Names, and_names}
 use Rattle.cir_checks.specs.Heads.{Head, Table, Callee, TemplateOf, FunctionOf, Undefined, Unknown}
+use Rattle.cir_checks.specs.Heads.{head_of, templates_among, functions_among}
 
 -- what is in a set of names
 unfoldable pub contained : NameSet → Names
@@ -27,8 +34,34 @@ head_in h =
       outputs = h.outputs;
     }
 
+-- a head with more signals, and with those that more statements declare
+abbrev pub with_signals : Head → Direction → List (Signal Meant) → Head
+with_signals h direction.Input signals =
+    record h {
+      is_input = and_names h.is_input (map (λ s. s.name) signals);
+      inputs = h.inputs + length signals;
+    }
+with_signals h direction.Output signals = record h { outputs = h.outputs + length signals }
+with_signals h direction.Inner signals = h
+
+abbrev pub with_statement : Head → Statement Spot Meant → Head
+with_statement h (Ended spot (Signals d signals)) = with_signals h d signals
+with_statement h _ = h
+
+abbrev pub with_statements : Head → Statements Spot Meant → Head
+with_statements h empty = h
+with_statements h (then_more s ss) = with_statements (with_statement h s) ss
+
 unfoldable pub table_in : CodeTable → Table
 table_in t = record { templates = map head_in t.templates; functions = t.functions }
+
+-- a table with more definitions
+abbrev pub table_with : CodeTable → List Definition → Table
+table_with t ds =
+    record {
+      templates = map head_in t.templates ++ map head_of (templates_among ds);
+      functions = t.functions ++ map (λ f. length f.parameters) (functions_among ds);
+    }
 
 abbrev pub callee_in : CodeCallee → Callee
 callee_in (callee.Template h) = TemplateOf (head_in h.now)

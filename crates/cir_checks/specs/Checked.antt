@@ -9,16 +9,9 @@ use Rattle.cir_ast.specs.declared.operators.Direction.TheVariants as direction
 use Rattle.cir_ast.specs.declared.program.Spot.{Spot}
 use Rattle.cir_ast.specs.declared.program.Meant.{Meant}
 use Rattle.cir_ast.specs.declared.program.Meant.TheVariants as meant
-use Rattle.cir_ast.specs.Tree.{Expr, Number, Place, Call, Anonymous, Parentheses, Array, Unary}
-use Rattle.cir_ast.specs.Tree.{Binary, Choice, Exprs, none, more, Accessors, done, index, member}
-use Rattle.cir_ast.specs.Tree.{Inputs, Listed, Named, NamedInputs, unnamed, named, Variable}
-use Rattle.cir_ast.specs.Tree.{SignalValue, Nothing, Given, Signal, Assign, Set}
-use Rattle.cir_ast.specs.Tree.{Compound, Left, Increment, Decrement, First, FirstVars, FirstAssign}
-use Rattle.cir_ast.specs.Tree.{LogArgument, Words, LogValue, Slot, SlotPlace, SlotDiscard, Target}
-use Rattle.cir_ast.specs.Tree.{Discard, Slots, Source, One, Values, Simple, Vars, Signals, Declared}
-use Rattle.cir_ast.specs.Tree.{Created, Assigned, Constrain, Right, TargetLeft, TargetRight, Alone}
-use Rattle.cir_ast.specs.Tree.{Statement, Block, If, IfElse, While, For, Return, Assert, Log, Ended}
-use Rattle.cir_ast.specs.Tree.{Statements, empty, then_more}
+use Rattle.cir_ast.specs.Tree as tree
+use Rattle.cir_ast.specs.Tree.{Expr, Exprs, Accessors, Inputs, Assign, Slot, Target, Source, Simple}
+use Rattle.cir_ast.specs.Tree.{Statement, Statements}
 use Rattle.cir_ast.specs.Height.{exprs_height, block_height}
 use Rattle.cir_ast.specs.Program.{Template, Function, Main, Program}
 use Rattle.cir_checks.specs.declared.positions.Room.{Room}
@@ -28,8 +21,8 @@ use Rattle.cir_checks.specs.declared.positions.Position.TheVariants.{InFunction,
 use Rattle.cir_checks.specs.Faults.{Names, no_names, and_name}
 use Rattle.cir_checks.specs.Heads.{Head, Table, table_of}
 use Rattle.cir_checks.specs.Uses.{inward, on_the_right, members, count, inputs_count}
-use Rattle.cir_checks.specs.Statements.{inside, in_loop, value_room, other_room, first_slot}
-use Rattle.cir_checks.specs.Statements.{other_slots, slots_of, last_returns}
+use Rattle.cir_checks.specs.Statements.{inside, in_loop, value_room, other_room}
+use Rattle.cir_checks.specs.Statements.{first_slot, other_slots, slots_of, last_returns}
 
 -- each one of a list
 abbrev pub Each : {A : Type 0} → (A → Type 0) → List A → Type 0
@@ -68,38 +61,38 @@ pub record IsAnonymous (t : Table) (m : Meant) (whole : Bool) (arguments inputs 
 
 abbrev mutual
   pub IsValue : Table → Room → Expr Meant → Type 0
-  IsValue t room (Number n) = ⊤
-  IsValue t room (Place name m accessors) =
+  IsValue t room (tree.Number n) = ⊤
+  IsValue t room (tree.Place name m accessors) =
       IsRead m (members accessors) × AreIndices t room accessors
-  IsValue t room (Call parallel name m arguments) =
+  IsValue t room (tree.Call parallel name m arguments) =
       IsCall t m (count arguments) × AreValues t (inward room) arguments
-  IsValue t room (Anonymous parallel name m arguments inputs) =
+  IsValue t room (tree.Anonymous parallel name m arguments inputs) =
       (room ≡ Allowed) × AreValues t (inward room) arguments
       × ((h : Head) × IsAnonymous t m false (count arguments) (inputs_count inputs) h
       × AreInputs t h room inputs)
-  IsValue t room (Parentheses e) = IsValue t room e
-  IsValue t room (Array elements) = AreValues t room elements
-  IsValue t room (Unary op a) = IsValue t room a
-  IsValue t room (Binary op a b) = IsValue t room a × IsValue t (on_the_right op room) b
-  IsValue t room (Choice c a b) =
+  IsValue t room (tree.Parentheses e) = IsValue t room e
+  IsValue t room (tree.Array elements) = AreValues t room elements
+  IsValue t room (tree.Unary op a) = IsValue t room a
+  IsValue t room (tree.Binary op a b) = IsValue t room a × IsValue t (on_the_right op room) b
+  IsValue t room (tree.Choice c a b) =
       IsValue t room c × IsValue t (inward room) a × IsValue t (inward room) b
 
   pub AreValues : Table → Room → Exprs Meant → Type 0
-  AreValues t room none = ⊤
-  AreValues t room (more e es) = IsValue t room e × AreValues t room es
+  AreValues t room tree.none = ⊤
+  AreValues t room (tree.more e es) = IsValue t room e × AreValues t room es
 
   pub AreIndices : Table → Room → Accessors Meant → Type 0
-  AreIndices t room done = ⊤
-  AreIndices t room (index e rest) = IsValue t (inward room) e × AreIndices t room rest
-  AreIndices t room (member name rest) = AreIndices t room rest
+  AreIndices t room tree.done = ⊤
+  AreIndices t room (tree.index e rest) = IsValue t (inward room) e × AreIndices t room rest
+  AreIndices t room (tree.member name rest) = AreIndices t room rest
 
   pub AreInputs : Table → Head → Room → Inputs Meant → Type 0
-  AreInputs t h room (Listed es) = AreValues t room es
-  AreInputs t h room (Named is) = AreNamed t h.is_input no_names room is
+  AreInputs t h room (tree.Listed es) = AreValues t room es
+  AreInputs t h room (tree.Named is) = AreNamed t h.is_input no_names room is
 
-  pub AreNamed : Table → (inputs earlier : Names) → Room → NamedInputs Meant → Type 0
-  AreNamed t inputs earlier room unnamed = ⊤
-  AreNamed t inputs earlier room (named name arrow e rest) =
+  pub AreNamed : Table → (inputs earlier : Names) → Room → tree.NamedInputs Meant → Type 0
+  AreNamed t inputs earlier room tree.unnamed = ⊤
+  AreNamed t inputs earlier room (tree.named name arrow e rest) =
       IsTrue (inputs name) × IsFalse (earlier name) × IsValue t room e
       × AreNamed t inputs (and_name earlier name) room rest
 
@@ -111,16 +104,16 @@ IsNameless t room whole m arguments inputs =
 
 -- a value of which an anonymous component may be the whole
 abbrev pub IsWhole : Table → Room → Expr Meant → Type 0
-IsWhole t room (Anonymous parallel name m arguments inputs) =
+IsWhole t room (tree.Anonymous parallel name m arguments inputs) =
     IsNameless t room true m arguments inputs
-IsWhole t room (Parentheses e) = IsWhole t room e
+IsWhole t room (tree.Parentheses e) = IsWhole t room e
 IsWhole t room e = IsValue t room e
 
 -- an expression that creates a component
 abbrev pub Creates : Table → Room → Expr Meant → Type 0
-Creates t room (Call parallel name m arguments) =
+Creates t room (tree.Call parallel name m arguments) =
     IsCreated t m (count arguments) × AreValues t (inward room) arguments
-Creates t room (Parentheses e) = Creates t room e
+Creates t room (tree.Parentheses e) = Creates t room e
 Creates t room _ = ⊥
 
 abbrev pub IsWritten : Meant → ℕ → Type 0
@@ -149,28 +142,28 @@ IsGiven t p (meant.Component n) accessors e =
 IsGiven t p m accessors e = IsWrittenPlace t p m accessors × IsValue t (other_room p) e
 
 abbrev pub IsAssign : Table → Position → Assign Meant → Type 0
-IsAssign t p (Set name m accessors e) = IsGiven t p m accessors e
-IsAssign t p (Compound name m accessors op e) =
+IsAssign t p (tree.Set name m accessors e) = IsGiven t p m accessors e
+IsAssign t p (tree.Compound name m accessors op e) =
     IsWrittenPlace t p m accessors × IsValue t (other_room p) e
-IsAssign t p (Left name m accessors arrow e) =
+IsAssign t p (tree.Left name m accessors arrow e) =
     IsDrivenPlace t p m accessors × IsValue t (value_room p) e
-IsAssign t p (Increment name m accessors) = IsWrittenPlace t p m accessors
-IsAssign t p (Decrement name m accessors) = IsWrittenPlace t p m accessors
+IsAssign t p (tree.Increment name m accessors) = IsWrittenPlace t p m accessors
+IsAssign t p (tree.Decrement name m accessors) = IsWrittenPlace t p m accessors
 
 abbrev pub IsOptional : Table → Room → Option (Expr Meant) → Type 0
 IsOptional t room None = ⊤
 IsOptional t room (Some e) = IsValue t room e
 
-abbrev pub IsVariable : Table → Position → Variable Meant → Type 0
+abbrev pub IsVariable : Table → Position → tree.Variable Meant → Type 0
 IsVariable t p v = AreValues t (other_room p) v.dimensions × IsOptional t (other_room p) v.value
 
 -- an input has no value of its own
-abbrev pub IsSignalValue : Table → Position → Direction → SignalValue Meant → Type 0
-IsSignalValue t p d Nothing = ⊤
-IsSignalValue t p direction.Input (Given arrow e) = ⊥
-IsSignalValue t p _ (Given arrow e) = IsValue t (value_room p) e
+abbrev pub IsSignalValue : Table → Position → Direction → tree.SignalValue Meant → Type 0
+IsSignalValue t p d tree.Nothing = ⊤
+IsSignalValue t p direction.Input (tree.Given arrow e) = ⊥
+IsSignalValue t p _ (tree.Given arrow e) = IsValue t (value_room p) e
 
-abbrev pub IsSignal : Table → Position → Direction → Signal Meant → Type 0
+abbrev pub IsSignal : Table → Position → Direction → tree.Signal Meant → Type 0
 IsSignal t p d s = AreValues t (other_room p) s.dimensions × IsSignalValue t p d s.value
 
 abbrev pub InTemplate : Position → Type 0
@@ -188,34 +181,34 @@ abbrev pub MayDeclareSignal : Position → Direction → Type 0
 MayDeclareSignal p direction.Inner = MayDeclare p
 MayDeclareSignal p _ = p ≡ Outermost
 
-abbrev pub IsArgument : Table → Position → LogArgument Meant → Type 0
-IsArgument t p (Words w) = ⊤
-IsArgument t p (LogValue e) = IsValue t (other_room p) e
+abbrev pub IsArgument : Table → Position → tree.LogArgument Meant → Type 0
+IsArgument t p (tree.Words w) = ⊤
+IsArgument t p (tree.LogValue e) = IsValue t (other_room p) e
 
 -- one value for so many slots
 abbrev pub Fills : Table → ℕ → Expr Meant → Type 0
-Fills t slots (Anonymous parallel name m arguments inputs) =
+Fills t slots (tree.Anonymous parallel name m arguments inputs) =
     (h : Head) × IsTemplateOf t m h × (h.outputs ≡ slots)
-Fills t slots (Parentheses e) = Fills t slots e
-Fills t slots _ = 1 ≡ slots
+Fills t slots (tree.Parentheses e) = Fills t slots e
+Fills t slots _ = slots ≡ 1
 
 abbrev pub Matches : Table → Target Meant → Source Meant → Type 0
-Matches t Discard (One e) = ⊤
-Matches t Discard (Values es) = ⊥
-Matches t (Slots slots) (One e) = Fills t (length slots) e
-Matches t (Slots slots) (Values es) = length es ≡ length slots
+Matches t tree.Discard (tree.One e) = ⊤
+Matches t tree.Discard (tree.Values es) = ⊥
+Matches t (tree.Slots slots) (tree.One e) = Fills t (length slots) e
+Matches t (tree.Slots slots) (tree.Values es) = length es ≡ length slots
 
 abbrev pub IsSlot : Table → Position → Slot Meant → Type 0
-IsSlot t p (SlotPlace name m accessors) = IsDrivenPlace t p m accessors
-IsSlot t p SlotDiscard = ⊤
+IsSlot t p (tree.SlotPlace name m accessors) = IsDrivenPlace t p m accessors
+IsSlot t p tree.SlotDiscard = ⊤
 
 abbrev pub IsTarget : Table → Position → Target Meant → Type 0
-IsTarget t p Discard = ⊤
-IsTarget t p (Slots slots) = Each (IsSlot t p) slots
+IsTarget t p tree.Discard = ⊤
+IsTarget t p (tree.Slots slots) = Each (IsSlot t p) slots
 
 -- what goes to `_` may have any number of outputs
 abbrev pub IsSlotValue : Table → Position → Option (Slot Meant) → Expr Meant → Type 0
-IsSlotValue t p (Some SlotDiscard) e = IsWhole t (value_room p) e
+IsSlotValue t p (Some tree.SlotDiscard) e = IsWhole t (value_room p) e
 IsSlotValue t p _ e = IsValue t (value_room p) e
 
 abbrev pub AreSlotValues : Table → Position → List (Slot Meant) → List (Expr Meant) → Type 0
@@ -224,48 +217,48 @@ AreSlotValues t p slots (e ∷ es) =
     IsSlotValue t p (first_slot slots) e × AreSlotValues t p (other_slots slots) es
 
 abbrev pub IsSource : Table → Position → Target Meant → Source Meant → Type 0
-IsSource t p target (One e) = IsWhole t (value_room p) e
-IsSource t p target (Values es) = AreSlotValues t p (slots_of target) es
+IsSource t p target (tree.One e) = IsWhole t (value_room p) e
+IsSource t p target (tree.Values es) = AreSlotValues t p (slots_of target) es
 
 abbrev pub IsSimple : Table → Position → Simple Meant → Type 0
-IsSimple t p (Vars variables) = Each (IsVariable t p) variables
-IsSimple t p (Signals d signals) = MayDeclareSignal p d × Each (IsSignal t p d) signals
-IsSimple t p (Declared components) =
+IsSimple t p (tree.Vars variables) = Each (IsVariable t p) variables
+IsSimple t p (tree.Signals d signals) = MayDeclareSignal p d × Each (IsSignal t p d) signals
+IsSimple t p (tree.Declared components) =
     MayDeclare p × Each (λ c. AreValues t (other_room p) c.dimensions) components
-IsSimple t p (Created name m e) = MayDeclare p × Creates t (other_room p) e
-IsSimple t p (Assigned a) = IsAssign t p a
-IsSimple t p (Constrain a b) =
+IsSimple t p (tree.Created name m e) = MayDeclare p × Creates t (other_room p) e
+IsSimple t p (tree.Assigned a) = IsAssign t p a
+IsSimple t p (tree.Constrain a b) =
     InTemplate p × IsValue t (value_room p) a × IsValue t (value_room p) b
-IsSimple t p (Right e arrow name m accessors) =
+IsSimple t p (tree.Right e arrow name m accessors) =
     IsValue t (value_room p) e × IsDrivenPlace t p m accessors
-IsSimple t p (TargetLeft target arrow source) =
+IsSimple t p (tree.TargetLeft target arrow source) =
     InTemplate p × Matches t target source × IsTarget t p target × IsSource t p target source
-IsSimple t p (TargetRight source arrow target) =
+IsSimple t p (tree.TargetRight source arrow target) =
     InTemplate p × Matches t target source × IsTarget t p target × IsSource t p target source
-IsSimple t p (Alone parallel name m arguments inputs) =
+IsSimple t p (tree.Alone parallel name m arguments inputs) =
     InTemplate p × IsNameless t (value_room p) true m arguments inputs
 
-abbrev pub IsHead : Table → Position → First Meant → Type 0
-IsHead t p (FirstVars variables) = Each (IsVariable t p) variables
-IsHead t p (FirstAssign a) = IsAssign t p a
+abbrev pub IsHead : Table → Position → tree.First Meant → Type 0
+IsHead t p (tree.FirstVars variables) = Each (IsVariable t p) variables
+IsHead t p (tree.FirstAssign a) = IsAssign t p a
 
 abbrev mutual
   pub IsStatement : Table → Position → Statement Spot Meant → Type 0
-  IsStatement t p (Block spot ss) = AreStatements t (inside p) ss
-  IsStatement t p (If spot c s) = IsValue t (other_room p) c × IsStatement t (inside p) s
-  IsStatement t p (IfElse spot c s u) =
+  IsStatement t p (tree.Block spot ss) = AreStatements t (inside p) ss
+  IsStatement t p (tree.If spot c s) = IsValue t (other_room p) c × IsStatement t (inside p) s
+  IsStatement t p (tree.IfElse spot c s u) =
       IsValue t (other_room p) c × IsStatement t (inside p) s × IsStatement t (inside p) u
-  IsStatement t p (While spot c s) = IsValue t (other_room p) c × IsStatement t (in_loop p) s
-  IsStatement t p (For spot first_spot f c step_spot a s) =
+  IsStatement t p (tree.While spot c s) = IsValue t (other_room p) c × IsStatement t (in_loop p) s
+  IsStatement t p (tree.For spot first_spot f c step_spot a s) =
       IsHead t p f × IsValue t (other_room p) c × IsAssign t p a × IsStatement t (in_loop p) s
-  IsStatement t p (Return spot e) = (p ≡ InFunction) × IsValue t (other_room p) e
-  IsStatement t p (Assert spot e) = IsValue t (other_room p) e
-  IsStatement t p (Log spot arguments) = InTemplate p × Each (IsArgument t p) arguments
-  IsStatement t p (Ended spot s) = IsSimple t p s
+  IsStatement t p (tree.Return spot e) = (p ≡ InFunction) × IsValue t (other_room p) e
+  IsStatement t p (tree.Assert spot e) = IsValue t (other_room p) e
+  IsStatement t p (tree.Log spot arguments) = InTemplate p × Each (IsArgument t p) arguments
+  IsStatement t p (tree.Ended spot s) = IsSimple t p s
 
   pub AreStatements : Table → Position → Statements Spot Meant → Type 0
-  AreStatements t p empty = ⊤
-  AreStatements t p (then_more s ss) = IsStatement t p s × AreStatements t p ss
+  AreStatements t p tree.empty = ⊤
+  AreStatements t p (tree.then_more s ss) = IsStatement t p s × AreStatements t p ss
 
 abbrev pub IsTemplate : Table → Template → Type 0
 IsTemplate t d = AreStatements t Outermost d.body
@@ -275,10 +268,8 @@ IsFunction t d = IsTrue (last_returns false d.body) × AreStatements t InFunctio
 
 -- a main component's public names are inputs of its template
 pub record IsMain (t : Table) (m : Main) : Type 0 where
-  pub head : Head
-  pub template : IsTemplateOf t m.meant head
-  pub fits : count m.arguments ≡ head.parameters
-  pub publics : Each (λ name. IsTrue (head.is_input name)) m.public_names
+  pub created : IsCreated t m.meant (count m.arguments)
+  pub publics : Each (λ name. IsTrue (created.head.is_input name)) m.public_names
   pub given : AreValues t Barred m.arguments
 
 -- what the checks of names tell of a program

@@ -1,22 +1,22 @@
 //! The faults of expressions.
 ghost use Rattle.std.specs.Prelude.{◌≡◌};
-ghost use Rattle.cir_ast.specs.Tree.{bare, bare_exprs, bare_inputs, as_accessors};
-ghost use Rattle.cir_ast.specs.Tree.{as_named};
+ghost use Rattle.cir_ast.specs.Tree.{bare, bare_exprs, bare_inputs, as_accessors, as_named};
+ghost use Rattle.cir_ast.specs.Tree.{place_accessors};
 ghost use Rattle.cir_checks.specs.Faults.{no_names};
-ghost use Rattle.cir_checks.specs.Uses.{inputs_count, inputs_in, value_fault, nameless_fault};
-ghost use Rattle.cir_checks.specs.Uses.{values_fault, accessors_fault, inputs_fault, named_fault};
-ghost use Rattle.cir_checks.specs.Uses.{whole_fault, component_fault, is_call};
+ghost use Rattle.cir_checks.specs.Uses.{inputs_count, inputs_in, value_fault, values_fault};
+ghost use Rattle.cir_checks.specs.Uses.{accessors_fault, named_fault, place_fault, is_call};
+ghost use Rattle.cir_checks.specs.Uses.{called_fault, nameless_fault, whole_fault, component_fault};
 ghost use Rattle.cir_checks.specs.Answers.{Finds, table_in, callee_in};
 
-use crate::calls::{members, read_fault, unless};
+use crate::calls::{Access, members, name_fault, unless};
 use crate::name_set::NameSet;
 use crate::positions::Room;
-use crate::stop::Stop;
+use crate::stop::{Checked, Stop};
 use crate::table::{Callee, Table};
 use cir_ast::Kind;
-use cir_ast::program::{Accessor, Anonymous, Expr, Inputs, NamedInput};
+use cir_ast::program::{Accessor, Anonymous, Expr, Inputs, Meant, NamedInput, Place};
 
-#[tactic(auto, using(crate::proofs::Seen::seen_counts))]
+#[tactic(auto, using(crate::proofs::Seen::seen))]
 fn inputs_count(inputs: &Inputs) -> usize
     ensures { result ≡ inputs_count (bare_inputs inputs.now) }
 {
@@ -38,21 +38,17 @@ pub(crate) fn is_call(expression: &Expr) -> bool
     }
 }
 
-#[tactic(auto, using(crate::proofs::Seen::seen_lists))]
+#[tactic(auto, using(crate::proofs::Seen::seen))]
 impl Table<'_> {
     #[cycle(values)]
-    pub(crate) fn value(&self, room: Room, expression: &Expr) -> Result<(), Stop<Kind>>
+    pub(crate) fn value(&self, room: Room, expression: &Expr) -> Checked
         ensures { Finds result (value_fault (table_in self.now) room (bare expression.now)) }
     {
         match expression {
             Expr::Number(_) => Ok(()),
-            Expr::Place(place) => {
-                read_fault(place.meant, members(place.accessors.as_slice()))?;
-                self.indices(room, place.accessors.as_slice())
-            }
+            Expr::Place(place) => self.place(room, Access::Read, place),
             Expr::Call(_, _, meant, arguments) => {
-                self.callee(*meant).value_call(arguments.len())?;
-                self.values(room.inward(), arguments.as_slice())
+                self.called(room, false, *meant, arguments.as_slice())
             }
             Expr::Anonymous(anonymous) => self.anonymous(room, false, anonymous),
             Expr::Parentheses(inner) => self.value(room, inner),
@@ -70,32 +66,36 @@ impl Table<'_> {
         }
     }
 
+    /// A place that is used so.
+    #[cycle(values)]
+    pub(crate) fn place(&self, room: Room, access: Access, place: &Place) -> Checked
+        ensures { Finds result (place_fault (table_in self.now) room access place.now.meant
+            (place_accessors place.now)) }
+    {
+        let accessors = place.accessors.as_slice();
+        name_fault(place.meant, access, members(accessors))?;
+        self.indices(room, accessors)
+    }
+
     /// An anonymous component, which may have any number of outputs where it is the whole value.
     #[cycle(values)]
-    pub(crate) fn anonymous(
-        &self,
-        room: Room,
-        whole: bool,
-        anonymous: &Anonymous,
-    ) -> Result<(), Stop<Kind>>
-        ensures { Finds result
-            (nameless_fault (table_in self.now) room whole anonymous.now.meant
+    pub(crate) fn anonymous(&self, room: Room, whole: bool, anonymous: &Anonymous) -> Checked
+        ensures { Finds result (nameless_fault (table_in self.now) room whole anonymous.now.meant
             (bare_exprs anonymous.now.arguments) (bare_inputs anonymous.now.inputs)) }
     {
         let callee = self.callee(anonymous.meant);
         let arguments = anonymous.arguments.as_slice();
-        callee.anonymous(
-            room,
-            whole,
-            arguments.len(),
-            inputs_count(&anonymous.inputs),
-        )?;
+        callee.call(true, arguments.len())?;
+        callee.anonymous(room, whole, inputs_count(&anonymous.inputs))?;
         self.values(room.inward(), arguments)?;
-        self.inputs(&callee, room, &anonymous.inputs)
+        match &anonymous.inputs {
+            Inputs::Listed(values) => self.values(room, values.as_slice()),
+            Inputs::Named(inputs) => self.named(&callee, room, inputs.as_slice()),
+        }
     }
 
     #[cycle(values)]
-    pub(crate) fn values(&self, room: Room, values: &[Expr]) -> Result<(), Stop<Kind>>
+    pub(crate) fn values(&self, room: Room, values: &[Expr]) -> Checked
         ensures { Finds result (values_fault (table_in self.now) room (bare_exprs values.now)) }
     {
         for value in values {
@@ -106,7 +106,7 @@ impl Table<'_> {
 
     /// The indices behind a name.
     #[cycle(values)]
-    pub(crate) fn indices(&self, room: Room, accessors: &[Accessor]) -> Result<(), Stop<Kind>>
+    pub(crate) fn indices(&self, room: Room, accessors: &[Accessor]) -> Checked
         ensures { Finds result
             (accessors_fault (table_in self.now) room (as_accessors accessors.now)) }
     {
@@ -119,24 +119,7 @@ impl Table<'_> {
     }
 
     #[cycle(values)]
-    fn inputs(&self, callee: &Callee<'_, '_>, room: Room, inputs: &Inputs) -> Result<(), Stop<Kind>>
-        ensures { Finds result
-            (inputs_fault (table_in self.now) (callee_in callee.now) room
-            (bare_inputs inputs.now)) }
-    {
-        match inputs {
-            Inputs::Listed(values) => self.values(room, values.as_slice()),
-            Inputs::Named(inputs) => self.named(callee, room, inputs.as_slice()),
-        }
-    }
-
-    #[cycle(values)]
-    fn named(
-        &self,
-        callee: &Callee<'_, '_>,
-        room: Room,
-        inputs: &[NamedInput],
-    ) -> Result<(), Stop<Kind>>
+    fn named(&self, callee: &Callee<'_, '_>, room: Room, inputs: &[NamedInput]) -> Checked
         ensures { Finds result
             (named_fault (table_in self.now) (inputs_in (callee_in callee.now)) no_names room
             (as_named inputs.now)) }
@@ -152,8 +135,24 @@ impl Table<'_> {
         Ok(())
     }
 
+    /// A call with these arguments, for a component or for its value.
+    #[cycle(values)]
+    pub(crate) fn called(
+        &self,
+        room: Room,
+        component: bool,
+        meant: Meant,
+        arguments: &[Expr],
+    ) -> Checked
+        ensures { Finds result
+            (called_fault (table_in self.now) room component meant (bare_exprs arguments.now)) }
+    {
+        self.callee(meant).call(component, arguments.len())?;
+        self.values(room.inward(), arguments)
+    }
+
     /// A value of which an anonymous component may be the whole.
-    pub(crate) fn whole(&self, room: Room, expression: &Expr) -> Result<(), Stop<Kind>>
+    pub(crate) fn whole(&self, room: Room, expression: &Expr) -> Checked
         ensures { Finds result (whole_fault (table_in self.now) room (bare expression.now)) }
     {
         match expression {
@@ -164,13 +163,12 @@ impl Table<'_> {
     }
 
     /// An expression that creates a component.
-    pub(crate) fn created(&self, room: Room, expression: &Expr) -> Result<(), Stop<Kind>>
+    pub(crate) fn created(&self, room: Room, expression: &Expr) -> Checked
         ensures { Finds result (component_fault (table_in self.now) room (bare expression.now)) }
     {
         match expression {
             Expr::Call(_, _, meant, arguments) => {
-                self.callee(*meant).component_call(arguments.len())?;
-                self.values(room.inward(), arguments.as_slice())
+                self.called(room, true, *meant, arguments.as_slice())
             }
             Expr::Anonymous(anonymous) => self.anonymous(room, false, anonymous),
             Expr::Parentheses(inner) => self.created(room, inner),

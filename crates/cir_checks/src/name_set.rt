@@ -24,6 +24,7 @@ impl<'p> NameSet<'p> {
     }
 
     /// Whether a name is in the set.
+    #[tactic(auto, unfolding(crate::specs::Answers::contained))]
     pub fn contains(&self, name: &[u8]) -> bool
         ensures { result ≡ contained self.now name.now }
     {
@@ -38,8 +39,7 @@ impl<'p> NameSet<'p> {
     }
 
     pub(crate) fn insert_signals(&mut self, signals: &'p [DeclaredSignal]) -> Result<(), AllocError>
-        ensures { OnOk result
-            (contained self.new
+        ensures { OnOk result (contained self.new
             ≡ and_names (contained self.old) (map (λ s. s.name) (map bare_signal signals.now))) }
     {
         for signal in signals {

@@ -2,11 +2,12 @@
 ghost use Rattle.std.specs.Prelude.{◌≡◌};
 ghost use Rattle.cir_checks.specs.Answers.{Finds};
 ghost use Rattle.cir_checks.specs.Uses.{inward, on_the_right, room_fault};
-ghost use Rattle.cir_checks.specs.Statements.{inside, in_loop, value_room, other_room};
-ghost use Rattle.cir_checks.specs.Statements.{only_in_template, only_in_function, log_fault};
-ghost use Rattle.cir_checks.specs.Statements.{declaration_fault, signal_place_fault};
+ghost use Rattle.cir_checks.specs.Statements.{inside, in_loop, value_room, other_room, in_function};
+ghost use Rattle.cir_checks.specs.Statements.{only_in_template, declaration_fault};
+ghost use Rattle.cir_checks.specs.Statements.{signal_place_fault};
 
-use crate::stop::Stop;
+use crate::calls::unless;
+use crate::stop::{Checked, Stop};
 use cir_ast::program::{Binary, Direction};
 use cir_ast::{Form, Kind};
 
@@ -29,7 +30,7 @@ pub(crate) const DECLARATION_PLACE: Kind = Kind::NotInProfile {
     form: Form::DeclarationPlace,
 };
 
-const LOG_PLACE: Kind = Kind::NotInProfile {
+pub(crate) const LOG_PLACE: Kind = Kind::NotInProfile {
     form: Form::LogPlace,
 };
 
@@ -40,8 +41,8 @@ impl Room {
         ensures { result ≡ inward self }
     {
         match self {
-            Room::Allowed | Room::Misplaced => Room::Misplaced,
             Room::Barred => Room::Barred,
+            _ => Room::Misplaced,
         }
     }
 
@@ -54,7 +55,7 @@ impl Room {
         }
     }
 
-    pub(crate) fn fault(self) -> Result<(), Stop<Kind>>
+    pub(crate) fn fault(self) -> Checked
         ensures { Finds result (room_fault self) }
     {
         match self {
@@ -81,9 +82,8 @@ impl Position {
         ensures { result ≡ inside self }
     {
         match self {
-            Position::InFunction => Position::InFunction,
-            Position::Outermost | Position::Inner => Position::Inner,
-            Position::Looped => Position::Looped,
+            Position::Outermost => Position::Inner,
+            _ => self,
         }
     }
 
@@ -92,7 +92,7 @@ impl Position {
     {
         match self {
             Position::InFunction => Position::InFunction,
-            Position::Outermost | Position::Inner | Position::Looped => Position::Looped,
+            _ => Position::Looped,
         }
     }
 
@@ -102,7 +102,7 @@ impl Position {
     {
         match self {
             Position::InFunction => Room::Barred,
-            Position::Outermost | Position::Inner | Position::Looped => Room::Allowed,
+            _ => Room::Allowed,
         }
     }
 
@@ -111,60 +111,40 @@ impl Position {
     {
         match self {
             Position::InFunction => Room::Barred,
-            Position::Outermost | Position::Inner | Position::Looped => Room::Misplaced,
+            _ => Room::Misplaced,
         }
     }
 
-    pub(crate) fn only_in_template(self) -> Result<(), Stop<Kind>>
+    pub(crate) fn in_function(self) -> bool
+        ensures { result ≡ in_function self }
+    {
+        matches!(self, Position::InFunction)
+    }
+
+    pub(crate) fn only_in_template(self) -> Checked
         ensures { Finds result (only_in_template self) }
     {
-        match self {
-            Position::InFunction => Err(Stop::At(Kind::WrongKind)),
-            Position::Outermost | Position::Inner | Position::Looped => Ok(()),
-        }
-    }
-
-    pub(crate) fn only_in_function(self) -> Result<(), Stop<Kind>>
-        ensures { Finds result (only_in_function self) }
-    {
-        match self {
-            Position::InFunction => Ok(()),
-            Position::Outermost | Position::Inner | Position::Looped => {
-                Err(Stop::At(Kind::WrongKind))
-            }
-        }
-    }
-
-    pub(crate) fn may_log(self) -> Result<(), Stop<Kind>>
-        ensures { Finds result (log_fault self) }
-    {
-        match self {
-            Position::InFunction => Err(Stop::At(LOG_PLACE)),
-            Position::Outermost | Position::Inner | Position::Looped => Ok(()),
-        }
+        unless(!self.in_function(), Kind::WrongKind)
     }
 
     /// Whether components and inner signals may be declared there.
-    pub(crate) fn may_declare(self) -> Result<(), Stop<Kind>>
+    pub(crate) fn may_declare(self) -> Checked
         ensures { Finds result (declaration_fault self) }
     {
         match self {
             Position::InFunction => Err(Stop::At(Kind::WrongKind)),
-            Position::Outermost | Position::Inner => Ok(()),
             Position::Looped => Err(Stop::At(DECLARATION_PLACE)),
+            _ => Ok(()),
         }
     }
 
-    pub(crate) fn may_declare_signal(self, direction: Direction) -> Result<(), Stop<Kind>>
+    pub(crate) fn may_declare_signal(self, direction: Direction) -> Checked
         ensures { Finds result (signal_place_fault self direction) }
     {
         match (self, direction) {
             (Position::Inner, Direction::Input) => Err(Stop::At(DECLARATION_PLACE)),
             (Position::Inner, Direction::Output) => Err(Stop::At(DECLARATION_PLACE)),
-            (Position::Inner, Direction::Inner) => Ok(()),
-            (Position::InFunction | Position::Outermost | Position::Looped, _) => {
-                self.may_declare()
-            }
+            _ => self.may_declare(),
         }
     }
 }

@@ -1,24 +1,182 @@
 //! The faults of statements.
-ghost use Rattle.std.specs.Prelude.{map};
-ghost use Rattle.cir_ast.specs.Tree.{bare_argument, bare_simple, bare_first, bare_statement};
-ghost use Rattle.cir_ast.specs.Tree.{bare_block, as_statements};
-ghost use Rattle.cir_ast.specs.declared.marked.Simple.TheVariants.{Components as SimpleComponents};
-ghost use Rattle.cir_checks.specs.Statements.{arguments_fault, simple_fault, head_fault};
-ghost use Rattle.cir_checks.specs.Statements.{statement_fault, statements_fault};
+ghost use Rattle.std.specs.Prelude.{◌≡◌, map};
+ghost use Rattle.cir_ast.specs.Tree as tree;
+ghost use Rattle.cir_checks.specs.Faults.{first_in};
+ghost use Rattle.cir_checks.specs.Statements as faults;
 ghost use Rattle.cir_checks.specs.Answers.{Finds, table_in};
 
-use crate::positions::Position;
-use crate::stop::{Fault, Stop, at};
-use crate::table::Table;
+use crate::calls::{Access, members, unless};
+use crate::expressions::is_call;
+use crate::positions::{DECLARATION_PLACE, LOG_PLACE, Position};
+use crate::stop::{Checked, Fault, Stop, at};
+use crate::table::{Callee, Table};
 use cir_ast::Kind;
 use cir_ast::program::{
-    Block, Components, FirstForm, LogArgument, Simple, Statement, StatementForm,
+    Assign, Block, Components, DeclaredVariable, Direction, Expr, FirstForm, LogArgument, Meant,
+    Place, SignalValue, Simple, Slot, Source, Statement, StatementForm, Target,
 };
 
+/// The slots behind the first one.
+fn other_slots(slots: &[Slot]) -> &[Slot]
+    ensures { map tree.bare_slot result.now ≡ faults.other_slots (map tree.bare_slot slots.now) }
+{
+    match slots.split_first() {
+        Some((_, others)) => others,
+        None => slots,
+    }
+}
+
+fn slots_of(target: &Target) -> &[Slot]
+    ensures { map tree.bare_slot result.now ≡ faults.slots_of (tree.bare_target target.now) }
+{
+    match target {
+        Target::Discard => &[],
+        Target::Tuple(slots) => slots.as_slice(),
+    }
+}
+
+// Declarations.
 impl Table<'_> {
-    fn arguments(&self, position: Position, arguments: &[LogArgument]) -> Result<(), Stop<Kind>>
+    fn variables(&self, position: Position, variables: &[DeclaredVariable]) -> Checked
+        ensures { Finds result (first_in (faults.variable_fault (table_in self.now) position)
+            (map tree.bare_variable variables.now)) }
+    {
+        for variable in variables {
+            self.values(position.other_room(), variable.dimensions.as_slice())?;
+            if let Some(value) = &variable.value {
+                self.value(position.other_room(), value)?;
+            }
+        }
+        Ok(())
+    }
+
+    fn signal_value(&self, position: Position, direction: Direction, value: &SignalValue) -> Checked
+        ensures { Finds result (faults.signal_value_fault (table_in self.now) position direction
+            (tree.bare_signal_value value.now)) }
+    {
+        match (value, direction) {
+            (SignalValue::Nothing, _) => Ok(()),
+            (SignalValue::Given(_, _), Direction::Input) => Err(Stop::At(DECLARATION_PLACE)),
+            (SignalValue::Given(_, value), _) => self.value(position.value_room(), value),
+        }
+    }
+}
+
+// Assignments.
+#[tactic(auto, using(crate::proofs::Seen::seen))]
+impl Table<'_> {
+    /// `=` creates a component by a call, and gives a variable its value.
+    fn assign(&self, position: Position, assign: &Assign) -> Checked
         ensures { Finds result
-            (arguments_fault (table_in self.now) position (map bare_argument arguments.now)) }
+            (faults.assign_fault (table_in self.now) position (tree.bare_assign assign.now)) }
+    {
+        let room = position.other_room();
+        match assign {
+            Assign::Set(place, value) => match place.meant {
+                Meant::Component(_) => {
+                    let accessors = place.accessors.as_slice();
+                    unless(is_call(value) && members(accessors) == 0, Kind::WrongKind)?;
+                    self.indices(room, accessors)?;
+                    self.created(room, value)
+                }
+                _ => {
+                    self.place(room, Access::Write, place)?;
+                    self.value(room, value)
+                }
+            },
+            Assign::Compound(place, _, value) => {
+                self.place(room, Access::Write, place)?;
+                self.value(room, value)
+            }
+            Assign::Left(place, _, value) => {
+                self.place(room, Access::Drive, place)?;
+                self.value(position.value_room(), value)
+            }
+            Assign::Increment(place) => self.place(room, Access::Write, place),
+            Assign::Decrement(place) => self.place(room, Access::Write, place),
+        }
+    }
+}
+
+// Tuples, and what `_` receives.
+impl Table<'_> {
+    /// One value for so many slots.
+    fn one(&self, slots: usize, value: &Expr) -> Checked
+        ensures { Finds result (faults.one_fault (table_in self.now) slots (tree.bare value.now)) }
+    {
+        match value {
+            Expr::Anonymous(anonymous) => match self.callee(anonymous.meant) {
+                Callee::Unknown => Err(Stop::At(Kind::UnknownName)),
+                Callee::Template(head) => unless(head.outputs == slots, Kind::Arity),
+                _ => Ok(()),
+            },
+            Expr::Parentheses(inner) => self.one(slots, inner),
+            _ => unless(slots == 1, Kind::Arity),
+        }
+    }
+
+    /// A tuple takes as many values as it has slots.
+    fn tuple(&self, target: &Target, source: &Source) -> Checked
+        ensures { Finds result (faults.tuple_fault (table_in self.now) (tree.bare_target target.now)
+            (tree.bare_source source.now)) }
+    {
+        match (target, source) {
+            (Target::Discard, Source::One(_)) => Ok(()),
+            (Target::Discard, Source::Tuple(_)) => Err(Stop::At(Kind::Arity)),
+            (Target::Tuple(slots), Source::One(value)) => self.one(slots.len(), value),
+            (Target::Tuple(slots), Source::Tuple(values)) => {
+                unless(values.len() == slots.len(), Kind::Arity)
+            }
+        }
+    }
+
+    fn slots(&self, position: Position, slots: &[Slot]) -> Checked
+        ensures { Finds result (first_in (faults.slot_fault (table_in self.now) position)
+            (map tree.bare_slot slots.now)) }
+    {
+        for slot in slots {
+            if let Slot::Place(place) = slot {
+                self.place(position.other_room(), Access::Drive, place)?;
+            }
+        }
+        Ok(())
+    }
+
+    /// What goes to `_` may have any number of outputs.
+    fn slot_values(&self, position: Position, slots: &[Slot], values: &[Expr]) -> Checked
+        ensures { Finds result
+            (faults.slot_values_fault (table_in self.now) position (map tree.bare_slot slots.now)
+            (map tree.bare values.now)) }
+    {
+        let mut left = slots;
+        for value in values {
+            match left {
+                [Slot::Discard, ..] => self.whole(position.value_room(), value)?,
+                _ => self.value(position.value_room(), value)?,
+            }
+            left = other_slots(left);
+        }
+        Ok(())
+    }
+
+    fn source(&self, position: Position, target: &Target, source: &Source) -> Checked
+        ensures { Finds result
+            (faults.source_fault (table_in self.now) position (tree.bare_target target.now)
+            (tree.bare_source source.now)) }
+    {
+        match source {
+            Source::One(value) => self.whole(position.value_room(), value),
+            Source::Tuple(values) => {
+                self.slot_values(position, slots_of(target), values.as_slice())
+            }
+        }
+    }
+}
+
+impl Table<'_> {
+    fn arguments(&self, position: Position, arguments: &[LogArgument]) -> Checked
+        ensures { Finds result (first_in (faults.argument_fault (table_in self.now) position)
+            (map tree.bare_argument arguments.now)) }
     {
         for argument in arguments {
             if let LogArgument::Value(value) = argument {
@@ -28,33 +186,31 @@ impl Table<'_> {
         Ok(())
     }
 
-    fn declared_components(
-        &self,
-        position: Position,
-        components: &Components,
-    ) -> Result<(), Stop<Kind>>
+    fn simple(&self, position: Position, simple: &Simple) -> Checked
         ensures { Finds result
-            (simple_fault (table_in self.now) position
-            (bare_simple (SimpleComponents components.now))) }
-    {
-        position.may_declare()?;
-        match components {
-            Components::Declared(components) => { self.components(position, components.as_slice()) }
-            Components::Created(_, _, value) => self.created(position.other_room(), value),
-        }
-    }
-
-    fn simple(&self, position: Position, simple: &Simple) -> Result<(), Stop<Kind>>
-        ensures { Finds result
-            (simple_fault (table_in self.now) position (bare_simple simple.now)) }
+            (faults.simple_fault (table_in self.now) position (tree.bare_simple simple.now)) }
     {
         match simple {
             Simple::Vars(vars) => self.variables(position, vars.variables.as_slice()),
             Simple::Signals(signals) => {
                 position.may_declare_signal(signals.direction)?;
-                self.signals(position, signals.direction, signals.signals.as_slice())
+                for signal in signals.signals.as_slice() {
+                    self.values(position.other_room(), signal.dimensions.as_slice())?;
+                    self.signal_value(position, signals.direction, &signal.value)?;
+                }
+                Ok(())
             }
-            Simple::Components(components) => self.declared_components(position, components),
+            Simple::Components(Components::Declared(components)) => {
+                position.may_declare()?;
+                for component in components.as_slice() {
+                    self.values(position.other_room(), component.dimensions.as_slice())?;
+                }
+                Ok(())
+            }
+            Simple::Components(Components::Created(_, _, value)) => {
+                position.may_declare()?;
+                self.created(position.other_room(), value)
+            }
             Simple::Assign(assign) => self.assign(position, assign),
             Simple::Constrain(left, right) => {
                 position.only_in_template()?;
@@ -63,19 +219,19 @@ impl Table<'_> {
             }
             Simple::Right(value, _, place) => {
                 self.value(position.value_room(), value)?;
-                self.arrow_place(position, place)
+                self.place(position.other_room(), Access::Drive, place)
             }
             Simple::TargetLeft(target, _, source) => {
                 position.only_in_template()?;
                 self.tuple(target, source)?;
-                self.target(position, target)?;
+                self.slots(position, slots_of(target))?;
                 self.source(position, target, source)
             }
             Simple::TargetRight(source, _, target) => {
                 position.only_in_template()?;
                 self.tuple(target, source)?;
                 self.source(position, target, source)?;
-                self.target(position, target)
+                self.slots(position, slots_of(target))
             }
             Simple::Anonymous(anonymous) => {
                 position.only_in_template()?;
@@ -84,8 +240,9 @@ impl Table<'_> {
         }
     }
 
-    fn head(&self, position: Position, first: &FirstForm) -> Result<(), Stop<Kind>>
-        ensures { Finds result (head_fault (table_in self.now) position (bare_first first.now)) }
+    fn head(&self, position: Position, first: &FirstForm) -> Checked
+        ensures { Finds result
+            (faults.head_fault (table_in self.now) position (tree.bare_first first.now)) }
     {
         match first {
             FirstForm::Vars(vars) => self.variables(position, vars.variables.as_slice()),
@@ -95,8 +252,8 @@ impl Table<'_> {
 
     #[cycle(statements)]
     fn statement(&self, position: Position, statement: &Statement) -> Result<(), Stop<Fault>>
-        ensures { Finds result
-            (statement_fault (table_in self.now) position (bare_statement statement.now)) }
+        ensures { Finds result (faults.statement_fault (table_in self.now) position
+            (tree.bare_statement statement.now)) }
     {
         let spot = statement.spot;
         let room = position.other_room();
@@ -122,12 +279,12 @@ impl Table<'_> {
                 self.statement(position.in_loop(), body)
             }
             StatementForm::Return(value) => {
-                at(spot, position.only_in_function())?;
+                at(spot, unless(position.in_function(), Kind::WrongKind))?;
                 at(spot, self.value(room, value))
             }
             StatementForm::Assert(condition) => at(spot, self.value(room, condition)),
             StatementForm::Log(arguments) => {
-                at(spot, position.may_log())?;
+                at(spot, unless(!position.in_function(), LOG_PLACE))?;
                 at(spot, self.arguments(position, arguments.as_slice()))
             }
             StatementForm::Simple(simple) => at(spot, self.simple(position, simple)),
@@ -135,10 +292,11 @@ impl Table<'_> {
     }
 
     /// The first fault of a block's statements.
+    #[tactic(auto, using(cir_ast::proofs::Rows::block_is))]
     #[cycle(statements)]
     pub(crate) fn block(&self, position: Position, block: &Block) -> Result<(), Stop<Fault>>
         ensures { Finds result
-            (statements_fault (table_in self.now) position (bare_block block.now)) }
+            (faults.statements_fault (table_in self.now) position (tree.bare_block block.now)) }
     {
         for statement in block.statements.as_slice() {
             self.statement(position, statement)?;

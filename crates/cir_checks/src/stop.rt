@@ -6,7 +6,7 @@ ghost use Rattle.cir_checks.specs.Answers.{Finds};
 
 use cir_ast::Kind;
 use cir_ast::program::Spot;
-use std::alloc::{AllocError, AllocFailed};
+use std::alloc::AllocError;
 
 /// A fault and the place of the statement or the item that holds it.
 #[derive(Clone, Copy)]
@@ -40,18 +40,10 @@ impl<F> From<AllocError> for Stop<F> {
     }
 }
 
-impl<F, T: Drop> From<AllocFailed<T>> for Stop<F> {
-    ghost use Rattle.cir_checks.specs.declared.stop.Stop.TheVariants.{OutOfMemory};
-
-    ghost from_gives = { λ _ stop. stop ≡ OutOfMemory };
-
-    fn from(_: AllocFailed<T>) -> Stop<F> {
-        Stop::OutOfMemory
-    }
-}
+pub(crate) type Checked = Result<(), Stop<Kind>>;
 
 /// A fault at this place.
-pub(crate) fn at(spot: Spot, found: Result<(), Stop<Kind>>) -> Result<(), Stop<Fault>>
+pub(crate) fn at(spot: Spot, found: Checked) -> Result<(), Stop<Fault>>
     ensures { (fault : Option Kind) → Finds found fault → Finds result (at spot fault) }
 {
     match found {

@@ -1,15 +1,12 @@
 //! What a call has to know of the definitions.
-ghost use Rattle.std.specs.Prelude.{◌≡◌, ◌+◌, ◌++◌, [], ◌∷◌, length, map, IfOk, OnOk};
-ghost use Rattle.cir_ast.specs.Tree.{bare_simple, bare_statement};
+ghost use Rattle.std.specs.Prelude.{◌≡◌, ◌+◌, ◌∷◌, map, IfOk, OnOk};
+ghost use Rattle.cir_ast.specs.Tree.{bare_signal, bare_statement};
 ghost use Rattle.cir_ast.specs.Program.{bare_template};
-ghost use Rattle.cir_ast.specs.declared.marked.Simple.TheVariants.{Signals as SimpleSignals};
 ghost use Rattle.cir_resolve.specs.Definitions.{bare_definition};
-ghost use Rattle.cir_checks.specs.Faults.{and_names};
-ghost use Rattle.cir_checks.specs.Heads.{head_of, callee, simple_inputs, simple_outputs};
-ghost use Rattle.cir_checks.specs.Heads.{statement_inputs, statement_outputs, templates_among};
-ghost use Rattle.cir_checks.specs.Heads.{functions_among};
+ghost use Rattle.cir_checks.specs.Heads.{head_of, callee};
 ghost use Rattle.cir_checks.specs.Checks.{table_among};
-ghost use Rattle.cir_checks.specs.Answers.{contained, head_in, table_in, callee_in};
+ghost use Rattle.cir_checks.specs.Answers.{head_in, with_signals, with_statement};
+ghost use Rattle.cir_checks.specs.Answers.{table_in, table_with, callee_in};
 
 use crate::name_set::NameSet;
 use cir_ast::program::{Direction, Meant, Signals, Simple, Statement, StatementForm, Template};
@@ -56,18 +53,8 @@ fn total(count: usize, more: usize) -> Result<usize, AllocError>
 
 impl<'p> Head<'p> {
     fn add_signals(&mut self, signals: &'p Signals) -> Result<(), AllocError>
-        ensures names { OnOk result
-            (contained self.new.inputs
-            ≡ and_names (contained self.old.inputs)
-            (simple_inputs (bare_simple (SimpleSignals signals.now)))) }
-        ensures inputs { OnOk result
-            (self.new.input_count
-            ≡ self.old.input_count
-            + length (simple_inputs (bare_simple (SimpleSignals signals.now)))) }
-        ensures outputs { OnOk result
-            (self.new.outputs
-            ≡ self.old.outputs + simple_outputs (bare_simple (SimpleSignals signals.now))) }
-        ensures parameters { self.new.parameters ≡ self.old.parameters }
+        ensures { OnOk result (head_in self.new ≡ with_signals (head_in self.old)
+            signals.now.direction (map bare_signal signals.now.signals)) }
     {
         match signals.direction {
             Direction::Input => {
@@ -82,57 +69,18 @@ impl<'p> Head<'p> {
         }
     }
 
-    fn add_simple(&mut self, simple: &'p Simple) -> Result<(), AllocError>
-        ensures names { OnOk result
-            (contained self.new.inputs
-            ≡ and_names (contained self.old.inputs) (simple_inputs (bare_simple simple.now))) }
-        ensures inputs { OnOk result
-            (self.new.input_count
-            ≡ self.old.input_count + length (simple_inputs (bare_simple simple.now))) }
-        ensures outputs { OnOk result
-            (self.new.outputs ≡ self.old.outputs + simple_outputs (bare_simple simple.now)) }
-        ensures parameters { self.new.parameters ≡ self.old.parameters }
-    {
-        match simple {
-            Simple::Signals(signals) => self.add_signals(signals),
-            Simple::Vars(_) => Ok(()),
-            Simple::Components(_) => Ok(()),
-            Simple::Assign(_) => Ok(()),
-            Simple::Constrain(_, _) => Ok(()),
-            Simple::Right(_, _, _) => Ok(()),
-            Simple::TargetLeft(_, _, _) => Ok(()),
-            Simple::TargetRight(_, _, _) => Ok(()),
-            Simple::Anonymous(_) => Ok(()),
-        }
-    }
-
     /// Adds what a statement of the outermost block declares.
     fn add(&mut self, statement: &'p Statement) -> Result<(), AllocError>
-        ensures names { OnOk result
-            (contained self.new.inputs
-            ≡ and_names (contained self.old.inputs)
-            (statement_inputs (bare_statement statement.now))) }
-        ensures inputs { OnOk result
-            (self.new.input_count
-            ≡ self.old.input_count + length (statement_inputs (bare_statement statement.now))) }
-        ensures outputs { OnOk result
-            (self.new.outputs
-            ≡ self.old.outputs + statement_outputs (bare_statement statement.now)) }
-        ensures parameters { self.new.parameters ≡ self.old.parameters }
+        ensures { OnOk result
+            (head_in self.new ≡ with_statement (head_in self.old) (bare_statement statement.now)) }
     {
         match &statement.form {
-            StatementForm::Simple(simple) => self.add_simple(simple),
-            StatementForm::Block(_) => Ok(()),
-            StatementForm::If(_, _) => Ok(()),
-            StatementForm::IfElse(_, _, _) => Ok(()),
-            StatementForm::While(_, _) => Ok(()),
-            StatementForm::For(_, _, _, _) => Ok(()),
-            StatementForm::Return(_) => Ok(()),
-            StatementForm::Assert(_) => Ok(()),
-            StatementForm::Log(_) => Ok(()),
+            StatementForm::Simple(Simple::Signals(signals)) => self.add_signals(signals),
+            _ => Ok(()),
         }
     }
 
+    #[tactic(auto, using(crate::proofs::Tables::rules))]
     fn of(alloc: Global, template: &'p Template) -> Result<Head<'p>, AllocError>
         ensures { IfOk result (λ h. head_in h ≡ head_of (bare_template template.now)) }
     {
@@ -150,14 +98,12 @@ impl<'p> Head<'p> {
 }
 
 impl<'p> Table<'p> {
+    #[tactic(auto, using(crate::proofs::Tables::rules), unfolding(crate::specs::Answers::table_in))]
     pub(crate) fn callee(&self, meant: Meant) -> Callee<'_, 'p>
         ensures { callee_in result ≡ callee (table_in self.now) meant }
     {
         match meant {
             Meant::Other => Callee::Unknown,
-            Meant::Variable(_) => Callee::Undefined,
-            Meant::Signal(_, _) => Callee::Undefined,
-            Meant::Component(_) => Callee::Undefined,
             Meant::Template(number) => match self.templates.get(number as usize) {
                 Some(head) => Callee::Template(head),
                 None => Callee::Unknown,
@@ -166,18 +112,13 @@ impl<'p> Table<'p> {
                 Some(parameters) => Callee::Function(*parameters),
                 None => Callee::Unknown,
             },
+            _ => Callee::Undefined,
         }
     }
 
     fn add(&mut self, definition: &'p Definition) -> Result<(), AllocError>
-        ensures templates { OnOk result
-            (map head_in self.new.templates ≡ map head_in self.old.templates
-            ++ map head_of (templates_among (bare_definition definition.now ∷ []))) }
-        ensures functions { OnOk result
-            (self.new.functions
-            ≡ self.old.functions
-            ++ map (λ f. length f.parameters)
-            (functions_among (bare_definition definition.now ∷ []))) }
+        ensures { OnOk result ((more : _) → table_with self.new more
+            ≡ table_with self.old (bare_definition definition.now ∷ more)) }
     {
         match definition {
             Definition::Template(template) => {
@@ -189,6 +130,7 @@ impl<'p> Table<'p> {
         }
     }
 
+    #[tactic(auto, using(crate::proofs::Tables::rules), unfolding(crate::specs::Answers::table_in))]
     pub(crate) fn of(alloc: Global, definitions: &'p [Definition]) -> Result<Table<'p>, AllocError>
         ensures { IfOk result
             (λ t. table_in t ≡ table_among (map bare_definition definitions.now)) }

@@ -1,0 +1,15 @@
+use Rattle.cir_ast.specs.Tree.{bare_signal, bare_component}
+use Rattle.cir_checks.specs.Statements.{signal_fault, component_declaration_fault}
+use Rattle.cir_checks.specs.Answers.{table_in}
+use Rattle.cir_checks.proofs.Finding.{SameFault}
+use Rattle.cir_checks.proofs.table.Table.simple.Given as goal
+
+abbrev pub invariant-loop-signal : goal.invariant-loop-signal
+invariant-loop-signal l =
+    SameFault (signal_fault (table_in l.self) l.position l.signals.direction)
+    bare_signal l.signal-index l.signal-items
+
+abbrev pub invariant-loop-component : goal.invariant-loop-component
+invariant-loop-component l =
+    SameFault (component_declaration_fault (table_in l.self) l.position)
+    bare_component l.component-index l.component-items
