@@ -1,5 +1,4 @@
 pub mod Unnamed
-pub mod Heights
 pub mod Unresolved
 pub mod Lows
 pub mod SoFar

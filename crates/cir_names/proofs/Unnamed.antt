@@ -1,225 +1,297 @@
--- What the names of a definition carry before they are resolved doesn't matter.
-use Rattle.std.proofs.Common.{◌≡◌, ℕ, List, [], ◌∷◌, map, Option, Some, None, Ok, refl}
+-- What the names of a definition carry before they are resolved doesn't matter, and resolving them
+-- leaves it as high as it is.
+use Rattle.std.proofs.Common.{◌≡◌, ℕ, ◌+◌, max, List, [], ◌∷◌, map, Option, None, Some, Ok, Err}
+use Rattle.std.proofs.Common.{refl}
 use Rattle.cir_ast.specs.declared.operators.Direction.{Direction}
-use Rattle.cir_ast.specs.declared.program.Meant.{Meant}
-use Rattle.cir_ast.specs.declared.program.Meant.TheVariants as meant
 use Rattle.cir_ast.specs.declared.program.Spot.{Spot}
-use Rattle.cir_ast.specs.Tree.{Expr, Number, Place, Call, Anonymous, Parentheses, Array, Unary}
-use Rattle.cir_ast.specs.Tree.{Binary, Choice, Exprs, none, more, Accessors, done, index, member}
-use Rattle.cir_ast.specs.Tree.{Inputs, Listed, Named, NamedInputs, unnamed, named, Variable}
-use Rattle.cir_ast.specs.Tree.{SignalValue, Nothing, Given, Signal, Component}
-use Rattle.cir_ast.specs.Tree.{Assign, Set, Compound, Left, Increment, Decrement, First, FirstVars}
-use Rattle.cir_ast.specs.Tree.{FirstAssign, LogArgument, Words, LogValue}
-use Rattle.cir_ast.specs.Tree.{Slot, SlotPlace, SlotDiscard, Target, Discard, Slots, Source, One}
-use Rattle.cir_ast.specs.Tree.{Values, Simple, Vars, Signals, Declared, Created, Assigned}
-use Rattle.cir_ast.specs.Tree.{Constrain, Right, TargetLeft, TargetRight, Alone, Statement, Block}
-use Rattle.cir_ast.specs.Tree.{If, IfElse, While, For, Return, Assert, Log, Ended}
-use Rattle.cir_ast.specs.Tree.{Statements, empty, then_more}
-use Rattle.cir_ast.specs.Plain.{plain, plain_exprs, plain_accessors, plain_inputs, plain_named}
-use Rattle.cir_ast.specs.Plain.{plain_value, plain_variable, plain_signal_value, plain_signal}
-use Rattle.cir_ast.specs.Plain.{plain_component}
-use Rattle.cir_ast.specs.Plain.{plain_assign, plain_first, plain_argument, plain_slot, plain_target}
-use Rattle.cir_ast.specs.Plain.{plain_source, plain_simple, plain_statement, plain_statements}
+use Rattle.cir_ast.specs.Tree as tree
+use Rattle.cir_ast.specs.Tree.{Expr, Exprs, Accessors, Inputs, NamedInputs, Statement, Statements}
+use Rattle.cir_ast.specs.Plain as plain
+use Rattle.cir_ast.specs.Height as height
+use Rattle.cir_ast.specs.Height.{highest}
 use Rattle.cir_resolve.specs.Steps.{Step, behind, made, in_turn}
-use Rattle.cir_resolve.specs.Scope.{State, read_at, called_at, Naming, within, declared}
-use Rattle.cir_resolve.specs.Naming.{named_expr, named_exprs, named_accessors, named_inputs}
-use Rattle.cir_resolve.specs.Naming.{named_each, named_value, named_signal_value, named_variable}
-use Rattle.cir_resolve.specs.Naming.{named_signal, named_component}
-use Rattle.cir_resolve.specs.Naming.{named_assign, named_first, named_argument, named_slot}
-use Rattle.cir_resolve.specs.Naming.{named_target, named_source, named_simple, named_statement}
-use Rattle.cir_resolve.specs.Naming.{named_statements}
+use Rattle.cir_resolve.specs.Scope.{State, Naming, entered, closed, read_at, called_at}
+use Rattle.cir_resolve.specs.Naming as naming
 
-mutual
-  pub expr_same : {N : Type 0} (st : State) (e : Expr N) → named_expr st (plain e) ≡ named_expr st e
-  expr_same st (Number n) = refl
-  expr_same st (Place name m a) = λ i. Place name (read_at st name) (accessors_same st a i)
-  expr_same st (Call parallel name m es) =
-      λ i. Call parallel name (called_at st name) (exprs_same st es i)
-  expr_same st (Anonymous parallel name m es given) =
-      λ i. Anonymous parallel name (called_at st name) (exprs_same st es i) (inputs_same st given i)
-  expr_same st (Parentheses e) = λ i. Parentheses (expr_same st e i)
-  expr_same st (Array es) = λ i. Array (exprs_same st es i)
-  expr_same st (Unary op a) = λ i. Unary op (expr_same st a i)
-  expr_same st (Binary op a b) = λ i. Binary op (expr_same st a i) (expr_same st b i)
-  expr_same st (Choice c a b) = λ i. Choice (expr_same st c i) (expr_same st a i) (expr_same st b i)
+-- ---- trees with their heights
 
-  pub exprs_same : {N : Type 0} (st : State) (es : Exprs N)
-      → named_exprs st (plain_exprs es) ≡ named_exprs st es
-  exprs_same st none = refl
-  exprs_same st (more e es) = λ i. more (expr_same st e i) (exprs_same st es i)
+-- two trees and their heights are the same
+abbrev pub Same : {A : Type 0} → A → ℕ → A → ℕ → Type 0
+Same {A = A} a m b n = ◌≡◌ {A = A × ℕ} (a, m) (b, n)
 
-  pub accessors_same : {N : Type 0} (st : State) (a : Accessors N)
-      → named_accessors st (plain_accessors a) ≡ named_accessors st a
-  accessors_same st done = refl
-  accessors_same st (index e a) = λ i. index (expr_same st e i) (accessors_same st a i)
-  accessors_same st (member name a) = λ i. member name (accessors_same st a i)
+-- so are what is made of them: as high, or one node higher
+as_high : {A B : Type 0} {a b : A} {m n : ℕ} (make : A → B) → Same a m b n
+    → Same (make a) m (make b) n
+as_high make e = λ i. (make (e i).0, (e i).1)
 
-  pub inputs_same : {N : Type 0} (st : State) (x : Inputs N)
-      → named_inputs st (plain_inputs x) ≡ named_inputs st x
-  inputs_same st (Listed es) = λ i. Listed (exprs_same st es i)
-  inputs_same st (Named is) = λ i. Named (each_same st is i)
+higher : {A B : Type 0} {a b : A} {m n : ℕ} (make : A → B) → Same a m b n
+    → Same (make a) (m + 1) (make b) (n + 1)
+higher make e = λ i. (make (e i).0, (e i).1 + 1)
 
-  pub each_same : {N : Type 0} (st : State) (is : NamedInputs N)
-      → named_each st (plain_named is) ≡ named_each st is
-  each_same st unnamed = refl
-  each_same st (named name arrow e is) =
-      λ i. named name arrow (expr_same st e i) (each_same st is i)
+-- and what is made of two
+of_two : {A B C : Type 0} {a b : A} {c d : B} {m n k l : ℕ} (make : A → B → C) → Same a m b n
+    → Same c k d l → Same (make a c) (max m k) (make b d) (max n l)
+of_two make e f = λ i. (make (e i).0 (f i).0, max (e i).1 (f i).1)
 
--- lists of parts
-map_same : {A B C : Type 0} (f : A → B) (g : B → C) (h : A → C) → ((a : A) → g (f a) ≡ h a)
-    → (xs : List A) → map g (map f xs) ≡ map h xs
-map_same f g h all [] = refl
-map_same f g h all (a ∷ xs) = λ i. all a i ∷ map_same f g h all xs i
+over_two : {A B C : Type 0} {a b : A} {c d : B} {m n k l : ℕ} (make : A → B → C) → Same a m b n
+    → Same c k d l → Same (make a c) (max m k + 1) (make b d) (max n l + 1)
+over_two make e f = λ i. (make (e i).0 (f i).0, max (e i).1 (f i).1 + 1)
 
-turn_same : {X E A B C : Type 0} (f : A → C) (step : X → C → Step X E B) (other : X → A
-    → Step X E B)
-    → ((x : X) (a : A) → step x (f a) ≡ other x a) → (x : X) (xs : List A)
-    → in_turn step x (map f xs) ≡ in_turn other x xs
-turn_same f step other all x [] = refl
-turn_same f step other all x (a ∷ xs) =
-    λ i. behind (all x a i) (λ b y. made (λ bs. b ∷ bs) (turn_same f step other all y xs i))
+-- a plain tree is named as the tree is, and as high
+abbrev IsKept : {A B C : Type 0} → (A → C) → (C → B) → (A → B) → (C → ℕ) → (B → ℕ) → A → Type 0
+IsKept bare name other low high a = Same (name (bare a)) (low (bare a)) (other a) (high (other a))
 
-value_same : {N : Type 0} (st : State) (v : Option (Expr N))
-    → named_value st (plain_value v) ≡ named_value st v
-value_same st None = refl
-value_same st (Some e) = λ i. Some (expr_same st e i)
+all_kept : {A B C : Type 0} (bare : A → C) (name : C → B) (other : A → B) (low : C → ℕ)
+    (high : B → ℕ) → ((a : A) → IsKept bare name other low high a) → (xs : List A)
+    → IsKept (map bare) (map name) (map other) (highest low) (highest high) xs
+all_kept bare name other low high all [] = refl
+all_kept bare name other low high all (a ∷ xs) =
+    of_two ◌∷◌ (all a) (all_kept bare name other low high all xs)
 
-signal_value_same : {N : Type 0} (st : State) (v : SignalValue N)
-    → named_signal_value st (plain_signal_value v) ≡ named_signal_value st v
-signal_value_same st Nothing = refl
-signal_value_same st (Given arrow e) = λ i. Given arrow (expr_same st e i)
+module _ {N : Type 0} (st : State) where
+  mutual
+    expr : (e : Expr N)
+        → IsKept plain.plain (naming.named_expr st) (naming.named_expr st) height.height_of
+        height.height_of e
+    expr (tree.Number n) = refl
+    expr (tree.Place name m a) = higher (tree.Place name (read_at st name)) (accessors a)
+    expr (tree.Call p name m es) = higher (tree.Call p name (called_at st name)) (exprs es)
+    expr (tree.Anonymous p name m es given) =
+        over_two (tree.Anonymous p name (called_at st name)) (exprs es) (inputs given)
+    expr (tree.Parentheses e) = higher tree.Parentheses (expr e)
+    expr (tree.Array es) = higher tree.Array (exprs es)
+    expr (tree.Unary op a) = higher (tree.Unary op) (expr a)
+    expr (tree.Binary op a b) = over_two (tree.Binary op) (expr a) (expr b)
+    expr (tree.Choice c a b) =
+        λ i. (
+          tree.Choice (expr c i).0 (expr a i).0 (expr b i).0,
+          max (expr c i).1 (max (expr a i).1 (expr b i).1) + 1,
+        )
 
--- a declaration, from its parts
-abbrev variable_by : Spot → State → List ℕ → Exprs Meant → (State → Option (Expr Meant))
-    → Naming (Variable Meant)
-variable_by spot st name dimensions value =
-    behind (declared spot st name (meant.Variable st.variables)) (λ m after.
-    Ok (record { name = name; meant = m; dimensions = dimensions; value = value after }, after))
+    pub exprs : (es : Exprs N)
+        → IsKept plain.plain_exprs (naming.named_exprs st) (naming.named_exprs st)
+        height.exprs_height height.exprs_height es
+    exprs tree.none = refl
+    exprs (tree.more e es) = of_two tree.more (expr e) (exprs es)
 
-abbrev signal_by : Spot → Direction → State → List ℕ → Exprs Meant → (State → SignalValue Meant)
-    → Naming (Signal Meant)
-signal_by spot direction st name dimensions value =
-    behind (declared spot st name (meant.Signal direction st.signals)) (λ m after.
-    Ok (record { name = name; meant = m; dimensions = dimensions; value = value after }, after))
+    accessors : (a : Accessors N)
+        → IsKept plain.plain_accessors (naming.named_accessors st) (naming.named_accessors st)
+        height.accessors_height height.accessors_height a
+    accessors tree.done = refl
+    accessors (tree.index e a) = of_two tree.index (expr e) (accessors a)
+    accessors (tree.member name a) = as_high (tree.member name) (accessors a)
 
-abbrev component_by : Spot → State → List ℕ → Exprs Meant → Naming (Component Meant)
-component_by spot st name dimensions =
-    behind (declared spot st name (meant.Component st.components)) (λ m after.
-    Ok (record { name = name; meant = m; dimensions = dimensions }, after))
+    inputs : (given : Inputs N)
+        → IsKept plain.plain_inputs (naming.named_inputs st) (naming.named_inputs st)
+        height.inputs_height height.inputs_height given
+    inputs (tree.Listed es) = as_high tree.Listed (exprs es)
+    inputs (tree.Named is) = as_high tree.Named (each is)
 
-variable_same : {N : Type 0} (spot : Spot) (st : State) (v : Variable N)
-    → named_variable spot st (plain_variable v) ≡ named_variable spot st v
-variable_same spot st v =
-    λ i. variable_by spot st v.name (exprs_same st v.dimensions i)
-    (λ after. value_same after v.value i)
+    each : (is : NamedInputs N)
+        → IsKept plain.plain_named (naming.named_each st) (naming.named_each st)
+        height.named_height height.named_height is
+    each tree.unnamed = refl
+    each (tree.named name arrow e is) = of_two (tree.named name arrow) (expr e) (each is)
 
-signal_same : {N : Type 0} (spot : Spot) (d : Direction) (st : State) (s : Signal N)
-    → named_signal spot d st (plain_signal s) ≡ named_signal spot d st s
-signal_same spot d st s =
-    λ i. signal_by spot d st s.name (exprs_same st s.dimensions i)
-    (λ after. signal_value_same after s.value i)
+  value : (v : Option (Expr N))
+      → IsKept plain.plain_value (naming.named_value st) (naming.named_value st)
+      height.value_height height.value_height v
+  value None = refl
+  value (Some e) = as_high Some (expr e)
 
-component_same : {N : Type 0} (spot : Spot) (st : State) (c : Component N)
-    → named_component spot st (plain_component c) ≡ named_component spot st c
-component_same spot st c = λ i. component_by spot st c.name (exprs_same st c.dimensions i)
+  given : (v : tree.SignalValue N)
+      → IsKept plain.plain_signal_value (naming.named_signal_value st)
+      (naming.named_signal_value st) height.signal_value_height height.signal_value_height v
+  given tree.Nothing = refl
+  given (tree.Given arrow e) = as_high (tree.Given arrow) (expr e)
 
-assign_same : {N : Type 0} (st : State) (a : Assign N)
-    → named_assign st (plain_assign a) ≡ named_assign st a
-assign_same st (Set name m a e) =
-    λ i. Set name (read_at st name) (accessors_same st a i) (expr_same st e i)
-assign_same st (Compound name m a op e) =
-    λ i. Compound name (read_at st name) (accessors_same st a i) op (expr_same st e i)
-assign_same st (Left name m a arrow e) =
-    λ i. Left name (read_at st name) (accessors_same st a i) arrow (expr_same st e i)
-assign_same st (Increment name m a) = λ i. Increment name (read_at st name) (accessors_same st a i)
-assign_same st (Decrement name m a) = λ i. Decrement name (read_at st name) (accessors_same st a i)
+  -- an accessed place is a node
+  place : (a : Accessors N)
+      → IsKept plain.plain_accessors (naming.named_accessors st) (naming.named_accessors st)
+      height.place_height height.place_height a
+  place a = higher (λ b. b) (accessors a)
 
-first_same : {N : Type 0} (spot : Spot) (st : State) (f : First N)
-    → named_first spot st (plain_first f) ≡ named_first spot st f
-first_same spot st (FirstVars vs) =
-    λ i. made FirstVars
-    (turn_same plain_variable (named_variable spot) (named_variable spot)
-    (variable_same spot) st vs i)
-first_same spot st (FirstAssign a) = λ i. Ok (FirstAssign (assign_same st a i), st)
+  assign : (a : tree.Assign N)
+      → IsKept plain.plain_assign (naming.named_assign st) (naming.named_assign st)
+      height.assign_height height.assign_height a
+  assign (tree.Set name m a e) = of_two (tree.Set name (read_at st name)) (place a) (expr e)
+  assign (tree.Compound name m a op e) =
+      of_two (λ b. tree.Compound name (read_at st name) b op) (place a) (expr e)
+  assign (tree.Left name m a arrow e) =
+      of_two (λ b. tree.Left name (read_at st name) b arrow) (place a) (expr e)
+  assign (tree.Increment name m a) = as_high (tree.Increment name (read_at st name)) (place a)
+  assign (tree.Decrement name m a) = as_high (tree.Decrement name (read_at st name)) (place a)
 
-argument_same : {N : Type 0} (st : State) (a : LogArgument N)
-    → named_argument st (plain_argument a) ≡ named_argument st a
-argument_same st (Words w) = refl
-argument_same st (LogValue e) = λ i. LogValue (expr_same st e i)
+  argument : (a : tree.LogArgument N)
+      → IsKept plain.plain_argument (naming.named_argument st) (naming.named_argument st)
+      height.argument_height height.argument_height a
+  argument (tree.Words w) = refl
+  argument (tree.LogValue e) = as_high tree.LogValue (expr e)
 
-slot_same : {N : Type 0} (st : State) (s : Slot N) → named_slot st (plain_slot s) ≡ named_slot st s
-slot_same st (SlotPlace name m a) = λ i. SlotPlace name (read_at st name) (accessors_same st a i)
-slot_same st SlotDiscard = refl
+  slot : (s : tree.Slot N)
+      → IsKept plain.plain_slot (naming.named_slot st) (naming.named_slot st) height.slot_height
+      height.slot_height s
+  slot tree.SlotDiscard = refl
+  slot (tree.SlotPlace name m a) = as_high (tree.SlotPlace name (read_at st name)) (place a)
 
-target_same : {N : Type 0} (st : State) (t : Target N)
-    → named_target st (plain_target t) ≡ named_target st t
-target_same st Discard = refl
-target_same st (Slots ss) =
-    λ i. Slots (map_same plain_slot (named_slot st) (named_slot st) (slot_same st) ss i)
+  target : (t : tree.Target N)
+      → IsKept plain.plain_target (naming.named_target st) (naming.named_target st)
+      height.target_height height.target_height t
+  target tree.Discard = refl
+  target (tree.Slots ss) = as_high tree.Slots (all_kept _ _ _ _ _ slot ss)
 
-source_same : {N : Type 0} (st : State) (s : Source N)
-    → named_source st (plain_source s) ≡ named_source st s
-source_same st (One e) = λ i. One (expr_same st e i)
-source_same st (Values es) =
-    λ i. Values (map_same plain (named_expr st) (named_expr st) (expr_same st) es i)
+  source : (s : tree.Source N)
+      → IsKept plain.plain_source (naming.named_source st) (naming.named_source st)
+      height.source_height height.source_height s
+  source (tree.One e) = as_high tree.One (expr e)
+  source (tree.Values es) = as_high tree.Values (all_kept _ _ _ _ _ expr es)
 
-simple_same : {N : Type 0} (spot : Spot) (st : State) (s : Simple N)
-    → named_simple spot st (plain_simple s) ≡ named_simple spot st s
-simple_same spot st (Vars vs) =
-    λ i. made Vars
-    (turn_same plain_variable (named_variable spot) (named_variable spot)
-    (variable_same spot) st vs i)
-simple_same spot st (Signals d ss) =
-    λ i. made (Signals d)
-    (turn_same plain_signal (named_signal spot d) (named_signal spot d)
-    (signal_same spot d) st ss i)
-simple_same spot st (Declared cs) =
-    λ i. made Declared
-    (turn_same plain_component (named_component spot) (named_component spot)
-    (component_same spot) st cs i)
-simple_same spot st (Created name m e) =
-    λ i. behind (declared spot st name (meant.Component st.components))
-    (λ n after. Ok (Created name n (expr_same after e i), after))
-simple_same spot st (Assigned a) = λ i. Ok (Assigned (assign_same st a i), st)
-simple_same spot st (Constrain a b) = λ i. Ok (Constrain (expr_same st a i) (expr_same st b i), st)
-simple_same spot st (Right e arrow name m a) =
-    λ i. Ok (Right (expr_same st e i) arrow name (read_at st name) (accessors_same st a i), st)
-simple_same spot st (TargetLeft t arrow s) =
-    λ i. Ok (TargetLeft (target_same st t i) arrow (source_same st s i), st)
-simple_same spot st (TargetRight s arrow t) =
-    λ i. Ok (TargetRight (source_same st s i) arrow (target_same st t i), st)
-simple_same spot st (Alone parallel name m es given) =
-    λ i. Ok (
-      Alone parallel name (called_at st name) (exprs_same st es i) (inputs_same st given i),
-      st,
-    )
+-- ---- steps
 
-mutual
-  pub statement_same : {N : Type 0} (st : State) (s : Statement Spot N)
-      → named_statement st (plain_statement s) ≡ named_statement st s
-  statement_same st (Block spot ss) =
-      λ i. made (Block spot) (within st (λ inner. statements_same inner ss i))
-  statement_same st (If spot c s) =
-      λ i. made (If spot (expr_same st c i)) (within st (λ inner. statement_same inner s i))
-  statement_same st (IfElse spot c s t) =
-      λ i. behind (within st (λ inner. statement_same inner s i)) (λ s' after.
-      made (IfElse spot (expr_same st c i) s') (within after (λ inner. statement_same inner t i)))
-  statement_same st (While spot c s) =
-      λ i. made (While spot (expr_same st c i)) (within st (λ inner. statement_same inner s i))
-  statement_same st (For spot first_spot f c step_spot a s) =
-      λ i. within st (λ head. behind (first_same first_spot head f i) (λ f' after.
-      within after (λ body. behind (statement_same body s i) (λ s' end.
-      Ok (For spot first_spot f' (expr_same after c i) step_spot (assign_same end a i) s', end)))))
-  statement_same st (Return spot e) = λ i. Ok (Return spot (expr_same st e i), st)
-  statement_same st (Assert spot e) = λ i. Ok (Assert spot (expr_same st e i), st)
-  statement_same st (Log spot xs) =
-      λ i. let arguments = map_same plain_argument (named_argument st) (named_argument st)
-      (argument_same st) xs i in Ok (Log spot arguments, st)
-  statement_same st (Ended spot s) = λ i. made (Ended spot) (simple_same spot st s i)
+-- two steps give the same, of this height, or both stop
+pub data Both {X E A : Type 0} (low : ℕ) (high : A → ℕ) : Step X E A → Step X E A → Type 0 where
+  both : {a b : A} {x : X} → Same a low b (high b) → Both low high (Ok (a, x)) (Ok (b, x))
+  neither : {stop : E} → Both low high (Err stop) (Err stop)
 
-  pub statements_same : {N : Type 0} (st : State) (ss : Statements Spot N)
-      → named_statements st (plain_statements ss) ≡ named_statements st ss
-  statements_same st empty = refl
-  statements_same st (then_more s ss) =
-      λ i. behind (statement_same st s i)
-      (λ s' after. made (then_more s') (statements_same after ss i))
+pub both_behind : {X E A B : Type 0} {low k : ℕ} {high : A → ℕ} {h : B → ℕ} {n m : Step X E A}
+    {f g : A → X → Step X E B} → Both low high n m
+    → ((a b : A) (x : X) → Same a low b (high b) → Both k h (f a x) (g b x))
+    → Both k h (behind n f) (behind m g)
+both_behind (both e) all = all _ _ _ e
+both_behind neither all = neither
+
+both_made : {X E A B : Type 0} {low k : ℕ} {high : A → ℕ} {h : B → ℕ} {n m : Step X E A}
+    (f g : A → B) → Both low high n m
+    → ((a b : A) → Same a low b (high b) → Same (f a) k (g b) (h (g b)))
+    → Both k h (made f n) (made g m)
+both_made f g (both e) all = both (all _ _ e)
+both_made f g neither all = neither
+
+both_closed : {A : Type 0} {low : ℕ} {high : A → ℕ} {n m : Naming A} (around : State)
+    → Both low high n m → Both low high (closed around n) (closed around m)
+both_closed around (both e) = both e
+both_closed around neither = neither
+
+pub both_any : {X E A : Type 0} (n : Step X E A) → Both 0 (λ a. 0) n n
+both_any (Ok pair) = both refl
+both_any (Err stop) = neither
+
+pub both_same : {X E A : Type 0} {low : ℕ} {high : A → ℕ} {n m : Step X E A} → Both low high n m
+    → n ≡ m
+both_same (both {x = x} e) = λ i. Ok ((e i).0, x)
+both_same neither = refl
+
+pub both_turn : {X E A B C : Type 0} (bare : A → C) (low : C → ℕ) (high : B → ℕ)
+    (step : X → C → Step X E B) (other : X → A → Step X E B)
+    → ((x : X) (a : A) → Both (low (bare a)) high (step x (bare a)) (other x a)) → (x : X)
+    (xs : List A)
+    → Both (highest low (map bare xs)) (highest high) (in_turn step x (map bare xs))
+    (in_turn other x xs)
+both_turn bare low high step other all x [] = both refl
+both_turn bare low high step other all x (a ∷ xs) =
+    both_behind (all x a) (λ b c y e.
+    both_made _ _ (both_turn bare low high step other all y xs) (λ bs cs f. of_two ◌∷◌ e f))
+
+module _ {N : Type 0} (spot : Spot) where
+  variable : (st : State) (v : tree.Variable N)
+      → Both (height.variable_height (plain.plain_variable v)) height.variable_height
+      (naming.named_variable spot st (plain.plain_variable v)) (naming.named_variable spot st v)
+  variable st v =
+      both_behind (both_any _) (λ m k after e.
+      both (λ i.
+      of_two (λ ds w. record { name = v.name; meant = (e i).0; dimensions = ds; value = w })
+      (exprs st v.dimensions) (value after v.value) i))
+
+  signal : (d : Direction) (st : State) (s : tree.Signal N)
+      → Both (height.signal_height (plain.plain_signal s)) height.signal_height
+      (naming.named_signal spot d st (plain.plain_signal s)) (naming.named_signal spot d st s)
+  signal d st s =
+      both_behind (both_any _) (λ m k after e.
+      both (λ i.
+      of_two (λ ds w. record { name = s.name; meant = (e i).0; dimensions = ds; value = w })
+      (exprs st s.dimensions) (given after s.value) i))
+
+  component : (st : State) (c : tree.Component N)
+      → Both (height.component_height (plain.plain_component c)) height.component_height
+      (naming.named_component spot st (plain.plain_component c)) (naming.named_component spot st c)
+  component st c =
+      both_behind (both_any _) (λ m k after e.
+      both (λ i. as_high (λ ds. record { name = c.name; meant = (e i).0; dimensions = ds })
+      (exprs st c.dimensions) i))
+
+  first : (st : State) (f : tree.First N)
+      → Both (height.first_height (plain.plain_first f)) height.first_height
+      (naming.named_first spot st (plain.plain_first f)) (naming.named_first spot st f)
+  first st (tree.FirstVars vs) =
+      both_made _ _ (both_turn _ _ _ _ _ variable st vs) (λ a b e. as_high tree.FirstVars e)
+  first st (tree.FirstAssign a) = both (as_high tree.FirstAssign (assign st a))
+
+  simple : (st : State) (s : tree.Simple N)
+      → Both (height.simple_height (plain.plain_simple s)) height.simple_height
+      (naming.named_simple spot st (plain.plain_simple s)) (naming.named_simple spot st s)
+  simple st (tree.Vars vs) =
+      both_made _ _ (both_turn _ _ _ _ _ variable st vs) (λ a b e. as_high tree.Vars e)
+  simple st (tree.Signals d ss) =
+      both_made _ _ (both_turn _ _ _ _ _ (signal d) st ss) (λ a b e. as_high (tree.Signals d) e)
+  simple st (tree.Declared cs) =
+      both_made _ _ (both_turn _ _ _ _ _ component st cs) (λ a b e. as_high tree.Declared e)
+  simple st (tree.Created name m e) =
+      both_behind (both_any _) (λ m k after f.
+      both (λ i. as_high (tree.Created name (f i).0) (expr after e) i))
+  simple st (tree.Assigned a) = both (as_high tree.Assigned (assign st a))
+  simple st (tree.Constrain a b) = both (of_two tree.Constrain (expr st a) (expr st b))
+  simple st (tree.Right e arrow name m a) =
+      both (of_two (λ b. tree.Right b arrow name (read_at st name)) (expr st e) (place st a))
+  simple st (tree.TargetLeft t arrow s) =
+      both (of_two (λ b. tree.TargetLeft b arrow) (target st t) (source st s))
+  simple st (tree.TargetRight s arrow t) =
+      both (of_two (λ b. tree.TargetRight b arrow) (source st s) (target st t))
+  simple st (tree.Alone p name m es given) =
+      both (over_two (tree.Alone p name (called_at st name)) (exprs st es) (inputs st given))
+
+module _ {N : Type 0} where
+  mutual
+    statement : (st : State) (s : Statement Spot N)
+        → Both (height.statement_height (plain.plain_statement s)) height.statement_height
+        (naming.named_statement st (plain.plain_statement s)) (naming.named_statement st s)
+    statement st (tree.Block spot ss) =
+        both_made _ _ (both_closed st (statements (entered st) ss))
+        (λ a b e. higher (tree.Block spot) e)
+    statement st (tree.If spot c s) =
+        both_made _ _ (both_closed st (statement (entered st) s))
+        (λ a b e. over_two (tree.If spot) (expr st c) e)
+    statement st (tree.IfElse spot c s t) =
+        both_behind (both_closed st (statement (entered st) s)) (λ a b after e.
+        both_made _ _ (both_closed after (statement (entered after) t)) (λ a' b' f.
+        λ i. (
+          tree.IfElse spot (expr st c i).0 (e i).0 (f i).0,
+          max (expr st c i).1 (max (e i).1 (f i).1) + 1,
+        )))
+    statement st (tree.While spot c s) =
+        both_made _ _ (both_closed st (statement (entered st) s))
+        (λ a b e. over_two (tree.While spot) (expr st c) e)
+    statement st (tree.For spot first_spot f c step_spot a s) =
+        both_closed st (both_behind (first first_spot (entered st) f) (λ g h after e.
+        both_closed after (both_behind (statement (entered after) s) (λ b d end k.
+        both (λ i. (
+          tree.For spot first_spot (e i).0 (expr after c i).0 step_spot (assign end a i).0 (k i).0,
+          max (e i).1 (max (expr after c i).1 (max (assign end a i).1 (k i).1)) + 1,
+        ))))))
+    statement st (tree.Return spot e) = both (higher (tree.Return spot) (expr st e))
+    statement st (tree.Assert spot e) = both (higher (tree.Assert spot) (expr st e))
+    statement st (tree.Log spot xs) =
+        both (higher (tree.Log spot) (all_kept _ _ _ _ _ (argument st) xs))
+    statement st (tree.Ended spot s) =
+        both_made _ _ (simple spot st s) (λ a b e. higher (tree.Ended spot) e)
+
+    pub statements : (st : State) (ss : Statements Spot N)
+        → Both (height.statements_height (plain.plain_statements ss)) height.statements_height
+        (naming.named_statements st (plain.plain_statements ss)) (naming.named_statements st ss)
+    statements st tree.empty = both refl
+    statements st (tree.then_more s ss) =
+        both_behind (statement st s) (λ a b after e.
+        both_made _ _ (statements after ss) (λ c d f. of_two tree.then_more e f))
+
+  pub statements_same : (st : State) (ss : Statements Spot N)
+      → naming.named_statements st (plain.plain_statements ss) ≡ naming.named_statements st ss
+  statements_same st ss = both_same (statements st ss)

@@ -142,24 +142,13 @@ fn program(alloc: Global, sources: Vec<Source>) -> Result<Program, LoadFault>
 fn refused(alloc: Global, names: &[Text], found: Found) -> LoadFault
     ensures { Refuses (λ r. r ≡ refusal_of names.now found) result }
 {
-    match refusal_of(alloc, names, found) {
+    let name: &[u8] = match names.get(found.file as usize) {
+        Some(name) => name.as_slice(),
+        None => b"",
+    };
+    let Fault { kind, spot } = found.fault;
+    match Refusal::at(alloc, name, kind, spot) {
         Ok(refusal) => LoadFault::Refused(refusal),
         Err(_) => LoadFault::OutOfMemory,
-    }
-}
-
-fn refusal_of(alloc: Global, names: &[Text], found: Found) -> Result<Refusal, AllocError>
-    ensures { IfOk result (λ r. r ≡ refusal_of names.now found) }
-{
-    let Fault { kind, spot } = found.fault;
-    match names.get(found.file as usize) {
-        Some(name) => {
-            let refusal = Refusal::at(alloc, name.as_slice(), kind, spot)?;
-            Ok(refusal)
-        }
-        None => {
-            let refusal = Refusal::at(alloc, b"", kind, spot)?;
-            Ok(refusal)
-        }
     }
 }

@@ -1,23 +1,30 @@
-use Rattle.std.proofs.Common.{ap, map}
+use Rattle.std.proofs.Common.{◌∙◌, [], ◌∷◌, ap, arith, length, map, refl}
+use Rattle.std.proofs.lemmas.List.{append_assoc, length-append}
 use Rattle.cir_resolve.specs.Definitions.{bare_definition}
-use Rattle.cir_sources.specs.Includes.{seen}
-use Rattle.cir_names.specs.Programs.{tree_of, names_of}
-use Rattle.cir_names.proofs.SoFar.{begun, gathered_more, gathered_few}
 use Rattle.cir_names.proofs.gathering.gather.Goals as goal
 
 pub loop-source-init : goal.loop-source-init
 loop-source-init c =
-    begun c.args.sources.items _ _ _ c.new.ensures
-    (ap (map bare_definition) c.new-2.ensures.items)
-    c.into_iter-source-iterator.ensures.into_iter_gives.0 c.requires
+    let none = ap (map bare_definition) c.new-2.ensures.items in
+    let all = c.into_iter-source-iterator.ensures.into_iter_gives.0 in
+    record {
+      names_are = rw (c.new.ensures, all) refl;
+      definitions_are = rw (none, c.new.ensures, all) refl;
+      few = rw (c.new.ensures, all) (omega (arith, c.requires));
+    }
 
 pub add-requires : goal.add-requires
-add-requires c = gathered_few _ _ _ _ _ _ c.loop-source.invariant
+add-requires c = omega (arith, c.loop-source.invariant.few)
 
 pub loop-source-preserved : goal.loop-source-preserved
 loop-source-preserved c =
-    gathered_more _ _ _ _ _ _ c.in-Some.source.name _ _
-    (tree_of c.in-Some.source) _ _ c.loop-source.invariant
-    (ap (λ ss. names_of (map seen ss)) c.in-Some.ensures.steps.0)
-    (ap (map tree_of) c.in-Some.ensures.steps.0)
-    c.in_ok-add.ensures.files c.in_ok-add.ensures.definitions
+    let so_far = c.loop-source.invariant in
+    let next = c.in-Some.ensures.steps.0 in
+    let added = c.in_ok-add.ensures in
+    let longer = ap length added.files ∙ length-append _ (c.in-Some.source.name ∷ []) in
+    record {
+      names_are = rw (added.files, append_assoc) (rw next at so_far.names_are);
+      definitions_are = rw (added.definitions, longer, append_assoc)
+          (rw next at so_far.definitions_are);
+      few = omega (arith, longer, rw next at so_far.few);
+    }
