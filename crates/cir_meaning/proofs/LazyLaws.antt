@@ -57,6 +57,25 @@ or_shaded Opaque h = refl
 pub or_decided : (k : ℕ) → k ≢ 0 → or_left (Known k) ≡ Decided 1
 or_decided k h = rw (ne_eqb k 0 h) refl
 
+pub and_opaque : (x y : Value) → class_of x ≢ Class'.Known → lazy_result (and_left x) y ≡ Opaque
+and_opaque x y h = rw (and_shaded x h) refl
+
+pub or_opaque : (x y : Value) → class_of x ≢ Class'.Known → lazy_result (or_left x) y ≡ Opaque
+or_opaque x y h = rw (or_shaded x h) refl
+
+pub or_one : (k : ℕ) (y : Value) → k ≢ 0 → lazy_result (or_left (Known k)) y ≡ Known 1
+or_one k y h = rw (or_decided k h) refl
+
+pub truth_opaque : (y : Value) → class_of y ≢ Class'.Known → truth_of y ≡ Opaque
+truth_opaque (Known k) h = absurd (h refl)
+truth_opaque (Linear f) h = refl
+truth_opaque (Quadratic a b c) h = refl
+truth_opaque Opaque h = refl
+
+pub and_right : (k : ℕ) (y : Value) → k ≢ 0 → class_of y ≢ Class'.Known
+    → lazy_result (and_left (Known k)) y ≡ Opaque
+and_right k y h g = rw (ne_eqb k 0 h) (truth_opaque y g)
+
 truth_class : (y : Value) → class_of y ≡ Class'.Known → class_of (truth_of y) ≡ Class'.Known
 truth_class (Known k) h = refl
 truth_class (Linear f) h = cc
@@ -149,6 +168,9 @@ both_shaded (Known k) h = absurd (h refl)
 both_shaded (Linear f) h = refl
 both_shaded (Quadratic a b c) h = refl
 both_shaded Opaque h = refl
+
+pub choice_opaque : (c x y : Value) → class_of c ≢ Class'.Known → chosen (side_of c) x y ≡ Opaque
+choice_opaque c x y h = rw (both_shaded c h) refl
 
 pub chosen_value : (side : Side) (x y : Value) → IsValue x → IsValue y → IsValue (chosen side x y)
 chosen_value First x y v w = v

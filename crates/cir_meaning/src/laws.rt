@@ -15,7 +15,7 @@ ghost use Rattle.cir_meaning.specs.declared.class.Class.{Class};
 ghost use Rattle.cir_meaning.specs.Classes.{class_by, unary_class};
 ghost use Rattle.cir_meaning.specs.Values.{IsValue, Parts, Value, class_of, difference_of};
 ghost use Rattle.cir_meaning.specs.Values.{known_number, number_of, parts_of, result_of};
-ghost use Rattle.cir_meaning.specs.Values.{unary_result, Known as KnownValue, Decided, Shaded};
+ghost use Rattle.cir_meaning.specs.Values.{unary_result, Known as KnownValue, Opaque, Decided, Shaded};
 ghost use Rattle.cir_meaning.specs.Values.{Both, and_left, or_left, lazy_result, side_of, chosen};
 ghost use Rattle.cir_meaning.specs.Values.{and_number, or_number, choice_number};
 ghost use Rattle.cir_meaning.specs.Compile.{Circuit, Satisfies, compiled, exec_main};
@@ -61,9 +61,8 @@ pub fn unary_operators()
 
 /// The operators give values of the field, so a law on values holds of nested expressions too.
 pub fn results_are_values()
-    ensures binary { (op : Op2) (x y v : Value) → IsValue x → IsValue y → result_of op x y ≡ Some v
-        →
-        IsValue v }
+    ensures binary { (op : Op2) (x y v : Value) → IsValue x → IsValue y →
+        result_of op x y ≡ Some v → IsValue v }
     ensures unary { (op : Op1) (x : Value) → IsValue x → IsValue (unary_result op x) }
     ensures and { (x y : Value) → IsValue (lazy_result (and_left x) y) }
     ensures or { (x y : Value) → IsValue (lazy_result (or_left x) y) }
@@ -72,7 +71,8 @@ pub fn results_are_values()
 
 /// `&&`: a result that isn't opaque is the operator's on the numbers of its sides, at each
 /// assignment. Known sides have a known one. A known left side of 0 decides, and one that isn't
-/// known shades the right side.
+/// known shades the right side. A result that isn't decided by the left side is opaque where a side
+/// isn't known.
 pub fn conjunctions()
     ensures number { (x y : Value) (s : Assignment) → class_of (lazy_result (and_left x) y)
         ≢ Class.Opaque →
@@ -81,6 +81,11 @@ pub fn conjunctions()
         class_of (lazy_result (and_left x) y) ≡ Class.Known }
     ensures decided { and_left (KnownValue 0) ≡ Decided 0 }
     ensures shaded { (x : Value) → class_of x ≢ Class.Known → and_left x ≡ Shaded }
+    ensures zero { (y : Value) → lazy_result (and_left (KnownValue 0)) y ≡ KnownValue 0 }
+    ensures opaque { (x y : Value) → class_of x ≢ Class.Known →
+        lazy_result (and_left x) y ≡ Opaque }
+    ensures right { (k : ℕ) (y : Value) → k ≢ 0 → class_of y ≢ Class.Known →
+        lazy_result (and_left (KnownValue k)) y ≡ Opaque }
 {}
 
 /// The same of `||`, which a known left side that isn't 0 decides.
@@ -92,15 +97,22 @@ pub fn disjunctions()
         class_of (lazy_result (or_left x) y) ≡ Class.Known }
     ensures decided { (k : ℕ) → k ≢ 0 → or_left (KnownValue k) ≡ Decided 1 }
     ensures shaded { (x : Value) → class_of x ≢ Class.Known → or_left x ≡ Shaded }
+    ensures one { (k : ℕ) (y : Value) → k ≢ 0 →
+        lazy_result (or_left (KnownValue k)) y ≡ KnownValue 1 }
+    ensures opaque { (x y : Value) → class_of x ≢ Class.Known →
+        lazy_result (or_left x) y ≡ Opaque }
+    ensures right { (y : Value) → class_of y ≢ Class.Known →
+        lazy_result (or_left (KnownValue 0)) y ≡ Opaque }
 {}
 
 /// `?:`: a known condition chooses one side, by the condition's number; one that isn't known shades
-/// both.
+/// both, and the value is opaque.
 pub fn choices()
     ensures number { (c x y : Value) (s : Assignment) → class_of c ≡ Class.Known →
         number_of (chosen (side_of c) x y) s
         ≡ choice_number (number_of c s) (number_of x s) (number_of y s) }
     ensures shaded { (c : Value) → class_of c ≢ Class.Known → side_of c ≡ Both }
+    ensures opaque { (c x y : Value) → class_of c ≢ Class.Known → chosen (side_of c) x y ≡ Opaque }
 {}
 
 /// Where the difference of two values is `a * b + c`, this is left minus right at each assignment.

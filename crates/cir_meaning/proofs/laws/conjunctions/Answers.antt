@@ -1,5 +1,5 @@
 use Rattle.std.proofs.Common.{refl}
-use Rattle.cir_meaning.proofs.LazyLaws.{and_is, and_class, and_shaded}
+use Rattle.cir_meaning.proofs.LazyLaws.{and_is, and_class, and_shaded, and_opaque, and_right}
 use Rattle.cir_meaning.proofs.laws.conjunctions.Goals as goal
 
 pub returns : goal.returns
@@ -8,4 +8,7 @@ returns c = record {
   known = and_class;
   decided = refl;
   shaded = and_shaded;
+  zero = λ y. refl;
+  opaque = and_opaque;
+  right = and_right;
 }

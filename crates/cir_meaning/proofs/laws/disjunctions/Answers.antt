@@ -1,4 +1,5 @@
-use Rattle.cir_meaning.proofs.LazyLaws.{or_is, or_class, or_decided, or_shaded}
+use Rattle.cir_meaning.proofs.LazyLaws.{or_is, or_class, or_decided, or_shaded, or_one}
+use Rattle.cir_meaning.proofs.LazyLaws.{or_opaque, truth_opaque}
 use Rattle.cir_meaning.proofs.laws.disjunctions.Goals as goal
 
 pub returns : goal.returns
@@ -7,4 +8,7 @@ returns c = record {
   known = or_class;
   decided = or_decided;
   shaded = or_shaded;
+  one = or_one;
+  opaque = or_opaque;
+  right = truth_opaque;
 }
