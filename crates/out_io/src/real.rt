@@ -19,24 +19,28 @@ const BUFFER: usize = 65_536;
 #[derive(Drop)]
 pub struct RealStore<R: Files + Drop> {
     rt: R,
-    faults: u64,
+    pub faults: u64,
 }
 
 /// Standard output.
 #[derive(Drop)]
 pub struct RealSink<R: Print + Drop> {
     rt: R,
-    faults: u64,
+    pub faults: u64,
 }
 
 impl<R: Files + Drop> RealStore<R> {
-    pub fn new(rt: R) -> RealStore<R> {
+    pub fn new(rt: R) -> RealStore<R>
+        ensures { result.faults ≡ 0 }
+    {
         RealStore { rt, faults: 0 }
     }
 }
 
 impl<R: Print + Drop> RealSink<R> {
-    pub fn new(rt: R) -> RealSink<R> {
+    pub fn new(rt: R) -> RealSink<R>
+        ensures { result.faults ≡ 0 }
+    {
         RealSink { rt, faults: 0 }
     }
 }

@@ -27,13 +27,18 @@ seen r = record {
   written = r.written.items;
 }
 
--- the code's step did what the table says
+-- the code's step did what the table says, unless it found no memory
 abbrev pub Follows : Run → Result Flow Stop → Run → Next → Type 0
 Follows old (Ok Stays) new next = (next ≡ Goes (seen new)) × (new.running ≡ old.running)
 Follows old (Ok Moves) new next = next ≡ Goes (seen new)
 Follows old (Ok Ends) new next = next ≡ Over (Wrote new.written.items)
 Follows old (Err OutOfMemory) new next = Unit {0}
 Follows old (Err stop) new next = next ≡ Over (Stopped stop)
+
+-- the same of a step that takes no memory
+abbrev pub FollowsOnly : Run → Result Flow Stop → Run → Next → Type 0
+FollowsOnly old (Ok flow) new next = Follows old (Ok flow) new next
+FollowsOnly old (Err stop) new next = (stop ≢ OutOfMemory) × (next ≡ Over (Stopped stop))
 
 abbrev pub stands_of : ℕ → Running → Stands
 stands_of reads Own = InStep reads
