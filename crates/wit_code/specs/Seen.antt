@@ -1,6 +1,6 @@
 -- What the code's state shows of the table's, and what its steps owe.
-use Rattle.std.specs.Prelude.{◌≡◌, ℕ, ◌<◌, ◌≤◌, List, [], ◌∷◌, Some, Result, Ok, Err, slice_get}
-use Rattle.std.specs.Prelude.{length}
+use Rattle.std.specs.Prelude.{◌≡◌, ◌≢◌, ℕ, ◌<◌, ◌≤◌, List, [], ◌∷◌, Some, Result, Ok, Err, IfErr}
+use Rattle.std.specs.Prelude.{slice_get, length}
 use Rattle.std.specs.declared.vec.Vec.{Vec}
 use Rattle.std.specs.declared.alloc.Global.{Global}
 use Rattle.wit_code.specs.declared.code.Op.{Op}
@@ -35,10 +35,9 @@ Follows old (Ok Ends) new next = next ≡ Over (Wrote new.written.items)
 Follows old (Err OutOfMemory) new next = Unit {0}
 Follows old (Err stop) new next = next ≡ Over (Stopped stop)
 
--- the same of a step that takes no memory
-abbrev pub FollowsOnly : Run → Result Flow Stop → Run → Next → Type 0
-FollowsOnly old (Ok flow) new next = Follows old (Ok flow) new next
-FollowsOnly old (Err stop) new next = (stop ≢ OutOfMemory) × (next ≡ Over (Stopped stop))
+-- want of memory isn't the answer of a step that takes none
+abbrev pub TakesNoMemory : Result Flow Stop → Type 0
+TakesNoMemory result = IfErr result (λ stop. stop ≢ OutOfMemory)
 
 abbrev pub stands_of : ℕ → Running → Stands
 stands_of reads Own = InStep reads

@@ -1,3 +1,6 @@
+//! Laws of the table that says what runs of a step's code do: empty functions whose contracts say
+//! them.
+
 ghost use Rattle.std.specs.Prelude.{◌≡◌, ◌<◌, ℕ, All, List, length};
 ghost use Rattle.gold_field.specs.declared.gold.TheConstants.{P};
 ghost use Rattle.wit_code.specs.declared.code.Proc.{Proc};

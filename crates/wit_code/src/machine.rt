@@ -3,7 +3,7 @@ ghost use Rattle.std.specs.Prelude.{Some, Ok, length, slice_get, IfOk};
 ghost use Rattle.gold_field.specs.Operators.{binary_of};
 ghost use Rattle.wit_code.specs.Code.{IsWellFormed, Names};
 ghost use Rattle.wit_code.specs.Seen.{seen, Follows, IsThere, NextFits, stands_of, AnswersFit};
-ghost use Rattle.wit_code.specs.Seen.{IsOutcome, ParamsFit};
+ghost use Rattle.wit_code.specs.Seen.{IsOutcome, ParamsFit, TakesNoMemory};
 ghost use Rattle.wit_code.specs.Table.{RunsTo, act, call, code_of, go_on, in_frame, jump_to, leave};
 ghost use Rattle.wit_code.specs.Table.{outcome_of, pay, put, put_result, slot_of, start_of};
 ghost use Rattle.wit_code.specs.Table.{turn_of, unless, written_with};
@@ -158,9 +158,10 @@ impl Run {
         requires slots { (d < length self.old.frames.slots) × (a < length self.old.frames.slots)
             × (b < length self.old.frames.slots) }
         requires place { self.old.place < 2 ^ 64 - 1 }
-        ensures { Follows self.old result self.new
+        ensures next { Follows self.old result self.new
             (put_result d (binary_of op (slot_of (seen self.old) a) (slot_of (seen self.old) b))
             (seen self.old)) }
+        ensures memory { TakesNoMemory result }
     {
         match binary(op, self.slot(a), self.slot(b)) {
             Some(v) => Ok(self.put(d, v)),
@@ -172,8 +173,9 @@ impl Run {
     fn bound(&mut self, a: u32, n: u32) -> Result<Flow, Stop>
         requires slot { a < length self.old.frames.slots }
         requires place { self.old.place < 2 ^ 64 - 1 }
-        ensures { Follows self.old result self.new
+        ensures next { Follows self.old result self.new
             (unless Stop.IndexOut (nat_lt (slot_of (seen self.old) a) n) (go_on (seen self.old))) }
+        ensures memory { TakesNoMemory result }
     {
         if self.slot(a).get() < n as u64 {
             Ok(self.on())
@@ -186,10 +188,11 @@ impl Run {
     fn load(&mut self, d: u32, base: u32, a: u32) -> Result<Flow, Stop>
         requires slots { (d < length self.old.frames.slots) × (a < length self.old.frames.slots) }
         requires place { self.old.place < 2 ^ 64 - 1 }
-        ensures { let s = seen self.old in
+        ensures next { let s = seen self.old in
             Follows self.old result self.new
             (unless Stop.IndexOut (in_frame s (base + slot_of s a))
             (put d (slot_of s (base + slot_of s a)) s)) }
+        ensures memory { TakesNoMemory result }
     {
         let at = self.indexed(base, a);
         if at < self.frames.width() {
@@ -204,10 +207,11 @@ impl Run {
     fn store(&mut self, base: u32, a: u32, b: u32) -> Result<Flow, Stop>
         requires slots { (a < length self.old.frames.slots) × (b < length self.old.frames.slots) }
         requires place { self.old.place < 2 ^ 64 - 1 }
-        ensures { let s = seen self.old in
+        ensures next { let s = seen self.old in
             Follows self.old result self.new
             (unless Stop.IndexOut (in_frame s (base + slot_of s a))
             (put (base + slot_of s a) (slot_of s b) s)) }
+        ensures memory { TakesNoMemory result }
     {
         let at = self.indexed(base, a);
         if at < self.frames.width() {
@@ -246,7 +250,8 @@ impl Run {
     #[inline(always)]
     fn turn(&mut self) -> Result<Flow, Stop>
         requires place { self.old.place < 2 ^ 64 - 1 }
-        ensures { Follows self.old result self.new (turn_of (seen self.old)) }
+        ensures next { Follows self.old result self.new (turn_of (seen self.old)) }
+        ensures memory { TakesNoMemory result }
     {
         if self.units == 0 {
             return Err(Stop::FuelSpent);
@@ -305,9 +310,10 @@ impl Run {
     fn check(&mut self, a: u32, b: u32) -> Result<Flow, Stop>
         requires slots { (a < length self.old.frames.slots) × (b < length self.old.frames.slots) }
         requires place { self.old.place < 2 ^ 64 - 1 }
-        ensures { let s = seen self.old in
+        ensures next { let s = seen self.old in
             Follows self.old result self.new
             (unless Stop.ConstraintFails (slot_of s a == slot_of s b) (go_on s)) }
+        ensures memory { TakesNoMemory result }
     {
         if self.slot(a) == self.slot(b) {
             Ok(self.on())
@@ -320,9 +326,10 @@ impl Run {
     fn assert(&mut self, a: u32) -> Result<Flow, Stop>
         requires slot { a < length self.old.frames.slots }
         requires place { self.old.place < 2 ^ 64 - 1 }
-        ensures { let s = seen self.old in
+        ensures next { let s = seen self.old in
             Follows self.old result self.new
             (unless Stop.AssertFails (not (slot_of s a == 0)) (go_on s)) }
+        ensures memory { TakesNoMemory result }
     {
         if self.slot(a).get() == 0 {
             Err(Stop::AssertFails)
