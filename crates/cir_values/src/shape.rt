@@ -10,7 +10,7 @@ pub struct Shape {
 }
 
 /// The place of an element in row order. `None` where the number of indices is another than that of
-/// the dimensions, or an index is past its dimension.
+/// the dimensions, or an index isn't below its dimension.
 pub fn flat(shape: &Shape, index: &[u64]) -> Option<u32>
     requires { elements shape.now.dims ≤ 2 ^ 32 }
     ensures { result ≡ place_of shape.now.dims index.now }

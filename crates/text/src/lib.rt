@@ -1,4 +1,4 @@
-//! Short byte strings kept in the value itself.
+//! Byte strings, of which short ones lie in the value itself.
 #![tactic(auto)]
 
 mod text;
