@@ -9,7 +9,8 @@ use Rattle.std.proofs.lemmas.Nat.{pow-mod, mul-pow, mul-mod, mul-mod_second, pow
 use Rattle.std.proofs.lemmas.Nat.{mul-le}
 use Rattle.std.proofs.lemmas.Nat.Gcd.{dvd_of_mod-eq-zero}
 use Rattle.std.proofs.lemmas.Bool.{cases_eq, cases_lt}
-use Rattle.gold_field.specs.Prime.{IsPrime, squared}
+use Rattle.gold_field.specs.Powers.{squared}
+use Rattle.gold_field.specs.Prime.{IsPrime}
 use Rattle.gold_field.proofs.Euclid.{times_zero}
 use Rattle.gold_field.proofs.Binomial.{fermat}
 

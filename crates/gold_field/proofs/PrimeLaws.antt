@@ -5,7 +5,8 @@ use Rattle.std.proofs.Common.{sym, ◌∙◌, ap, arith, mod-eq_of_lt, lit<, lit
 use Rattle.std.proofs.Math.Nat.{pow-succ', two-pow-succ}
 use Rattle.std.proofs.lemmas.Nat.{mul-mod_second, mul-mod_first, pow-mod}
 use Rattle.gold_field.specs.declared.gold.TheConstants.{P}
-use Rattle.gold_field.specs.Prime.{IsPrime, squared}
+use Rattle.gold_field.specs.Powers.{squared}
+use Rattle.gold_field.specs.Prime.{IsPrime}
 use Rattle.gold_field.proofs.Binomial.{fermat}
 use Rattle.gold_field.proofs.Euclid.{euclid}
 use Rattle.gold_field.proofs.Period.{pow_square, prime_by}

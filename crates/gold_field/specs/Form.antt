@@ -4,16 +4,13 @@ use Rattle.gold_field.specs.declared.form.Term.{Term}
 use Rattle.gold_field.specs.declared.form.Constraint.{Constraint}
 use Rattle.gold_field.specs.declared.gold.TheConstants.{P}
 
--- a number for each signal; signal 0 stands for 1, which who assigns must say
-abbrev pub Assignment : Type 0
-Assignment = ℕ → ℕ
-
--- the sum of the terms, as a number of the field
-abbrev pub value_at : Assignment → List Term → ℕ
+-- the sum of the terms, as a number of the field; s has a number for each signal, and that signal 0
+-- has 1 isn't asked here
+abbrev pub value_at : (ℕ → ℕ) → List Term → ℕ
 value_at s terms = sum_by (λ t. t.coef * s t.signal) terms % P
 
 -- A * B - C = 0
-abbrev pub Holds : Assignment → Constraint → Type 0
+abbrev pub Holds : (ℕ → ℕ) → Constraint → Type 0
 Holds s k = (value_at s k.a * value_at s k.b) % P ≡ value_at s k.c
 
 -- every signal has a number among the first n

@@ -5,6 +5,7 @@ ghost use Rattle.std.specs.Prelude.{◌≡◌, ◌≢◌, ℕ, ◌+◌, ◌-◌,
 ghost use Rattle.gold_field.specs.declared.operators.Op1.{Op1};
 ghost use Rattle.gold_field.specs.declared.operators.Op2.{Op2};
 ghost use Rattle.gold_field.specs.Operators.{binary_of, unary_of};
+ghost use Rattle.gold_field.specs.Prime.{IsPrime};
 
 use crate::gold::P;
 
@@ -15,7 +16,7 @@ pub fn the_order()
 
 /// The order of the field is prime.
 pub fn p_is_prime()
-    ensures { (d : ℕ) → 2 ≤ d → d < P → P % d ≢ 0 }
+    ensures { IsPrime P }
 {}
 
 /// A product is 0 only where a factor is 0.

@@ -10,4 +10,4 @@ mod power;
 
 pub use form::{Constraint, Lc, Term};
 pub use gold::{Gold, P};
-pub use operators::{HALF, Op1, Op2, binary, unary};
+pub use operators::{Op1, Op2, binary, unary};

@@ -4,7 +4,7 @@ use Rattle.std.proofs.Common.{◌∙◌, ap, arith, lit<, mod-eq_of_lt, mod-lt, 
 use Rattle.std.proofs.Math.Nat.{mod-mod, pow-zero}
 use Rattle.std.proofs.lemmas.Nat.{pow-mod, mul-mod_first}
 use Rattle.gold_field.specs.declared.gold.TheConstants.{P}
-use Rattle.gold_field.specs.Prime.{squared}
+use Rattle.gold_field.specs.Powers.{squared}
 use Rattle.gold_field.proofs.Period.{pow_square, squared-power, no_period}
 use Rattle.gold_field.proofs.PowerSteps.{pow_pow}
 use Rattle.gold_ntt.specs.declared.roots.TheConstants.{ROOT}

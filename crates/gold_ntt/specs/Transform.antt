@@ -2,7 +2,7 @@
 use Rattle.std.specs.Prelude.{◌≡◌, ℕ, ◌+◌, ◌-◌, ◌*◌, ◌%◌, ◌^◌, ◌<◌, ◌≤◌, ◌⊎◌, List, length}
 use Rattle.std.specs.Prelude.{slice_index}
 use Rattle.gold_field.specs.declared.gold.TheConstants.{P}
-use Rattle.gold_field.specs.Prime.{squared}
+use Rattle.gold_field.specs.Powers.{squared}
 use Rattle.gold_ntt.specs.declared.roots.TheConstants.{ROOT}
 use Rattle.gold_ntt.specs.Polynomial.{poly, eval_at}
 use Rattle.gold_ntt.specs.Reversal.{reversed}

@@ -9,7 +9,7 @@ use Rattle.std.proofs.lemmas.Nat.{pow-add}
 use Rattle.std.proofs.lemmas.List.{get_or-map, length-append, length-replicate, get_or_append_left}
 use Rattle.std.proofs.lemmas.List.{get_or-append_right, get_or_past, take-append-le, take_all}
 use Rattle.gold_field.specs.declared.gold.TheConstants.{P}
-use Rattle.gold_field.specs.Prime.{squared}
+use Rattle.gold_field.specs.Powers.{squared}
 use Rattle.gold_field.proofs.Period.{squared-power, pow_square}
 use Rattle.gold_field.proofs.FieldLaws.{product_of_rests}
 use Rattle.gold_ntt.specs.declared.roots.TheConstants.{ROOT}

@@ -2,4 +2,4 @@ use Rattle.gold_field.proofs.PrimeLaws.{p_prime}
 use Rattle.gold_field.proofs.laws.p_is_prime.Goals as goal
 
 pub returns : goal.returns
-returns c = p_prime.whole
+returns c = p_prime

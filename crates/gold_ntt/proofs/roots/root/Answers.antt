@@ -1,6 +1,6 @@
 use Rattle.std.proofs.Common.{◌≡◌, ◌≢◌, ℕ, ◌-◌, ◌%◌, ◌^◌, ◌<◌, sym, ◌∙◌, ap, subst, arith}
 use Rattle.gold_field.specs.declared.gold.TheConstants.{P}
-use Rattle.gold_field.specs.Prime.{squared}
+use Rattle.gold_field.specs.Powers.{squared}
 use Rattle.gold_ntt.specs.Transform.{root_of}
 use Rattle.gold_ntt.proofs.RootLaws.{root_one, root_order, root_power}
 use Rattle.gold_ntt.proofs.Transforms.{root_halves}

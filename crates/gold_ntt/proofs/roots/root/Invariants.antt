@@ -1,6 +1,6 @@
 use Rattle.std.proofs.Common.{◌≡◌, ◌-◌}
 use Rattle.gold_field.specs.declared.gold.TheConstants.{P}
-use Rattle.gold_field.specs.Prime.{squared}
+use Rattle.gold_field.specs.Powers.{squared}
 use Rattle.gold_ntt.specs.Transform.{root_of}
 use Rattle.gold_ntt.proofs.roots.root.Given as goal
 
