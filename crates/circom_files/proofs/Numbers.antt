@@ -12,7 +12,7 @@ use Rattle.iden_files.specs.declared.sections.Format.TheVariants.{Wtns}
 use Rattle.iden_files.specs.ReadWtns.{value_count, values_of, wtns_of}
 use Rattle.iden_files.specs.Refusal.{Refusal, refusal}
 use Rattle.iden_files.specs.Sections.{Section, needed, sections_of}
-use Rattle.iden_files.specs.Values.{value_at}
+use Rattle.iden_files.specs.Values.{number_at}
 
 -- what is read in two steps is read by both
 both_read : {A B : Type 0} (x : Result A Refusal) (g : A → Result B Refusal) (b : B)
@@ -34,8 +34,8 @@ one_ok a b e = cc
 less : (m n : ℕ) → nat_lt m n ≡ true → m < n
 less m n h = grind (arith, nat_tests)
 
-value_below : (end : ℕ) (bytes : List ℕ) (x : ℕ × List ℕ) → value_at end bytes ≡ Ok x → x.0 < P
-unfolding value_at
+value_below : (end : ℕ) (bytes : List ℕ) (x : ℕ × List ℕ) → number_at end bytes ≡ Ok x → x.0 < P
+unfolding number_at
 value_below end bytes x e =
     let r = refusal ValueTooLarge (end - length bytes) in
     let test = λ (y : ℕ × List ℕ). if nat_lt y.0 P then Ok y else Err r in
@@ -47,13 +47,13 @@ abbrev joined : ℕ × List ℕ → List ℕ × List ℕ → List ℕ × List �
 joined a b = (a.0 ∷ b.0, b.1)
 
 repeated_below : (end n : ℕ) (bytes : List ℕ) (found : List ℕ × List ℕ)
-    → repeated (value_at end) n bytes ≡ Ok found → All (λ v. v < P) found.0
+    → repeated (number_at end) n bytes ≡ Ok found → All (λ v. v < P) found.0
 repeated_below end zero bytes found e =
     let none : ([], bytes) ≡ found = cc in
     subst (λ (y : List ℕ × List ℕ). All (λ v. v < P) y.0) none (All-nil (λ v. v < P))
 repeated_below end (suc n) bytes found e =
-    let rest = λ (a : ℕ × List ℕ). repeated (value_at end) n a.1 in
-    let first = both_read (value_at end bytes) (λ a. rest a >>= λ b. Ok (joined a b)) found e in
+    let rest = λ (a : ℕ × List ℕ). repeated (number_at end) n a.1 in
+    let first = both_read (number_at end bytes) (λ a. rest a >>= λ b. Ok (joined a b)) found e in
     let others = both_read (rest first.0) (λ b. Ok (joined first.0 b)) found first.2 in
     let all : joined first.0 others.0 ≡ found = one_ok _ _ others.2 in
     subst (λ (y : List ℕ × List ℕ). All (λ v. v < P) y.0) all
@@ -64,7 +64,7 @@ section_below : (count : ℕ) (s : Section) (values : List ℕ) → values_of co
     → All (λ v. v < P) values
 unfolding values_of
 section_below count s values e =
-    let read = repeated (value_at s.end) count s.body in
+    let read = repeated (number_at s.end) count s.body in
     let sized = required (length s.body == 8 * count) (refusal BadCount (s.end - length s.body)) in
     let size = both_read sized (λ _. read >>= λ found. Ok found.0) values e in
     let found = both_read read (λ found. Ok found.0) values size.2 in

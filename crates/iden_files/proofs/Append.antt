@@ -10,9 +10,9 @@ use Rattle.std.proofs.lemmas.List.Sums.{sum_by-cons}
 use Rattle.gold_field.specs.declared.form.Term.{Term}
 use Rattle.gold_field.specs.declared.form.Constraint.{Constraint}
 use Rattle.iden_files.specs.File.{File, term_count}
-use Rattle.iden_files.specs.Spelling.{header_bytes, section, section_head, field_bytes, sizes_bytes}
-use Rattle.iden_files.specs.Spelling.{term_bytes, form_bytes, constraint_bytes, r1cs_bytes}
-use Rattle.iden_files.specs.Spelling.{wtns_bytes}
+use Rattle.iden_files.specs.Spelling.{header_bytes, section_bytes, section_head, field_bytes}
+use Rattle.iden_files.specs.Spelling.{sizes_bytes, term_bytes, form_bytes, constraint_bytes}
+use Rattle.iden_files.specs.Spelling.{r1cs_bytes, wtns_bytes}
 
 pub appended : (a x y b c : List ℕ) → b ≡ a ++ x → c ≡ b ++ y → c ≡ a ++ (x ++ y)
 appended a x y b c p q = q ∙ ap (λ (l : List ℕ). l ++ y) p ∙ append_assoc a x y
@@ -64,7 +64,7 @@ pub sizes_put : (f : File) (a b1 b2 b3 b4 b5 b6 b7 b8 : List ℕ) → b1 ≡ a +
     → b5 ≡ b4 ++ to_le_bytes w32 f.public_inputs → b6 ≡ b5 ++ to_le_bytes w32 f.private_inputs
     → b7 ≡ b6 ++ to_le_bytes w64 f.label_count
     → b8 ≡ b7 ++ to_le_bytes w32 (length f.constraints)
-    → b8 ≡ a ++ section 1 (sizes_bytes f)
+    → b8 ≡ a ++ section_bytes 1 (sizes_bytes f)
 sizes_put f a b1 b2 b3 b4 b5 b6 b7 b8 e1 e2 e3 e4 e5 e6 e7 e8 =
     let x8 = to_le_bytes w32 (length f.constraints) in
     let x7 = to_le_bytes w64 f.label_count in
@@ -81,14 +81,14 @@ sizes_put f a b1 b2 b3 b4 b5 b6 b7 b8 e1 e2 e3 e4 e5 e6 e7 e8 =
     appended a (section_head 1 40) (sizes_bytes f) b1 b8 e1 t2
 
 pub file_put : (f : File) (b0 b1 b2 b3 b4 : List ℕ) → b0 ≡ []
-    → b1 ≡ b0 ++ header_bytes (codes "r1cs") 1 3 → b2 ≡ b1 ++ section 1 (sizes_bytes f)
-    → b3 ≡ b2 ++ section 2 (flat_map constraint_bytes f.constraints)
-    → b4 ≡ b3 ++ section 3 (flat_map (to_le_bytes w64) f.labels) → b4 ≡ r1cs_bytes f
+    → b1 ≡ b0 ++ header_bytes (codes "r1cs") 1 3 → b2 ≡ b1 ++ section_bytes 1 (sizes_bytes f)
+    → b3 ≡ b2 ++ section_bytes 2 (flat_map constraint_bytes f.constraints)
+    → b4 ≡ b3 ++ section_bytes 3 (flat_map (to_le_bytes w64) f.labels) → b4 ≡ r1cs_bytes f
 unfolding r1cs_bytes
 file_put f b0 b1 b2 b3 b4 e0 e1 e2 e3 e4 =
-    let s1 = section 1 (sizes_bytes f) in
-    let s2 = section 2 (flat_map constraint_bytes f.constraints) in
-    let s3 = section 3 (flat_map (to_le_bytes w64) f.labels) in
+    let s1 = section_bytes 1 (sizes_bytes f) in
+    let s2 = section_bytes 2 (flat_map constraint_bytes f.constraints) in
+    let s3 = section_bytes 3 (flat_map (to_le_bytes w64) f.labels) in
     let t3 = appended b2 s2 s3 b3 b4 e3 e4 in
     let t2 = appended b1 s1 (s2 ++ s3) b2 b4 e2 t3 in
     appended b0 (header_bytes (codes "r1cs") 1 3) (s1 ++ (s2 ++ s3)) b1 b4 e1 t2
@@ -96,13 +96,13 @@ file_put f b0 b1 b2 b3 b4 e0 e1 e2 e3 e4 =
 
 pub values_put : (values b0 b1 b2 b3 : List ℕ) → b0 ≡ []
     → b1 ≡ b0 ++ header_bytes (codes "wtns") 2 2
-    → b2 ≡ b1 ++ section 1 (field_bytes ++ to_le_bytes w32 (length values))
-    → b3 ≡ b2 ++ section 2 (flat_map (to_le_bytes w64) values)
+    → b2 ≡ b1 ++ section_bytes 1 (field_bytes ++ to_le_bytes w32 (length values))
+    → b3 ≡ b2 ++ section_bytes 2 (flat_map (to_le_bytes w64) values)
     → b3 ≡ wtns_bytes values
 unfolding wtns_bytes
 values_put values b0 b1 b2 b3 e0 e1 e2 e3 =
-    let s1 = section 1 (field_bytes ++ to_le_bytes w32 (length values)) in
-    let s2 = section 2 (flat_map (to_le_bytes w64) values) in
+    let s1 = section_bytes 1 (field_bytes ++ to_le_bytes w32 (length values)) in
+    let s2 = section_bytes 2 (flat_map (to_le_bytes w64) values) in
     let t2 = appended b1 s1 s2 b2 b3 e2 e3 in
     appended b0 (header_bytes (codes "wtns") 2 2) (s1 ++ s2) b1 b3 e1 t2
     ∙ ap (λ (l : List ℕ). l ++ (header_bytes (codes "wtns") 2 2 ++ (s1 ++ s2))) e0

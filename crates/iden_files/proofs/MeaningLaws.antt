@@ -7,11 +7,11 @@ use Rattle.std.proofs.lemmas.List.Elements.{All-head, All-tail}
 use Rattle.std.proofs.lemmas.List.Sums.{sum_by-cons}
 use Rattle.gold_field.specs.declared.form.Term.{Term}
 use Rattle.gold_field.specs.declared.gold.TheConstants.{P}
-use Rattle.gold_field.specs.Form.{Assignment, value_at, SignalsBelow}
+use Rattle.gold_field.specs.Form.{value_at, SignalsBelow}
 use Rattle.iden_files.specs.Meaning.{coefficient, form_from, form_of}
 use Rattle.iden_files.proofs.FormLaws.{value_for, value_same, value_other, none_at, some_at}
 
-module _ (s : Assignment) where
+module _ (s : ℕ → ℕ) where
   -- the sum of n wires' values, this one first
   by_wire : ℕ → ℕ → List Term → ℕ
   by_wire low zero terms = 0

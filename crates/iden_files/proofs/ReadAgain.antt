@@ -28,12 +28,13 @@ use Rattle.iden_files.specs.File.{File, InLimits, IsWhole, HasForms, term_count}
 use Rattle.iden_files.specs.Meaning.{IsTermOver, meaning}
 use Rattle.iden_files.specs.Sections.{Section, u32_at, u64_at, section_count, section_at}
 use Rattle.iden_files.specs.Sections.{with_section, sections_after, sections_of, needed}
-use Rattle.iden_files.specs.Values.{value_at}
+use Rattle.iden_files.specs.Values.{number_at}
 use Rattle.iden_files.specs.ReadR1cs.{field_of, sizes_of, term_at, terms_at, constraint_at}
 use Rattle.iden_files.specs.ReadR1cs.{constraints_at, constraints_of, label_at, labels_of, r1cs_of}
 use Rattle.iden_files.specs.ReadWtns.{value_count, values_of, wtns_of}
-use Rattle.iden_files.specs.Spelling.{header_bytes, section, field_bytes, sizes_bytes, term_bytes}
-use Rattle.iden_files.specs.Spelling.{form_bytes, constraint_bytes, r1cs_bytes, wtns_bytes}
+use Rattle.iden_files.specs.Spelling.{header_bytes, section_bytes, field_bytes, sizes_bytes}
+use Rattle.iden_files.specs.Spelling.{term_bytes, form_bytes, constraint_bytes, r1cs_bytes}
+use Rattle.iden_files.specs.Spelling.{wtns_bytes}
 use Rattle.iden_files.proofs.Append.{words_len, constraints_len}
 use Rattle.iden_files.proofs.FormLaws.{form_of_form}
 
@@ -43,8 +44,8 @@ Each-from_all Q (x ∷ xs) all = (All-head Q x xs all, Each-from_all Q xs (All-t
 
 -- ---- numbers and terms
 
-pub value_again : (end : ℕ) → ReadsBack (value_at end) (to_le_bytes w64) (λ n. n < P)
-unfolding value_at
+pub value_again : (end : ℕ) → ReadsBack (number_at end) (to_le_bytes w64) (λ n. n < P)
+unfolding number_at
 value_again end = record {
   again = λ n rest below.
       tested_again (λ m. ltb m P) (refusal ValueTooLarge (end - length (to_le_bytes w64 n ++ rest)))
@@ -54,7 +55,7 @@ value_again end = record {
 
 term_reads : (wires end s c : ℕ) (b0 b1 b2 : List ℕ)
     → or_short (number_of w32 b0) (refusal BadCount end) ≡ Ok (s, b1) → s < wires
-    → value_at end b1 ≡ Ok (c, b2)
+    → number_at end b1 ≡ Ok (c, b2)
     → term_at wires end b0 ≡ Ok (record { signal = s; coef = c }, b2)
 unfolding term_at
 term_reads wires end s c b0 b1 b2 first below second =
@@ -198,13 +199,13 @@ unfolding section_at
 section_reads end kind size body b0 b1 b2 b3 first second third = rw (first, second, third) refl
 
 section_again : (end kind : ℕ) (body rest : List ℕ) → kind < 2 ^ 32 → length body < 2 ^ 64
-    → section_at end (section kind body ++ rest)
+    → section_at end (section_bytes kind body ++ rest)
     ≡ Ok (record { kind = kind; end = end - length rest; body = body }, rest)
 section_again end kind body rest small fits =
     let size = length body in
     let k = to_le_bytes w32 kind in
     let n = to_le_bytes w64 size in
-    let regrouped : section kind body ++ rest ≡ k ++ (n ++ (body ++ rest)) =
+    let regrouped : section_bytes kind body ++ rest ≡ k ++ (n ++ (body ++ rest)) =
     append_assoc (k ++ n) body rest ∙ append_assoc k n (body ++ rest) in
     ap (section_at end) regrouped
     ∙ section_reads end kind size body (k ++ (n ++ (body ++ rest))) (n ++ (body ++ rest))
@@ -358,9 +359,9 @@ file_again f whole limits =
     let body1 = sizes_bytes f in
     let body2 = flat_map constraint_bytes f.constraints in
     let body3 = flat_map (to_le_bytes w64) f.labels in
-    let rest2 = section 3 body3 in
-    let rest1 = section 2 body2 ++ rest2 in
-    let all = section 1 body1 ++ rest1 in
+    let rest2 = section_bytes 3 body3 in
+    let rest1 = section_bytes 2 body2 ++ rest2 in
+    let all = section_bytes 1 body1 ++ rest1 in
     let bytes = header_bytes (codes "r1cs") 1 3 ++ all in
     let end = length bytes in
     let s1 : Section = numbered 1 (end - length rest1) body1 in
@@ -419,7 +420,7 @@ count_read s n field e few =
     rw (field, fits, e) refl
 
 values_read : (n : ℕ) (s : Section) (values : List ℕ) → length s.body ≡ 8 * n
-    → repeated (value_at s.end) n s.body ≡ Ok (values, []) → values_of n s ≡ Ok values
+    → repeated (number_at s.end) n s.body ≡ Ok (values, []) → values_of n s ≡ Ok values
 unfolding values_of
 values_read n s values len read =
     let size : eqb (length s.body) (8 * n) ≡ true = eq-eqb (length s.body) (8 * n) len in
@@ -439,8 +440,8 @@ values_again values few below =
     let n = length values in
     let body1 = field_bytes ++ to_le_bytes w32 n in
     let body2 = flat_map (to_le_bytes w64) values in
-    let rest1 = section 2 body2 in
-    let all = section 1 body1 ++ rest1 in
+    let rest1 = section_bytes 2 body2 in
+    let all = section_bytes 1 body1 ++ rest1 in
     let bytes = header_bytes (codes "wtns") 2 2 ++ all in
     let end = length bytes in
     let s1 : Section = numbered 1 (end - length rest1) body1 in
@@ -455,8 +456,8 @@ values_again values few below =
     let count =
     count_read s1 n (field_reads 16 s1 (omega arith) refl refl refl)
     (from_le_bytes-to_le_bytes_4 n (omega (arith, few))) few in
-    let words = ap (repeated (value_at s2.end) n) (sym (append-nil body2))
-    ∙ repeated_again (value_at s2.end) (to_le_bytes w64) (λ v. v < P)
+    let words = ap (repeated (number_at s2.end) n) (sym (append-nil body2))
+    ∙ repeated_again (number_at s2.end) (to_le_bytes w64) (λ v. v < P)
     (value_again s2.end) values [] (Each-from_all (λ v. v < P) values below) in
     wtns_reads bytes n values (end - length rest1) (end - 0) body1 body2 found count
     (values_read n s2 values (words_len values) words)

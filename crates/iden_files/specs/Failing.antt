@@ -7,8 +7,9 @@ use Rattle.gold_field.specs.declared.gold.TheConstants.{P}
 
 -- whether A * B - C = 0 at these values
 abbrev pub is_satisfied : List ℕ → Constraint → Bool
-is_satisfied w k = (value_at (slice_index w) k.a * value_at (slice_index w) k.b) % P == value_at
-    (slice_index w) k.c
+is_satisfied w k =
+    let s = slice_index w in
+    (value_at s k.a * value_at s k.b) % P == value_at s k.c
 
 -- the index of the first constraint that isn't satisfied, where the list's first has the index i
 abbrev pub first_failing_from : ℕ → List ℕ → List Constraint → Option ℕ

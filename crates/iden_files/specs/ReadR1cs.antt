@@ -15,7 +15,7 @@ use Rattle.iden_files.specs.Limits.{most_wires, most_constraints, most_terms}
 use Rattle.iden_files.specs.Refusal.{Refusal, refusal}
 use Rattle.iden_files.specs.File.{File}
 use Rattle.iden_files.specs.Meaning.{meaning}
-use Rattle.iden_files.specs.Values.{value_at}
+use Rattle.iden_files.specs.Values.{number_at}
 use Rattle.iden_files.specs.Sections.{Section, u32_at, u64_at, section_of, sections_of, needed}
 
 -- the field of section 1, whose body has this length where it is whole
@@ -51,7 +51,7 @@ unfoldable pub term_at : ℕ → ℕ → List ℕ → Result (Term × List ℕ) 
 term_at wires end bytes = do
   wire ← tested (λ n. nat_lt n wires) (refusal WireOutOfRange (end - length bytes))
       (or_short (number_of w32 bytes) (refusal BadCount end))
-  value ← value_at end wire.1
+  value ← number_at end wire.1
   Ok (record { signal = wire.0; coef = value.0 }, value.1)
 
 -- a count, and so many terms, of which there is room for this many

@@ -6,7 +6,7 @@ use Rattle.iden_files.specs.declared.sections.Format.TheVariants.{Wtns}
 use Rattle.iden_files.specs.Limits.{most_wires}
 use Rattle.iden_files.specs.Refusal.{Refusal, refusal}
 use Rattle.iden_files.specs.Sections.{Section, u32_at, sections_of, needed}
-use Rattle.iden_files.specs.Values.{value_at}
+use Rattle.iden_files.specs.Values.{number_at}
 use Rattle.iden_files.specs.ReadR1cs.{field_of}
 
 -- section 1: how many values there are
@@ -20,7 +20,7 @@ value_count s = do
 unfoldable pub values_of : ℕ → Section → Result (List ℕ) Refusal
 values_of count s = do
   size ← required (length s.body == 8 * count) (refusal BadCount (s.end - length s.body))
-  found ← repeated (value_at s.end) count s.body
+  found ← repeated (number_at s.end) count s.body
   Ok found.0
 
 unfoldable pub wtns_of : List ℕ → Result (List ℕ) Refusal

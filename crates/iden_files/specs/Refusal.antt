@@ -1,5 +1,5 @@
 -- Why a file is refused, and at which of its bytes.
-use Rattle.std.specs.Prelude.{ℕ, Option, Some, None}
+use Rattle.std.specs.Prelude.{◌≢◌, ℕ, Option, Some, None, Result, IfErr}
 use Rattle.iden_files.specs.declared.fault.FileCause.{FileCause}
 use Rattle.iden_files.specs.declared.fault.FileCause.TheVariants.{Magic, Version, Truncated}
 use Rattle.iden_files.specs.declared.fault.FileCause.TheVariants.{SectionMissing, SectionTwice}
@@ -34,3 +34,7 @@ refusal cause offset = record { cause = cause; offset = offset }
 abbrev pub refused : FileFault → Option Refusal
 refused (At cause offset) = Some (refusal cause offset)
 refused OutOfMemory = None
+
+-- want of memory isn't the answer of a call that takes none
+abbrev pub TakesNoMemory : {T : Type 0} → Result T FileFault → Type 0
+TakesNoMemory result = IfErr result (λ fault. fault ≢ OutOfMemory)

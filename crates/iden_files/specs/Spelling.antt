@@ -15,8 +15,8 @@ header_bytes magic version sections = magic ++ (to_le_bytes w32 version ++ to_le
 abbrev pub section_head : ℕ → ℕ → List ℕ
 section_head kind size = to_le_bytes w32 kind ++ to_le_bytes w64 size
 
-abbrev pub section : ℕ → List ℕ → List ℕ
-section kind body = section_head kind (length body) ++ body
+abbrev pub section_bytes : ℕ → List ℕ → List ℕ
+section_bytes kind body = section_head kind (length body) ++ body
 
 abbrev pub term_bytes : Term → List ℕ
 term_bytes t = to_le_bytes w32 t.signal ++ to_le_bytes w64 t.coef
@@ -45,13 +45,13 @@ sizes_bytes f =
 unfoldable pub r1cs_bytes : File → List ℕ
 r1cs_bytes f =
     header_bytes (codes "r1cs") 1 3
-    ++ (section 1 (sizes_bytes f)
-    ++ (section 2 (flat_map constraint_bytes f.constraints)
-    ++ section 3 (flat_map (to_le_bytes w64) f.labels)))
+    ++ (section_bytes 1 (sizes_bytes f)
+    ++ (section_bytes 2 (flat_map constraint_bytes f.constraints)
+    ++ section_bytes 3 (flat_map (to_le_bytes w64) f.labels)))
 
 -- sections 1 and 2
 unfoldable pub wtns_bytes : List ℕ → List ℕ
 wtns_bytes values =
     header_bytes (codes "wtns") 2 2
-    ++ (section 1 (field_bytes ++ to_le_bytes w32 (length values))
-    ++ section 2 (flat_map (to_le_bytes w64) values))
+    ++ (section_bytes 1 (field_bytes ++ to_le_bytes w32 (length values))
+    ++ section_bytes 2 (flat_map (to_le_bytes w64) values))

@@ -7,7 +7,7 @@ use Rattle.iden_files.specs.declared.fault.FileCause.TheVariants.{ValueTooLarge,
 use Rattle.iden_files.specs.Refusal.{Refusal, refusal}
 
 -- a number below the field's order, of bytes that end at this place
-unfoldable pub value_at : ℕ → List ℕ → Result (ℕ × List ℕ) Refusal
-value_at end bytes =
+unfoldable pub number_at : ℕ → List ℕ → Result (ℕ × List ℕ) Refusal
+number_at end bytes =
     tested (λ n. nat_lt n P) (refusal ValueTooLarge (end - length bytes))
     (or_short (number_of w64 bytes) (refusal BadCount end))

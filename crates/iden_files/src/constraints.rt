@@ -3,7 +3,7 @@ ghost use Rattle.std.specs.Prelude.{vec_len};
 ghost use Rattle.binary_format.specs.Reading.{Gives, Reads, repeated};
 ghost use Rattle.gold_field.specs.Form.{ConstraintBelow};
 ghost use Rattle.iden_files.specs.Limits.{most_terms};
-ghost use Rattle.iden_files.specs.Refusal.{refused};
+ghost use Rattle.iden_files.specs.Refusal.{refused, TakesNoMemory};
 ghost use Rattle.iden_files.specs.File.{term_count};
 ghost use Rattle.iden_files.specs.Meaning.{IsTermOver, IsOver, meaning};
 ghost use Rattle.iden_files.specs.ReadR1cs.{term_at, terms_at, constraint_at, constraints_at};
@@ -161,6 +161,7 @@ fn term(fields: &mut Reader<'_>, wires: u32) -> Result<Term, FileFault>
         (term_at wires fields.old.end fields.old.rest.now) }
     ensures end { fields.new.end ≡ fields.old.end }
     ensures over { IfOk result (IsTermOver wires) }
+    ensures memory { TakesNoMemory result }
 {
     let place = fields.offset();
     let signal = next_u32(fields, FileCause::BadCount)?;

@@ -1,7 +1,7 @@
 ghost use Rattle.std.specs.Prelude.{◌≡◌, ◌+◌, ◌≤◌, length};
 ghost use Rattle.std.specs.Int.{w32, w64};
 ghost use Rattle.binary_format.specs.Reading.{Reads, number_of, or_short};
-ghost use Rattle.iden_files.specs.Refusal.{refusal, refused};
+ghost use Rattle.iden_files.specs.Refusal.{refusal, refused, TakesNoMemory};
 ghost use Rattle.iden_files.specs.Sections.{u32_at, u64_at};
 
 use crate::fault::{FileCause, FileFault};
@@ -12,6 +12,7 @@ pub fn next_u32(fields: &mut Reader<'_>, short: FileCause) -> Result<u32, FileFa
     ensures taken { Reads refused (λ x. x) fields.new.rest.now result
         (or_short (number_of w32 fields.old.rest.now) (refusal short fields.old.end)) }
     ensures end { fields.new.end ≡ fields.old.end }
+    ensures memory { TakesNoMemory result }
 {
     let offset = fields.end;
     match fields.u32() {
@@ -27,6 +28,7 @@ pub fn next_u64(fields: &mut Reader<'_>, short: FileCause) -> Result<u64, FileFa
     ensures taken { Reads refused (λ x. x) fields.new.rest.now result
         (or_short (number_of w64 fields.old.rest.now) (refusal short fields.old.end)) }
     ensures end { fields.new.end ≡ fields.old.end }
+    ensures memory { TakesNoMemory result }
 {
     let offset = fields.end;
     match fields.u64() {

@@ -4,7 +4,7 @@ ghost use Rattle.std.specs.Prelude.{◌≡◌, ℕ, ◌<◌, ◌≤◌, List, le
 ghost use Rattle.gold_field.specs.declared.gold.TheConstants.{P};
 ghost use Rattle.iden_files.specs.File.{File, IsWhole, InLimits};
 ghost use Rattle.gold_field.specs.declared.form.Term.{Term};
-ghost use Rattle.gold_field.specs.Form.{Assignment, SignalsBelow, value_at};
+ghost use Rattle.gold_field.specs.Form.{SignalsBelow, value_at};
 ghost use Rattle.iden_files.specs.Meaning.{form_of};
 ghost use Rattle.iden_files.specs.ReadR1cs.{r1cs_of};
 ghost use Rattle.iden_files.specs.ReadWtns.{wtns_of};
@@ -24,6 +24,6 @@ pub fn spelled_values_are_read()
 
 /// The linear combination that terms mean has the sum of all these terms, at every assignment.
 pub fn meaning_has_the_value()
-    ensures { (s : Assignment) (wires : ℕ) (terms : List Term) → SignalsBelow wires terms →
+    ensures { (s : ℕ → ℕ) (wires : ℕ) (terms : List Term) → SignalsBelow wires terms →
         value_at s (form_of wires terms) ≡ value_at s terms }
 {}

@@ -20,7 +20,6 @@ mod wtns_reading;
 
 pub use failing::first_failing;
 pub use fault::{FileCause, FileFault};
-pub use limits::{MAX_CONSTRAINTS, MAX_TERMS, MAX_WIRES};
 pub use r1cs::R1cs;
 pub use r1cs_reading::read_r1cs;
 pub use write::{write_r1cs, write_wtns};

@@ -25,12 +25,10 @@ impl Model for R1cs {
     ghost view = { λ r. record {
       wires = r.wires;
       outputs = r.outputs;
-      public_inputs =
-          r.public_inputs;
+      public_inputs = r.public_inputs;
       private_inputs = r.private_inputs;
       label_count = r.label_count;
-      labels =
-          r.labels;
+      labels = r.labels;
       constraints = r.constraints;
     } };
 

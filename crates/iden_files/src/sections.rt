@@ -2,7 +2,7 @@ ghost use Rattle.std.specs.Prelude.{◌≡◌, ◌==◌, ◌≤◌, [], length, 
 ghost use Rattle.std.specs.Option.{option_map};
 ghost use Rattle.std.specs.Int.{w32, from_le_bytes};
 ghost use Rattle.binary_format.specs.Reading.{Gives, Reads};
-ghost use Rattle.iden_files.specs.Refusal.{refused};
+ghost use Rattle.iden_files.specs.Refusal.{refused, TakesNoMemory};
 ghost use Rattle.iden_files.specs.Sections.{magic, version, section_count, section_at, section_of};
 ghost use Rattle.iden_files.specs.Sections.{with_section, sections_after, sections_of, needed};
 ghost use Rattle.iden_files.specs.Sections.{is_read, is_gates};
@@ -69,6 +69,7 @@ pub struct FoundSection<'a> {
 fn section_count(format: Format, bytes: &[u8]) -> Result<u32, FileFault>
     ensures count { Gives refused (λ n. n) result (section_count format bytes.now) }
     ensures long { OnOk result (12 ≤ length bytes.now) }
+    ensures memory { TakesNoMemory result }
 {
     if bytes.len() < 12 {
         return Err(FileFault::At {
@@ -96,6 +97,7 @@ fn next_section<'a>(file: &mut Reader<'a>) -> Result<FoundSection<'a>, FileFault
     ensures taken { Reads refused section file.new.rest.now result
         (section_at file.old.end file.old.rest.now) }
     ensures end { file.new.end ≡ file.old.end }
+    ensures memory { TakesNoMemory result }
 {
     let offset = file.end;
     let kind = next_u32(file, FileCause::Truncated)?;
@@ -128,7 +130,8 @@ pub fn needed<'a>(
     length: u64,
     found: &[FoundSection<'a>],
 ) -> Result<FoundSection<'a>, FileFault>
-    ensures { Gives refused section result (needed kind length (sections found.now)) }
+    ensures found { Gives refused section result (needed kind length (sections found.now)) }
+    ensures memory { TakesNoMemory result }
 {
     match section_of(kind, found) {
         Some(s) => Ok(s),

@@ -1,6 +1,6 @@
 ghost use Rattle.std.specs.Prelude.{◌≡◌, ◌≤◌, length, OnOk, IfOk};
 ghost use Rattle.binary_format.specs.Reading.{Gives};
-ghost use Rattle.iden_files.specs.Refusal.{refused};
+ghost use Rattle.iden_files.specs.Refusal.{refused, TakesNoMemory};
 ghost use Rattle.iden_files.specs.ReadR1cs.{field_of, sizes_of};
 ghost use Rattle.iden_files.specs.Sizes.{AreAllowed};
 ghost use Rattle.iden_files.specs.Views.{section};
@@ -28,6 +28,7 @@ pub fn field_of(size: usize, found: &FoundSection<'_>) -> Result<(), FileFault>
     requires { 12 ≤ size }
     ensures field { Gives refused (λ _. tt) result (field_of size (section found.now)) }
     ensures whole { OnOk result (length found.now.body.rest.now ≡ size) }
+    ensures memory { TakesNoMemory result }
 {
     let body = found.body.rest;
     let place = found.body.offset();
@@ -62,6 +63,7 @@ pub fn field_of(size: usize, found: &FoundSection<'_>) -> Result<(), FileFault>
 pub fn sizes_of(found: &FoundSection<'_>) -> Result<Sizes, FileFault>
     ensures sizes { Gives refused (λ s. s) result (sizes_of (section found.now)) }
     ensures allowed { IfOk result AreAllowed }
+    ensures memory { TakesNoMemory result }
 {
     field_of(40, found)?;
     let body = found.body.rest;

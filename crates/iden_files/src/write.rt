@@ -5,9 +5,9 @@ ghost use Rattle.iden_files.specs.Limits.{most_constraints, most_terms, most_wir
 ghost use Rattle.iden_files.specs.File.{InLimits, IsForm, HasForms, term_count};
 ghost use Rattle.iden_files.specs.ReadR1cs.{r1cs_of};
 ghost use Rattle.iden_files.specs.ReadWtns.{wtns_of};
-ghost use Rattle.iden_files.specs.Spelling.{header_bytes, section, section_head, field_bytes};
-ghost use Rattle.iden_files.specs.Spelling.{sizes_bytes, term_bytes, form_bytes, constraint_bytes};
-ghost use Rattle.iden_files.specs.Spelling.{r1cs_bytes, wtns_bytes};
+ghost use Rattle.iden_files.specs.Spelling.{header_bytes, section_bytes, section_head};
+ghost use Rattle.iden_files.specs.Spelling.{field_bytes, sizes_bytes, term_bytes, form_bytes};
+ghost use Rattle.iden_files.specs.Spelling.{constraint_bytes, r1cs_bytes, wtns_bytes};
 
 use crate::limits::{MAX_CONSTRAINTS, MAX_TERMS, MAX_WIRES};
 use crate::r1cs::R1cs;
@@ -73,7 +73,7 @@ fn put_field(out: &mut Vec<u8>) -> Result<(), AllocError>
 fn put_sizes(out: &mut Vec<u8>, file: &R1cs) -> Result<(), AllocError>
     requires { InLimits file.now }
     ensures bytes { OnOk result
-        (out.new.items ≡ out.old.items ++ section 1 (sizes_bytes file.now)) }
+        (out.new.items ≡ out.old.items ++ section_bytes 1 (sizes_bytes file.now)) }
     ensures fits { OnOk result (file.now.label_count < 2 ^ 64) }
 {
     put_section_head(out, 1, 40)?;
@@ -88,7 +88,7 @@ fn put_sizes(out: &mut Vec<u8>, file: &R1cs) -> Result<(), AllocError>
 
 fn put_value_count(out: &mut Vec<u8>, count: u32) -> Result<(), AllocError>
     ensures { OnOk result
-        (out.new.items ≡ out.old.items ++ section 1 (field_bytes ++ to_le_bytes w32 count)) }
+        (out.new.items ≡ out.old.items ++ section_bytes 1 (field_bytes ++ to_le_bytes w32 count)) }
 {
     put_section_head(out, 1, 16)?;
     put_field(out)?;
@@ -99,7 +99,8 @@ fn put_constraint_section(out: &mut Vec<u8>, constraints: &[Constraint]) -> Resu
     requires few { length constraints.now ≤ most_constraints }
     requires terms { sum_by term_count constraints.now ≤ most_terms }
     ensures bytes { OnOk result
-        (out.new.items ≡ out.old.items ++ section 2 (flat_map constraint_bytes constraints.now)) }
+        (out.new.items ≡ out.old.items
+        ++ section_bytes 2 (flat_map constraint_bytes constraints.now)) }
     ensures forms { OnOk result (All HasForms constraints.now) }
 {
     let counts = 3 * constraints.len() as u64;
@@ -173,7 +174,7 @@ fn put_term(out: &mut Vec<u8>, t: Term) -> Result<(), AllocError>
 fn put_label_section(out: &mut Vec<u8>, labels: &[u64]) -> Result<(), AllocError>
     requires { length labels.now ≤ most_wires }
     ensures bytes { OnOk result
-        (out.new.items ≡ out.old.items ++ section 3 (flat_map (to_le_bytes w64) labels.now)) }
+        (out.new.items ≡ out.old.items ++ section_bytes 3 (flat_map (to_le_bytes w64) labels.now)) }
     ensures fits { All (λ n. n < 2 ^ 64) labels.now }
 {
     put_section_head(out, 3, 8 * labels.len() as u64)?;
@@ -192,7 +193,7 @@ fn put_labels(out: &mut Vec<u8>, labels: &[u64]) -> Result<(), AllocError>
 fn put_value_section(out: &mut Vec<u8>, values: &[Gold]) -> Result<(), AllocError>
     requires { length values.now ≤ most_wires }
     ensures bytes { OnOk result
-        (out.new.items ≡ out.old.items ++ section 2 (flat_map (to_le_bytes w64) values.now)) }
+        (out.new.items ≡ out.old.items ++ section_bytes 2 (flat_map (to_le_bytes w64) values.now)) }
     ensures below { OnOk result (All (λ v. v < P) values.now) }
 {
     put_section_head(out, 2, 8 * values.len() as u64)?;

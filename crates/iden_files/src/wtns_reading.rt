@@ -1,8 +1,8 @@
 ghost use Rattle.std.specs.Prelude.{◌≡◌, ◌≤◌, length, IfOk};
 ghost use Rattle.binary_format.specs.Reading.{Gives, Reads, repeated};
 ghost use Rattle.iden_files.specs.Limits.{most_wires};
-ghost use Rattle.iden_files.specs.Refusal.{refused};
-ghost use Rattle.iden_files.specs.Values.{value_at};
+ghost use Rattle.iden_files.specs.Refusal.{refused, TakesNoMemory};
+ghost use Rattle.iden_files.specs.Values.{number_at};
 ghost use Rattle.iden_files.specs.ReadWtns.{value_count, values_of, wtns_of};
 ghost use Rattle.iden_files.specs.Views.{section};
 
@@ -34,6 +34,7 @@ pub fn read_wtns(alloc: Global, bytes: &[u8]) -> Result<Vec<Gold>, FileFault>
 fn value_count(found: &FoundSection<'_>) -> Result<u32, FileFault>
     ensures count { Gives refused (λ n. n) result (value_count (section found.now)) }
     ensures few { IfOk result (λ n. n ≤ most_wires) }
+    ensures memory { TakesNoMemory result }
 {
     field_of(16, found)?;
     let count = u32_at(found.body.rest, 12);
@@ -67,7 +68,7 @@ fn repeated_values(
     count: u32,
 ) -> Result<Vec<Gold>, FileFault>
     ensures read { Reads refused (λ v. v.items) fields.new.rest.now result
-        (repeated (value_at fields.old.end) count fields.old.rest.now) }
+        (repeated (number_at fields.old.end) count fields.old.rest.now) }
     ensures len { IfOk result (λ v. length v.items ≡ count) }
 {
     let mut values = Vec::with_capacity(alloc, (count as usize).min(fields.rest.len() / 8))?;

@@ -2,7 +2,7 @@ use Rattle.std.proofs.Common.{◌≡◌, ◌++◌, subst}
 use Rattle.std.specs.Prelude.{OnOk}
 use Rattle.std.proofs.lemmas.Result.{on_ok_weaker}
 use Rattle.iden_files.specs.File.{File}
-use Rattle.iden_files.specs.Spelling.{section, sizes_bytes}
+use Rattle.iden_files.specs.Spelling.{section_bytes, sizes_bytes}
 use Rattle.iden_files.proofs.Append.{sizes_put}
 use Rattle.iden_files.proofs.write.put_sizes.Goals as goal
 
@@ -31,5 +31,5 @@ returns-clause-bytes c =
     let Q : File
     → Type 0 =
     λ g. OnOk c.put_u32-5.result (c.put_u32-5.new.out.items ≡ c.args.out.now.items
-    ++ section 1 (sizes_bytes g)) in
+    ++ section_bytes 1 (sizes_bytes g)) in
     subst Q c.file.view_is put

@@ -3,7 +3,7 @@ use Rattle.std.proofs.lemmas.Result.{err_from_is_err_and}
 use Rattle.std.proofs.lemmas.List.{length_push}
 use Rattle.binary_format.specs.Reading.{repeated}
 use Rattle.binary_format.proofs.Loop.{goes_on}
-use Rattle.iden_files.specs.Values.{value_at}
+use Rattle.iden_files.specs.Values.{number_at}
 use Rattle.iden_files.proofs.FieldLoop.{field_fails}
 use Rattle.iden_files.proofs.wtns_reading.repeated_values.Goals as goal
 
@@ -11,7 +11,7 @@ pub returns-in_err-v-clause-read : goal.returns-in_err-v-clause-read
 returns-in_err-v-clause-read c =
     let p = err_from_is_err_and c.from_residual-in_err-v.result
     c.from_residual-in_err-v.ensures.1 in
-    let field = value_at c.args.fields.now.end in
+    let field = number_at c.args.fields.now.end in
     let read = rw c.loop.invariant.ends at c.in_err-v.ensures.read in
     rw (p.1, p.2)
     (field_fails field c.in_err-v.field-0.0 c.loop.values.items c.args.count c.loop.counter
@@ -20,7 +20,7 @@ returns-in_err-v-clause-read c =
 
 pub loop-preserved : goal.loop-preserved
 loop-preserved c =
-    let field = value_at c.args.fields.now.end in
+    let field = number_at c.args.fields.now.end in
     let inv = c.loop.invariant in
     let read = rw inv.ends at c.in_ok-v.ensures.read in
     record {
