@@ -137,11 +137,12 @@ dimension_tokens (tree.more e es) =
     token.Symbol symbol.OpenBracket
     ∷ (tokens_of e ++ token.Symbol symbol.CloseBracket ∷ dimension_tokens es)
 
--- with commas between them
+-- each behind a comma
 abbrev pub further_tokens : {A : Type 0} → (A → List TokenKind) → List A → List TokenKind
 further_tokens print [] = []
 further_tokens print (x ∷ xs) = token.Symbol symbol.Comma ∷ (print x ++ further_tokens print xs)
 
+-- with commas between them
 abbrev pub list_tokens : {A : Type 0} → (A → List TokenKind) → List A → List TokenKind
 list_tokens print [] = []
 list_tokens print (x ∷ xs) = print x ++ further_tokens print xs

@@ -1,4 +1,4 @@
--- Which trees are shaped as the grammar wants, and how high a tree is.
+-- Which trees are shaped as the grammar wants.
 use Rattle.std.specs.Prelude.{◌≡◌, ◌≢◌, ℕ, ◌+◌, ◌≤◌, Bool, true, false, List, [], ◌∷◌, length}
 use Rattle.std.specs.Prelude.{Option, Some, None}
 use Rattle.cir_ast.specs.declared.operators.Binary.{Binary as BinaryOp}

@@ -12,7 +12,7 @@ use Rattle.cir_lexer.specs.Class.{class_of, first_class, words_from, symbols_fro
 use Rattle.cir_lexer.specs.Spelling.{is_identifier, IsSpelling}
 use Rattle.cir_lexer.specs.Reading.{BeginsComment}
 use Rattle.cir_lexer.specs.declared.class.Class.{Class}
-use Rattle.cir_token.specs.Spelling.{reserved_bytes, symbol_bytes}
+use Rattle.cir_token.specs.Spelling.{reserved_bytes, symbol_bytes, all_reserved, all_symbols}
 use Rattle.cir_token.specs.declared.token.TokenKind.{TokenKind}
 use Rattle.cir_token.specs.declared.token.TokenKind.TheVariants as token
 use Rattle.cir_token.specs.declared.token.Symbol.{Symbol}
@@ -23,7 +23,6 @@ use Rattle.std.proofs.lemmas.Slice.Eq.{starts_is, bytes_eq-Decides}
 use Rattle.std.proofs.lemmas.List.Elements.{All-nil, All-cons, All-head, All-tail}
 use Rattle.std.proofs.lemmas.List.Sums.{AllPass-from_list_all}
 use Rattle.cir_lexer.specs.Lengths.{IsLongestSymbol}
-use Rattle.cir_token.specs.declared.spelling.TheConstants.{SYMBOLS, RESERVED_WORDS}
 use Rattle.cir_lexer.specs.declared.class.Class.TheVariants as class
 use Rattle.cir_token.specs.declared.token.Symbol.TheVariants as symbol
 use Rattle.cir_token.specs.declared.token.Reserved.TheVariants as word
@@ -163,14 +162,14 @@ abbrev is_symbol : List ℕ → Symbol → Bool
 is_symbol bytes s = pointwise nat_eq (symbol_bytes s) bytes
 
 abbrev pub word_of : List ℕ → Option Reserved
-word_of bytes = find (is_word bytes) RESERVED_WORDS
+word_of bytes = find (is_word bytes) all_reserved
 
 pub word_back : (w : Reserved) → word_of (reserved_bytes w) ≡ Some w
 word_back word.Pragma = refl
 word_back _ = refl
 
 abbrev pub symbol_of : List ℕ → Option Symbol
-symbol_of bytes = find (is_symbol bytes) SYMBOLS
+symbol_of bytes = find (is_symbol bytes) all_symbols
 
 pub symbol_back : (s : Symbol) → symbol_of (symbol_bytes s) ≡ Some s
 symbol_back symbol.ConstrainLeft = refl
@@ -179,11 +178,11 @@ symbol_back _ = refl
 find_word : (name : List ℕ) (r : Option Reserved) → r ≡ word_of name
     → MatchOption r ((w : Reserved) → name ≢ reserved_bytes w) (λ w. name ≡ reserved_bytes w)
 find_word name None e = λ w o.
-    let fails = found_is (is_word (reserved_bytes w)) (λ v. is_word name v ≡ false) RESERVED_WORDS w
-    (none_found (is_word name) RESERVED_WORDS (sym e)) (word_back w) in
+    let fails = found_is (is_word (reserved_bytes w)) (λ v. is_word name v ≡ false) all_reserved w
+    (none_found (is_word name) all_reserved (sym e)) (word_back w) in
     false≢true (sym fails.0 ∙ (bytes_eq-Decides (reserved_bytes w) name).1 (sym o))
 find_word name (Some w) e =
-    let found = found_is (is_word name) (λ v. ⊤) RESERVED_WORDS w (λ k d l. tt) (sym e) in
+    let found = found_is (is_word name) (λ v. ⊤) all_reserved w (λ k d l. tt) (sym e) in
     sym (same_text _ _ (sym found.1))
 
 -- the reserved word among those with the first byte of the name
@@ -194,7 +193,7 @@ reserved_is name words r f e = find_word name r
     (e ∙ ap (find (is_word name)) f
     ∙ find_filter (is_word name) (λ w. get_or (reserved_bytes w) 0 0 == get_or name 0 0)
     (λ w t. (Decides-eqb (get_or (reserved_bytes w) 0 0) (get_or name 0 0)).1
-    (ap (λ b. get_or b 0 0) (same_text (reserved_bytes w) name (sym t)))) RESERVED_WORDS)
+    (ap (λ b. get_or b 0 0) (same_text (reserved_bytes w) name (sym t)))) all_reserved)
 
 module _ (text : List ℕ) where
   -- the text begins with this symbol
@@ -207,18 +206,18 @@ module _ (text : List ℕ) where
   begins_is s = starts_is Decides-eqb text (symbol_bytes s) (begins s) refl
 
   -- the first symbol of the table that the text begins with is the longest
-  first_symbol : (r : Option Symbol) → r ≡ find begins SYMBOLS
+  first_symbol : (r : Option Symbol) → r ≡ find begins all_symbols
       → MatchOption r ((s : Symbol) (after : List ℕ) → text ≢ symbol_bytes s ++ after)
       (λ s. IsLongestSymbol text s)
   first_symbol None e = λ s after o.
-      let fails = found_is (is_symbol (symbol_bytes s)) (λ t. begins t ≡ false) SYMBOLS s
-      (none_found begins SYMBOLS (sym e)) (symbol_back s) in
+      let fails = found_is (is_symbol (symbol_bytes s)) (λ t. begins t ≡ false) all_symbols s
+      (none_found begins all_symbols (sym e)) (symbol_back s) in
       false≢true (sym fails.0 ∙ (begins_is s).1 after o)
   first_symbol (Some s) e =
       record {
-        begins = (begins_is s).0 (found_is begins (λ t. ⊤) SYMBOLS s (λ k d l. tt) (sym e)).1;
+        begins = (begins_is s).0 (found_is begins (λ t. ⊤) all_symbols s (λ k d l. tt) (sym e)).1;
         longest = λ other rest o.
-            find_longest begins (is_symbol (symbol_bytes other)) SYMBOLS s other refl (sym e)
+            find_longest begins (is_symbol (symbol_bytes other)) all_symbols s other refl (sym e)
             (symbol_back other) ((begins_is other).1 rest o);
       }
 
@@ -235,7 +234,8 @@ module _ (text : List ℕ) where
       (λ s. IsLongestSymbol text s)
   symbol_is symbols r f e = first_symbol r
       (e ∙ ap (find begins) f
-      ∙ find_filter begins (λ s. get_or (symbol_bytes s) 0 0 == get_or text 0 0) same_first SYMBOLS)
+      ∙ find_filter begins (λ s. get_or (symbol_bytes s) 0 0 == get_or text 0 0) same_first
+      all_symbols)
 
 -- numbers grow with their digits
 number_grows : (base : ℕ) (digits : List ℕ) (n : ℕ) → 1 ≤ base

@@ -12,7 +12,7 @@ ghost use Rattle.cir_lexer.specs.Reading.{Reads, IsReading};
 ghost use Rattle.cir_token.specs.declared.token.Token.{Token as TheToken};
 ghost use Rattle.cir_lexer.specs.declared.fault.LexFault.{LexFault as TheFault};
 
-pub use cir_token::{LexCause, RESERVED_WORDS, Reserved, SYMBOLS, Symbol, Text, Token, TokenKind};
+pub use cir_token::{LexCause, Reserved, Symbol, Text, Token, TokenKind};
 pub use fault::LexFault;
 use std::alloc::Global;
 

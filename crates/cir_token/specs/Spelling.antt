@@ -1,5 +1,5 @@
 -- How reserved words and symbols are spelled.
-use Rattle.std.specs.Prelude.{ℕ, List, codes}
+use Rattle.std.specs.Prelude.{ℕ, List, [], ◌∷◌, codes}
 use Rattle.cir_token.specs.declared.token.Reserved.{Reserved}
 use Rattle.cir_token.specs.declared.token.Reserved.TheVariants as word
 use Rattle.cir_token.specs.declared.token.Symbol.{Symbol}
@@ -81,3 +81,26 @@ symbol_bytes symbol.OpenBracket = codes "["
 symbol_bytes symbol.CloseBracket = codes "]"
 symbol_bytes symbol.OpenBrace = codes "{"
 symbol_bytes symbol.CloseBrace = codes "}"
+
+-- every reserved word
+abbrev pub all_reserved : List Reserved
+all_reserved =
+    word.Pragma ∷ word.Include ∷ word.Template ∷ word.Function ∷ word.Parallel ∷ word.Component ∷
+    word.Main ∷ word.Public ∷ word.Signal ∷ word.Input ∷ word.Output ∷ word.Var ∷ word.If ∷
+    word.Else ∷ word.For ∷ word.While ∷ word.Return ∷ word.Assert ∷ word.Log ∷ word.Bus ∷ []
+
+-- every symbol, the longest first
+abbrev pub all_symbols : List Symbol
+all_symbols =
+    symbol.ConstrainLeft ∷ symbol.ConstrainRight ∷ symbol.AssignLeft ∷ symbol.AssignRight ∷
+    symbol.Constrain ∷ symbol.StarStarEqual ∷ symbol.ShiftLeftEqual ∷ symbol.ShiftRightEqual ∷
+    symbol.PlusEqual ∷ symbol.MinusEqual ∷ symbol.StarEqual ∷ symbol.SlashEqual ∷
+    symbol.BackslashEqual ∷ symbol.PercentEqual ∷ symbol.AmpersandEqual ∷ symbol.BarEqual ∷
+    symbol.CaretEqual ∷ symbol.AmpersandAmpersand ∷ symbol.BarBar ∷ symbol.EqualEqual ∷
+    symbol.BangEqual ∷ symbol.LessEqual ∷ symbol.GreaterEqual ∷ symbol.ShiftLeft ∷
+    symbol.ShiftRight ∷ symbol.StarStar ∷ symbol.PlusPlus ∷ symbol.MinusMinus ∷ symbol.Less ∷
+    symbol.Greater ∷ symbol.Plus ∷ symbol.Minus ∷ symbol.Star ∷ symbol.Slash ∷ symbol.Backslash ∷
+    symbol.Percent ∷ symbol.Ampersand ∷ symbol.Bar ∷ symbol.Caret ∷ symbol.Bang ∷ symbol.Tilde ∷
+    symbol.Equal ∷ symbol.Question ∷ symbol.Colon ∷ symbol.Comma ∷ symbol.Semicolon ∷ symbol.Dot ∷
+    symbol.OpenParenthesis ∷ symbol.CloseParenthesis ∷ symbol.OpenBracket ∷ symbol.CloseBracket ∷
+    symbol.OpenBrace ∷ symbol.CloseBrace ∷ []

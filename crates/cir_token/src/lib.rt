@@ -4,6 +4,5 @@
 mod spelling;
 mod token;
 
-pub use spelling::{RESERVED_WORDS, SYMBOLS};
 pub use text::Text;
 pub use token::{LexCause, Reserved, Symbol, Token, TokenKind};

@@ -2,71 +2,7 @@
 ghost use Rattle.std.specs.Prelude.{◌≡◌};
 ghost use Rattle.cir_token.specs.Spelling.{reserved_bytes, symbol_bytes};
 
-use crate::token::Reserved::*;
 use crate::token::{Reserved, Symbol};
-
-/// Every reserved word.
-pub const RESERVED_WORDS: [Reserved; 20] = [
-    Pragma, Include, Template, Function, Parallel, Component, Main, Public, Signal, Input, Output,
-    Var, If, Else, For, While, Return, Assert, Log, Bus,
-];
-
-/// Every symbol, the longest first.
-pub const SYMBOLS: [Symbol; 53] = [
-    Symbol::ConstrainLeft,
-    Symbol::ConstrainRight,
-    Symbol::AssignLeft,
-    Symbol::AssignRight,
-    Symbol::Constrain,
-    Symbol::StarStarEqual,
-    Symbol::ShiftLeftEqual,
-    Symbol::ShiftRightEqual,
-    Symbol::PlusEqual,
-    Symbol::MinusEqual,
-    Symbol::StarEqual,
-    Symbol::SlashEqual,
-    Symbol::BackslashEqual,
-    Symbol::PercentEqual,
-    Symbol::AmpersandEqual,
-    Symbol::BarEqual,
-    Symbol::CaretEqual,
-    Symbol::AmpersandAmpersand,
-    Symbol::BarBar,
-    Symbol::EqualEqual,
-    Symbol::BangEqual,
-    Symbol::LessEqual,
-    Symbol::GreaterEqual,
-    Symbol::ShiftLeft,
-    Symbol::ShiftRight,
-    Symbol::StarStar,
-    Symbol::PlusPlus,
-    Symbol::MinusMinus,
-    Symbol::Less,
-    Symbol::Greater,
-    Symbol::Plus,
-    Symbol::Minus,
-    Symbol::Star,
-    Symbol::Slash,
-    Symbol::Backslash,
-    Symbol::Percent,
-    Symbol::Ampersand,
-    Symbol::Bar,
-    Symbol::Caret,
-    Symbol::Bang,
-    Symbol::Tilde,
-    Symbol::Equal,
-    Symbol::Question,
-    Symbol::Colon,
-    Symbol::Comma,
-    Symbol::Semicolon,
-    Symbol::Dot,
-    Symbol::OpenParenthesis,
-    Symbol::CloseParenthesis,
-    Symbol::OpenBracket,
-    Symbol::CloseBracket,
-    Symbol::OpenBrace,
-    Symbol::CloseBrace,
-];
 
 impl Reserved {
     /// The word as a source has it.
