@@ -62,6 +62,7 @@ main_context p size m = record {
 abbrev pub main_state : State
 main_state = record { frame = begun [] 0 0 0; world = empty_world }
 
+-- main is the first of the 256 templates that may be open, so 255 more may be
 abbrev pub exec_main : Program → ℕ → Main → Meant → Tried (Signals × World)
 exec_main p size m (meant.Template t) =
     let w : Where = at (main_context p size m) m.spot in

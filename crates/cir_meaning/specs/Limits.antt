@@ -9,7 +9,8 @@ use Rattle.cir_ast.specs.declared.refusal.Which.TheVariants.{Cells, Steps, Nodes
 use Rattle.cir_meaning.specs.Tried.{Where, Tried, refused}
 use Rattle.cir_meaning.specs.Places.{elements}
 
--- `elements` is the size of the first array that is too large, or 0
+-- `elements` is the size of the first array, or of the first function that runs, that is too large,
+-- or 0
 pub record Counts : Type 0 where
   pub signals : ℕ
   pub constraints : ℕ

@@ -2,9 +2,9 @@
 -- that their dimensions are numbers as they are written, and that array literals stand where they
 -- may.
 use Rattle.std.specs.Prelude.{ℕ, zero, suc, ◌+◌, ◌-◌, ◌==◌, ◌^◌, Bool, true, false, not, ◌&&◌, ◌||◌}
-use Rattle.std.specs.Prelude.{if◌then◌else◌, nat_le, List, [], ◌∷◌, ◌++◌, map, filter, flat_map}
+use Rattle.std.specs.Prelude.{if◌then◌else◌, List, [], ◌∷◌, ◌++◌, map, filter, flat_map}
 use Rattle.std.specs.Prelude.{length, Option, Some, None, is_none, slice_get, unwrap_or, bytes_eq}
-use Rattle.std.specs.List.{list_any, list_all}
+use Rattle.std.specs.List.{list_any}
 use Rattle.cir_ast.specs.declared.program.Spot.{Spot}
 use Rattle.cir_ast.specs.declared.program.Meant.{Meant}
 use Rattle.cir_ast.specs.declared.program.Meant.TheVariants as meant
@@ -57,7 +57,7 @@ pub record RankedCall : Type 0 where
 abbrev pub same_call : RankedCall → RankedCall → Bool
 same_call c d = (c.function == d.function) && bytes_eq c.ranks d.ranks
 
--- what is reached from calls, each once, round by round; `rounds` is more than there are such calls
+-- what is reached from calls, each once, round by round; `rounds` are more than a machine makes
 abbrev pub new_ones : {A : Type 0} → (A → A → Bool) → List A → List A → List A
 new_ones same known [] = []
 new_ones same known (a ∷ as') =
@@ -78,16 +78,16 @@ abbrev pub all_reached : {A : Type 0} → (A → A → Bool) → (A → List A) 
 all_reached same calls first =
     let start : List _ = new_ones same [] first in reached rounds same calls start start
 
--- the first rule. Ranks above 300 aren't followed.
+-- the first rule. A call with an array literal among its arguments breaks the third rule, and isn't
+-- followed.
 abbrev pub ranked_calls : Program → RankedCall → List RankedCall
 ranked_calls p c =
-    filter (λ d. list_all (λ r. nat_le r 300) d.ranks) (map
-    (λ d. record {
+    map (λ d. record {
       function = d.function;
       ranks = map
           (rank_of (variable_rank c.ranks (all_variables (body_of p c.function)))) d.arguments;
     })
-    (calls_in (body_of p c.function)))
+    (filter (λ d. not (list_any is_literal d.arguments)) (calls_in (body_of p c.function)))
 
 abbrev pub returns_array : Program → RankedCall → Bool
 returns_array p c =

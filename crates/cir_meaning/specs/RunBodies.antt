@@ -201,6 +201,7 @@ input_wires size sizes inputs signals n k = of_entry (entry_at signals n)
         if is_input e.direction then slice_get inputs (final_number size sizes (e.first + k) -
         (1 + sizes.outputs)) else None
 
+-- main is the first of the 256 templates that may be open, so 255 more may be
 abbrev pub run_program : Program → (size fuel : ℕ) → Main → Meant → (given : Wires)
     → RunTried Outcome
 run_program p size fuel m (meant.Template t) given =
