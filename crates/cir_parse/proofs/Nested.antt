@@ -22,8 +22,7 @@ use Rattle.cir_parse.specs.Reading.{if_by, statement_by, statement, block}
 use Rattle.cir_simple_statement.proofs.Parts.{Of, each_shaped, each_low, words_all}
 use Rattle.cir_simple_statement.proofs.Declared.{IsLow, expression_of}
 use Rattle.cir_simple_statement.proofs.Declared.{variable_sound, IsLowAssign, assign_sound}
-use Rattle.cir_simple_statement.proofs.Declared.{IsLowSimple}
-use Rattle.cir_simple_statement.proofs.Written.{simple_sound}
+use Rattle.cir_simple_statement.proofs.Declared.{IsLowSimple, simple_sound}
 use Rattle.cir_parse.proofs.Sequence.{All, nothing, just, all, all_map, and_then, or_else, word_all}
 use Rattle.cir_parse.proofs.Sequence.{symbol_all, closed_all, Behind, after_all, Inside}
 use Rattle.cir_parse.proofs.Sequence.{enclosed_all, separated_all, optional_all}

@@ -19,8 +19,7 @@ use Rattle.cir_expression.proofs.Front.{not_start, expression_starts}
 use Rattle.cir_expression.proofs.Undo.{expression_undo}
 use Rattle.cir_simple_statement.specs.Front.{words_at}
 use Rattle.cir_simple_statement.proofs.Parts.{Undoes, optional_undo, each_of}
-use Rattle.cir_simple_statement.proofs.Undone.{variables_undo, assign_undo}
-use Rattle.cir_simple_statement.proofs.Unwritten.{simple_undo}
+use Rattle.cir_simple_statement.proofs.Undone.{variables_undo, assign_undo, simple_undo}
 use Rattle.cir_parse.specs.Marking.{step_on, first_on, marked, all_marked}
 use Rattle.cir_parse.specs.Reading.{argument, first, condition, head, simply, plain, statements_by}
 use Rattle.cir_parse.specs.Reading.{if_by, statement}

@@ -10,6 +10,6 @@ mod marks;
 mod parsing;
 mod statements;
 
-pub use fault::{MAX_HEIGHT, ParseFault};
-pub use marks::{Marks, Nothing, Spots};
+pub use fault::ParseFault;
+pub use marks::{Marks, Spots};
 pub use parsing::{parse, parse_marked};

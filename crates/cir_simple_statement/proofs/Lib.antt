@@ -3,5 +3,3 @@ pub mod Parts
 pub mod Seen
 pub mod Steps
 pub mod Undone
-pub mod Unwritten
-pub mod Written

@@ -21,16 +21,6 @@ pub exits : {X Y : Type 0} (view : X → Y) (r : Result X Stop) (stop : Stop) (r
 exits view (Ok x) stop rest reading h s = absurd h
 exits view (Err e) stop rest reading h s = subst (λ (x : Stop). Stops x reading) (sym h) s
 
-pub refused_by : {A : Type 0} (stop : Stop) (reading other : Option A) → reading ≡ other
-    → Stops stop other → Stops stop reading
-refused_by NoTree reading other e s = e ∙ s
-refused_by OutOfMemory reading other e s = tt
-
-pub next_stops : {A B : Type 0} (stop : Stop) (o : Option A) (go : A → Option B) → Stops stop o
-    → Stops stop (next o go)
-next_stops NoTree o go e = ap (λ (o : Option _). next o go) e
-next_stops OutOfMemory o go e = tt
-
 pub minus_none : {n : ℕ} → n ≡ n - 0
 minus_none = omega arith
 

@@ -94,7 +94,7 @@ pub fn assign<N: Blank + Drop>(alloc: Global, reader: &mut Reader, room: u32) ->
 }
 
 /// What stands behind the first expression of a statement.
-#[tactic(auto, using(cir_ast::proofs::Rows::anonymous_is), unfolding(crate::specs::Reading::equation))]
+#[tactic(auto, using(crate::proofs::Seen::alone), unfolding(crate::specs::Reading::equation))]
 pub fn equation<N: Blank + Drop>(
     alloc: Global,
     reader: &mut Reader,
@@ -130,7 +130,7 @@ pub fn equation<N: Blank + Drop>(
 }
 
 /// A simple statement, without its `;`.
-#[tactic(auto, using(crate::proofs::Seen::variables_seen), unfolding(crate::specs::Reading::simple))]
+#[tactic(auto, using(crate::proofs::Seen::vars), unfolding(crate::specs::Reading::simple))]
 pub fn simple<N: Blank + Drop>(alloc: Global, reader: &mut Reader, room: u32) -> Read<Simple<N>>
     requires { room < 2 ^ 16 }
     ensures { Reads seen_simple result (kinds reader.new.rest.now)

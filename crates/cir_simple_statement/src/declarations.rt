@@ -81,7 +81,7 @@ impl<N: Blank + Drop> Element for DeclaredVariable<N> {
 
     ghost reading = { variable };
 
-    #[tactic(auto, using(crate::proofs::Seen::listed_seen), unfolding(crate::specs::Reading::variable))]
+    #[tactic(auto, using(crate::proofs::Seen::lists), unfolding(crate::specs::Reading::variable))]
     fn read(alloc: Global, reader: &mut Reader, room: u32) -> Read<DeclaredVariable<N>> {
         let name = reader.name(alloc)?;
         let dimensions = dimensions(alloc, reader, room)?;
@@ -132,7 +132,7 @@ impl<N: Blank + Drop> Element for DeclaredSignal<N> {
 
     ghost reading = { signal };
 
-    #[tactic(auto, using(crate::proofs::Seen::listed_seen), unfolding(crate::specs::Reading::signal))]
+    #[tactic(auto, using(crate::proofs::Seen::lists), unfolding(crate::specs::Reading::signal))]
     fn read(alloc: Global, reader: &mut Reader, room: u32) -> Read<DeclaredSignal<N>> {
         let name = reader.name(alloc)?;
         let dimensions = dimensions(alloc, reader, room)?;
@@ -183,7 +183,7 @@ impl<N: Blank + Drop> Element for DeclaredComponent<N> {
 
     ghost reading = { component };
 
-    #[tactic(auto, using(crate::proofs::Seen::listed_seen), unfolding(crate::specs::Reading::component))]
+    #[tactic(auto, using(crate::proofs::Seen::lists), unfolding(crate::specs::Reading::component))]
     fn read(alloc: Global, reader: &mut Reader, room: u32) -> Read<DeclaredComponent<N>> {
         let name = reader.name(alloc)?;
         let dimensions = dimensions(alloc, reader, room)?;
