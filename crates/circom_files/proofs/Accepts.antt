@@ -1,26 +1,13 @@
--- Proofs that are made are accepted, and what is accepted.
-use Rattle.std.proofs.Common.{◌≡◌, ◌≢◌, ◌==◌, ◌∙◌, ◌<◌, ◌↔◌, ℕ, Bool, true, false, List, All}
-use Rattle.std.proofs.Common.{length, slice_index, Option, Some, None, Result, Ok, Err, IfOk}
-use Rattle.std.proofs.Common.{if◌then◌else◌, refl, sym, ap, subst, arith}
-use Rattle.gold_field.specs.declared.gold.TheConstants.{P}
+-- What `prove` writes is accepted, and where `audit` ends well.
+use Rattle.std.proofs.Common.{◌≡◌, ◌≢◌, ◌∙◌, ◌↔◌, ℕ, List, Option, Result, Ok, Err, IfOk, refl, sym}
+use Rattle.std.proofs.Common.{ap, subst, arith}
 use Rattle.out_io.specs.Calls.{Told}
 use Rattle.out_io.specs.Contents.{Contents}
 use Rattle.out_io.proofs.Telling.{told_on}
 use Rattle.out_io.specs.declared.fault.IoFault.{IoFault}
-use Rattle.iden_files.specs.Failing.{first_failing_from}
-use Rattle.iden_files.specs.File.{File, IsFile, InLimits}
-use Rattle.lig_complete.proofs.Accepted.{accepted, none_is_refused}
-use Rattle.lig_complete.specs.Completeness.{IsWitness}
-use Rattle.lig_layout.specs.Layout.{vectors_of}
-use Rattle.lig_layout.specs.Laws.{publics_of}
-use Rattle.lig_proof.specs.Acceptance.{IsVerdict}
-use Rattle.lig_proof.specs.Proving.{AreMade}
+use Rattle.iden_files.specs.File.{InLimits}
 use Rattle.lig_proof.specs.declared.verdict.Verdict.{Verdict as Audited}
 use Rattle.lig_proof.specs.declared.verdict.Verdict.TheVariants as audits
-use Rattle.lig_proof.specs.declared.version.Version.{Version}
-use Rattle.lig_prover.specs.Refusing.{failing, refusal_of}
-use Rattle.lig_prover.specs.declared.fault.ProveFault.{ProveFault}
-use Rattle.lig_prover.specs.declared.fault.ProveFault.TheVariants as faults
 use Rattle.circom_words.specs.declared.answer.Verdict.{Verdict}
 use Rattle.circom_words.specs.declared.answer.Verdict.TheVariants.{CountsDiffer, WireZero}
 use Rattle.circom_words.specs.declared.answer.Verdict.TheVariants.{ConstraintFails, Satisfied}
@@ -28,12 +15,10 @@ use Rattle.circom_words.specs.Lines.{verdict_status}
 use Rattle.circom_words.specs.Proving.{audit_status}
 use Rattle.circom_words.specs.Words.{ProveOptions}
 use Rattle.circom_words.specs.declared.answer.Refusal.{Refusal}
-use Rattle.circom_files.specs.Accepted.{IsAccepted, IsAcceptedFor, IsProofOf, WritesProof}
-use Rattle.circom_files.specs.Check.{verdict, satisfaction}
+use Rattle.circom_files.specs.Accepted.{IsAccepted, IsProofOf, WritesProof}
 use Rattle.circom_files.specs.Proving.{Audits, FoundIn, IsAudited, IsProved, Proves, offer_of}
 use Rattle.circom_files.specs.Proving.{witness_of}
 use Rattle.circom_files.specs.Reply.{Reply, audited, proved}
-use Rattle.circom_files.specs.Satisfaction.{Satisfies}
 use Rattle.circom_files.specs.Steps.{StepsTo}
 use Rattle.circom_files.specs.Stops.{EndsBy}
 use Rattle.circom_files.specs.declared.reply.Reply.{Reply as CodeReply}
@@ -43,56 +28,7 @@ use Rattle.circom_files.specs.declared.outcome.Witness.{Witness}
 use Rattle.circom_files.specs.declared.outcome.Offer.{Offer}
 use Rattle.circom_files.specs.declared.outcome.Outcome.{Outcome}
 use Rattle.circom_files.specs.declared.outcome.Outcome.TheVariants.{Made, Unmade}
-use Rattle.circom_files.proofs.CheckLaws.{satisfied}
 use Rattle.circom_files.proofs.Once.{one_verdict}
-
--- why there is no proof, as the verdict on the values
-abbrev pub verdict_on : Option ProveFault → Verdict
-verdict_on None = Satisfied
-verdict_on (Some (faults.WrongLength has wants)) = CountsDiffer has wants
-verdict_on (Some faults.WireZero) = WireZero
-verdict_on (Some (faults.Unsatisfied constraint)) = ConstraintFails constraint
-verdict_on (Some faults.OutOfMemory) = Satisfied
-
-found_verdict : (found : Option ℕ) → satisfaction found ≡ verdict_on (failing found)
-found_verdict None = refl
-found_verdict (Some constraint) = refl
-
-moved : (a b : Bool) (found : Option ℕ) (has wants : ℕ)
-    → (if a then (if b then satisfaction found else WireZero) else CountsDiffer has wants)
-    ≡ verdict_on (if a then (if b then failing found else Some faults.WireZero)
-    else Some (faults.WrongLength has wants))
-moved true true found has wants = found_verdict found
-moved true false found has wants = refl
-moved false b found has wants = refl
-
-pub refusal_verdict : (f : File) (w : List ℕ) → verdict f w ≡ verdict_on (refusal_of f w)
-refusal_verdict f w =
-    moved (length w == f.wires) (slice_index w 0 == 1) (first_failing_from 0 w f.constraints)
-    (length w) f.wires
-
-witness_is : (f : File) (w : List ℕ) → All (λ v. v < P) w → verdict f w ≡ Satisfied → IsWitness f w
-witness_is f w numbers is =
-    let s : Satisfies f w = (satisfied f w).0 is in record {
-      count = s.assignment.counts;
-      numbers = numbers;
-      one = s.assignment.one;
-      holds = s.holds;
-    }
-
--- what is made of values that satisfy the file is accepted
-pub always_accepted : (version : Version) (w : Witness) (seed proof : List ℕ) → IsFile w.file
-    → InLimits w.file → All (λ v. v < P) w.values → verdict w.file w.values ≡ Satisfied
-    → AreMade version w.bytes w.file (vectors_of w.file w.values) seed proof
-    → IsAcceptedFor w proof
-always_accepted version w seed proof file limits numbers is made =
-    let witness = witness_is w.file w.values numbers is in
-    λ found. (
-      none_is_refused version w.bytes w.file w.values seed proof found file limits witness made,
-      λ e. subst
-          (IsVerdict w.bytes w.file (publics_of w.file w.values) proof) (sym e)
-          (accepted version w.bytes w.file w.values seed proof file limits witness made),
-    )
 
 -- nothing is found to be wrong with values that satisfy the file
 never_satisfied : (options : ProveOptions) (read : Result Witness Refusal) (v : Verdict)

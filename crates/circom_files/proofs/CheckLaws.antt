@@ -3,11 +3,12 @@ use Rattle.std.proofs.Common.{◌≡◌, ◌==◌, ℕ, zero, suc, ◌+◌, ◌<
 use Rattle.std.proofs.Common.{◌∷◌, length, slice_index, slice_get, Option, Some, None, IsSomeAnd}
 use Rattle.std.proofs.Common.{All, if◌then◌else◌, refl, ap, subst, ◌↔◌, arith}
 use Rattle.std.proofs.lemmas.Bool.Decides.{Decides-eqb}
-use Rattle.std.proofs.lemmas.List.Elements.{All-nil, All-cons, All-head, All-tail}
+use Rattle.std.proofs.lemmas.List.Elements.{All-head, All-tail}
 use Rattle.gold_field.specs.Form.{Holds}
 use Rattle.gold_field.specs.declared.form.Constraint.{Constraint}
 use Rattle.iden_files.specs.Failing.{is_satisfied, first_failing_from}
 use Rattle.iden_files.specs.File.{File}
+use Rattle.lig_complete.proofs.Answered.{all_hold}
 use Rattle.circom_files.specs.Check.{verdict, satisfaction}
 use Rattle.circom_files.specs.Satisfaction.{IsAssignment, Satisfies, IsLeastFailing, FailsFirstAt}
 use Rattle.circom_words.specs.declared.answer.Verdict.{Verdict}
@@ -102,13 +103,6 @@ Pass-from_all w (k ∷ ks) all zero lt = All-head (Holds (slice_index w)) k ks a
 Pass-from_all w (k ∷ ks) all (suc j) lt =
     Pass-from_all w ks (All-tail (Holds (slice_index w)) k ks all) j (omega arith)
 
-all_from_pass : (w : List ℕ) (ks : List Constraint) → Pass w ks (length ks)
-    → All (Holds (slice_index w)) ks
-all_from_pass w [] pass = All-nil (Holds (slice_index w))
-all_from_pass w (k ∷ ks) pass =
-    All-cons (Holds (slice_index w)) k ks (pass zero (omega arith))
-    (all_from_pass w ks (λ j lt. pass (suc j) (omega arith)))
-
 none_found : (w : List ℕ) (ks : List Constraint) (r : Option ℕ) → Pass w ks (length ks)
     → Found 0 w ks r → r ≡ None
 none_found w ks None pass found = refl
@@ -174,8 +168,7 @@ satisfied file values =
           (first_failing_from 0 values file.constraints) (length values) file.wires e in
           record {
             assignment = assignment_of file values tests.0 tests.1;
-            holds = all_from_pass values file.constraints
-                (subst (Found 0 values file.constraints) tests.2 search);
+            holds = all_hold 0 values file.constraints tests.2;
           }),
       (λ s. verdict_at file values None s.assignment
           (none_found values file.constraints _ (Pass-from_all values file.constraints s.holds)

@@ -12,3 +12,4 @@ pub mod Opened
 pub mod Messages
 pub mod Spelled
 pub mod Accepted
+pub mod Answered

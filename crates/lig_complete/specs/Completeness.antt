@@ -1,5 +1,6 @@
 -- Proofs that are made of values which satisfy the file are accepted.
-use Rattle.std.specs.Prelude.{◌≡◌, ℕ, ◌<◌, List, All, length, slice_index}
+use Rattle.std.specs.Prelude.{◌≡◌, ◌↔◌, ℕ, ◌<◌, List, All, length, slice_index, Result, IfOk, Vec}
+use Rattle.std.specs.declared.alloc.Global.{Global}
 use Rattle.gold_field.specs.Form.{Holds}
 use Rattle.gold_field.specs.declared.gold.TheConstants.{P}
 use Rattle.iden_files.specs.File.{File, IsFile, InLimits}
@@ -10,6 +11,8 @@ use Rattle.lig_proof.specs.declared.verdict.Verdict.{Verdict}
 use Rattle.lig_proof.specs.declared.verdict.Verdict.TheVariants.{Accepted}
 use Rattle.lig_proof.specs.Proving.{AreMade}
 use Rattle.lig_proof.specs.Acceptance.{IsVerdict}
+use Rattle.lig_prover.specs.Proves.{IsProofOrRefusal}
+use Rattle.lig_prover.specs.declared.fault.ProveFault.{ProveFault}
 
 -- values that satisfy a file: a number of the field for each wire, 1 for wire 0, and every
 -- constraint holds
@@ -32,3 +35,11 @@ NoneIsRefused = (version : Version) (r1cs_bytes : List ℕ) (f : File)
     (w seed bytes : List ℕ) (verdict : Verdict) → IsFile f → InLimits f → IsWitness f w
     → AreMade version r1cs_bytes f (vectors_of f w) seed bytes
     → IsVerdict r1cs_bytes f (publics_of f w) bytes verdict → verdict ≡ Accepted
+
+-- what `prove` and `prove2` answer is accepted, and has no other verdict
+abbrev pub AnswersAreAccepted : Type 0
+AnswersAreAccepted = (version : Version) (r1cs_bytes : List ℕ) (f : File) (w seed : List ℕ)
+    (result : Result (Vec ℕ Global) ProveFault) → IsFile f → InLimits f
+    → All (λ value. value < P) w → IsProofOrRefusal version r1cs_bytes f w seed result
+    → IfOk result (λ v. (verdict : Verdict)
+    → IsVerdict r1cs_bytes f (publics_of f w) v.items verdict ↔ (verdict ≡ Accepted))

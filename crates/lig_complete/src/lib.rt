@@ -4,10 +4,17 @@
 #![tactic(auto)]
 
 ghost use Rattle.lig_complete.specs.Completeness.{MadeProofsAreAccepted, NoneIsRefused};
+ghost use Rattle.lig_complete.specs.Completeness.{AnswersAreAccepted};
 
 /// A proof in either version that is made of values which satisfy the file is accepted, for the
 /// bytes of the same file and the public values among these values; and it has no other verdict.
 pub fn made_proofs_are_accepted()
     ensures accepted { MadeProofsAreAccepted }
     ensures only { NoneIsRefused }
+{}
+
+/// What `prove` and `prove2` answer, where they answer a proof, is accepted for the bytes of the
+/// same file and the public values among the values that were given; and it has no other verdict.
+pub fn answers_are_accepted()
+    ensures { AnswersAreAccepted }
 {}

@@ -1,5 +1,5 @@
-use Rattle.std.proofs.Common.{◌≡◌, ◌∙◌, ap, subst}
-use Rattle.circom_files.proofs.Accepts.{always_accepted, refusal_verdict, verdict_on}
+use Rattle.std.proofs.Common.{◌≡◌, Ok, subst}
+use Rattle.lig_complete.proofs.Answered.{answers_accepted}
 use Rattle.circom_files.specs.Accepted.{IsAcceptedFor}
 use Rattle.circom_files.proofs.prove.outcome_of.Goals as goal
 
@@ -8,7 +8,6 @@ returns-in-Ok-clause-accepted g c = λ proof is.
     let w = c.args.witness.now in
     let same : c.in-Ok.proof.items ≡ proof = cc in
     subst (IsAcceptedFor w) same
-    (always_accepted c.args.options.version w c.args.options.seed c.in-Ok.proof.items
-    c.proof_of.ensures.file c.requires.limits c.requires.numbers
-    (refusal_verdict w.file w.values ∙ ap verdict_on c.in-Ok.ensures.proved.satisfied)
-    c.in-Ok.ensures.proved.made)
+    (answers_accepted c.args.options.version w.bytes w.file w.values c.args.options.seed
+    (Ok c.in-Ok.proof) c.proof_of.ensures.file c.requires.limits c.requires.numbers
+    c.in-Ok.ensures.proved)
