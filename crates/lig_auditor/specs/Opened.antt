@@ -6,7 +6,7 @@ use Rattle.gold_ntt.specs.Polynomial.{sum_to, eval_at}
 use Rattle.lig_layout.specs.declared.params.Params.{Params}
 use Rattle.lig_layout.specs.Sizes.{IsParams}
 use Rattle.lig_proof.specs.Points.{code_point}
-use Rattle.lig_proof.specs.Columns.{row_value, code_mask_value, linear_mask_value}
+use Rattle.lig_proof.specs.Columns.{row_value, proximity_mask_value, linear_mask_value}
 use Rattle.lig_proof.specs.Columns.{product_mask_value}
 use Rattle.lig_proof.specs.Tests.{alpha, rho, polynomials_of}
 use Rattle.lig_proof.specs.Audit.{Audit, excess}
@@ -53,10 +53,10 @@ Agrees o polynomial f = (q : ℕ) → q < length o.columns.now
     → eval_at polynomial (code_point o.params.now (slice_index o.indices.now q)) ≡ f q
 
 -- what a column says of the polynomials of the tests
-abbrev pub code_value : Opening → ℕ → List ℕ → ℕ
-code_value o t column =
+abbrev pub proximity_value : Opening → ℕ → List ℕ → ℕ
+proximity_value o t column =
     let p = o.params.now in
-    (code_mask_value p column t
+    (proximity_mask_value p column t
     + sum_to p.rows (λ k. alpha p o.challenges.now t k * row_value column k)) % P
 
 abbrev pub product_value : Opening → ℕ → List ℕ → ℕ
@@ -77,9 +77,9 @@ abbrev pub rows_in : List (List ℕ) → ℕ → List ℕ
 rows_in rows k = slice_index_or rows k []
 
 -- what was sent for a repetition has the values of the columns
-abbrev pub CodesAgree : Opening → ℕ → Type 0
-CodesAgree o t = Agrees o ((polynomials_of o.params.now o.polys.now).code t)
-    (λ q. code_value o t (slice_index_or o.columns.now q []))
+abbrev pub ProximityAgrees : Opening → ℕ → Type 0
+ProximityAgrees o t = Agrees o ((polynomials_of o.params.now o.polys.now).proximity t)
+    (λ q. proximity_value o t (slice_index_or o.columns.now q []))
 
 abbrev pub ProductsAgree : Opening → ℕ → Type 0
 ProductsAgree o t = Agrees o ((polynomials_of o.params.now o.polys.now).product t)

@@ -6,7 +6,7 @@
 #![tactic(auto)]
 
 mod agreement;
-mod codes;
+mod codewords;
 mod opening;
 mod paths;
 mod products;

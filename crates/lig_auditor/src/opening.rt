@@ -58,12 +58,12 @@ pub fn column<'a>(opening: &Opening<'a>, q: usize) -> &'a [Gold]
     opening.columns[q].as_slice()
 }
 
-/// The polynomial that was sent for the codes, in a repetition.
-pub fn code_polynomial<'a>(opening: &Opening<'a>, t: usize) -> &'a [Gold]
+/// The polynomial that was sent to test that the rows are codewords, in a repetition.
+pub fn proximity_polynomial<'a>(opening: &Opening<'a>, t: usize) -> &'a [Gold]
     requires opening { IsOpening opening.now }
     requires repetition { t < 2 }
     ensures value { result.now
-        ≡ (polynomials_of opening.now.params.now opening.now.polys.now).code t }
+        ≡ (polynomials_of opening.now.params.now opening.now.polys.now).proximity t }
     ensures count { length result.now ≡ 2 * opening.now.params.now.l }
 {
     let l = opening.params.l as usize;

@@ -9,7 +9,7 @@ ghost use Rattle.lig_proof.specs.Audit.{IsTested};
 ghost use Rattle.lig_proof.specs.Proving.{AreSystems};
 ghost use Rattle.lig_auditor.specs.Opened.{IsOpening, audit_in};
 
-use crate::codes::proximity;
+use crate::codewords::proximity;
 use crate::opening::{Opening, points};
 use crate::products::{quad_column, quad_zero};
 use crate::right_sides::linear_sum;

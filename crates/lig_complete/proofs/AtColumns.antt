@@ -10,17 +10,17 @@ use Rattle.lig_layout.specs.Sizes.{IsParams}
 use Rattle.lig_proof.specs.declared.challenge.Challenges.{Challenges}
 use Rattle.lig_proof.specs.ProofBytes.{AreValues}
 use Rattle.lig_proof.specs.Points.{code_point}
-use Rattle.lig_proof.specs.Columns.{Encoded, column_at, row_value, code_mask_value}
+use Rattle.lig_proof.specs.Columns.{Encoded, column_at, row_value, proximity_mask_value}
 use Rattle.lig_proof.specs.Columns.{linear_mask_value, product_mask_value}
 use Rattle.lig_proof.specs.Tests.{Polynomials, in_order, polynomials_of, alpha, rho}
 use Rattle.lig_proof.specs.Tests.{sent_polynomials}
 use Rattle.lig_proof.specs.Audit.{Audit, Proximity, LinearColumn, QuadColumn, excess}
 use Rattle.lig_proof.specs.Values.{HasDegrees}
 use Rattle.lig_proof.proofs.Interpolants.{made_values}
-use Rattle.lig_proof.proofs.TestValues.{code_test_has_values, linear_test_has_values}
+use Rattle.lig_proof.proofs.TestValues.{proximity_test_has_values, linear_test_has_values}
 use Rattle.lig_proof.proofs.TestValues.{product_test_has_values}
-use Rattle.lig_complete.proofs.Columns.{row_is, code_is, linear_is, product_is}
-use Rattle.lig_complete.proofs.Places.{AreSent, code_part, linear_part, product_part}
+use Rattle.lig_complete.proofs.Columns.{row_is, proximity_is, linear_is, product_is}
+use Rattle.lig_complete.proofs.Places.{AreSent, proximity_part, linear_part, product_part}
 
 -- what an auditor tests, where these are sent and these columns are opened
 abbrev pub audit : Params → Challenges → Encoded → (ℕ → ℕ → List ℕ) → List ℕ → List ℕ → Audit
@@ -37,7 +37,7 @@ audit p c e system rights opened = record {
 pub are_sent : (p : Params) (c : Challenges) (e : Encoded) (system : ℕ → ℕ → List ℕ)
     → AreSent p (sent_polynomials p c e system)
 are_sent p c e system = record {
-  code = λ t low. made_values (2 * p.l) _;
+  proximity = λ t low. made_values (2 * p.l) _;
   linear = λ t low. made_values (3 * p.l) _;
   product = λ t low. made_values (4 * p.l) _;
 }
@@ -58,15 +58,15 @@ module _ (p : Params) (c : Challenges) (e : Encoded) (system : ℕ → ℕ → L
       let i = get_or opened q 0 in
       let x = code_point p i in
       let column = column_at p e i in
-      ap (λ (ys : List ℕ). eval_at ys x) (code_part p sent (are_sent p c e system) t low)
-      ∙ code_test_has_values p c e t x low degrees
+      ap (λ (ys : List ℕ). eval_at ys x) (proximity_part p sent (are_sent p c e system) t low)
+      ∙ proximity_test_has_values p c e t x low degrees
       ∙ sym (ap
       (λ (col : List ℕ).
-      (code_mask_value p col t + sum_to p.rows (λ k. alpha p c t k * row_value col k)) % P)
+      (proximity_mask_value p col t + sum_to p.rows (λ k. alpha p c t k * row_value col k)) % P)
       (column_of q inside)
       ∙ ap (λ (y : ℕ). (y + sum_to p.rows (λ k. alpha p c t k * row_value column k)) % P)
-      (code_is p e i t low)
-      ∙ ap (λ (y : ℕ). (eval_at (e.code t) x + y) % P)
+      (proximity_is p e i t low)
+      ∙ ap (λ (y : ℕ). (eval_at (e.proximity t) x + y) % P)
       (sum_same p.rows (λ k. alpha p c t k * row_value column k)
       (λ k. alpha p c t k * eval_at (e.row k) x)
       (λ k l. ap (λ (y : ℕ). alpha p c t k * y) (row_is p e i k l))))

@@ -12,8 +12,8 @@ use Rattle.gold_ntt.specs.Polynomial.{eval_at}
 use Rattle.lig_layout.specs.declared.params.Params.{Params}
 use Rattle.lig_proof.specs.ProofBytes.{AreValues}
 use Rattle.lig_proof.specs.Points.{code_point}
-use Rattle.lig_proof.specs.Columns.{Encoded, polynomials, column_at, row_value, code_mask_value}
-use Rattle.lig_proof.specs.Columns.{linear_mask_value, product_mask_value}
+use Rattle.lig_proof.specs.Columns.{Encoded, polynomials, column_at, row_value}
+use Rattle.lig_proof.specs.Columns.{proximity_mask_value, linear_mask_value, product_mask_value}
 
 module _ (p : Params) (e : Encoded) (i : ℕ) where
   abbrev value : List ℕ → ℕ
@@ -23,12 +23,12 @@ module _ (p : Params) (e : Encoded) (i : ℕ) where
   rows = map value (map e.row (range_with_len 0 p.rows))
 
   abbrev masks : List ℕ
-  masks = value (e.code 0) ∷ value (e.code 1) ∷ value (e.linear 0) ∷ value (e.linear 1)
+  masks = value (e.proximity 0) ∷ value (e.proximity 1) ∷ value (e.linear 0) ∷ value (e.linear 1)
       ∷ value (e.product 0) ∷ value (e.product 1) ∷ []
 
   parts : column_at p e i ≡ rows ++ masks
   parts = map-append value (map e.row (range_with_len 0 p.rows))
-      (e.code 0 ∷ e.code 1 ∷ e.linear 0 ∷ e.linear 1 ∷ e.product 0 ∷ e.product 1 ∷ [])
+      (e.proximity 0 ∷ e.proximity 1 ∷ e.linear 0 ∷ e.linear 1 ∷ e.product 0 ∷ e.product 1 ∷ [])
 
   length-rows : length rows ≡ p.rows
   length-rows = length-map (map e.row (range_with_len 0 p.rows)) value
@@ -48,11 +48,11 @@ module _ (p : Params) (e : Encoded) (i : ℕ) where
       ∙ ap (λ (n : ℕ). get_or (rows ++ masks) (n + j) 0) (sym (length-rows))
       ∙ get_or-append-add rows masks j 0
 
-  pub code_is : (t : ℕ) → t < 2 → code_mask_value p (column_at p e i) t
-      ≡ eval_at (e.code t) (code_point p i)
-  code_is zero low = mask_is 0
-  code_is (suc zero) low = mask_is 1
-  code_is (suc (suc t)) low = absurd (omega arith)
+  pub proximity_is : (t : ℕ) → t < 2 → proximity_mask_value p (column_at p e i) t
+      ≡ eval_at (e.proximity t) (code_point p i)
+  proximity_is zero low = mask_is 0
+  proximity_is (suc zero) low = mask_is 1
+  proximity_is (suc (suc t)) low = absurd (omega arith)
 
   pub linear_is : (t : ℕ) → t < 2 → linear_mask_value p (column_at p e i) t
       ≡ eval_at (e.linear t) (code_point p i)

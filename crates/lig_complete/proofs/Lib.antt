@@ -1,7 +1,7 @@
 pub mod Sizes
 pub mod Matrix
 pub mod Folding
-pub mod Codes
+pub mod MaskedRows
 pub mod Columns
 pub mod Places
 pub mod Solved

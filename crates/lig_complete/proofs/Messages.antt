@@ -33,8 +33,8 @@ use Rattle.lig_complete.specs.Completeness.{IsWitness}
 use Rattle.lig_complete.proofs.Sizes.{values_fit}
 use Rattle.lig_complete.proofs.Matrix.{row_place, x_at, y_at, z_at}
 use Rattle.lig_complete.proofs.Folding.{values_cancel}
-use Rattle.lig_complete.proofs.Codes.{numbers_below, code_at_message, row_mask_count, row_mask_low}
-use Rattle.lig_complete.proofs.Codes.{product_mask_zero}
+use Rattle.lig_complete.proofs.MaskedRows.{numbers_below, masked_row_at_message, row_mask_count}
+use Rattle.lig_complete.proofs.MaskedRows.{row_mask_low, product_mask_zero}
 use Rattle.lig_complete.proofs.Solved.{solved, length-right_sides}
 use Rattle.lig_complete.proofs.AtMessage.{AreMessages}
 
@@ -119,7 +119,8 @@ module _ (f : File) (w seed : List ℕ) (c : Challenges) (e : Encoded) (system :
       ≡ get_or values (k * (params_of f).l + j) 0
   row_has k j low inside =
       let p = params_of f in
-      code_at_message p (row_at p values k) (row_mask p seed k) (e.row k) j h (encoded.row k low)
+      masked_row_at_message p (row_at p values k) (row_mask p seed k) (e.row k) j h
+      (encoded.row k low)
       (row_mask_count p seed k) (row_mask_low p seed k) inside
       ∙ row_place p values k j inside
 

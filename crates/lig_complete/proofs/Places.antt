@@ -33,7 +33,7 @@ part a b c xs m n whole from size =
 
 -- polynomials with as many coefficients as are sent
 pub record AreSent (p : Params) (s : Polynomials) : Type 0 where
-  pub code : (t : ℕ) → t < 2 → AreValues (2 * p.l) (s.code t)
+  pub proximity : (t : ℕ) → t < 2 → AreValues (2 * p.l) (s.proximity t)
   pub linear : (t : ℕ) → t < 2 → AreValues (3 * p.l) (s.linear t)
   pub product : (t : ℕ) → t < 2 → AreValues (4 * p.l) (s.product t)
 
@@ -45,18 +45,18 @@ module _ (p : Params) (s : Polynomials) (sent : AreSent p s) where
       let l = p.l in
       let last = values_after (3 * l) (4 * l) (s.linear 1) (s.product 1) (sent.linear 1 one_low)
       (sent.product 1 one_low) in
-      let second = values_after (2 * l) (3 * l + 4 * l) (s.code 1) (s.linear 1 ++ s.product 1)
-      (sent.code 1 one_low) last in
+      let second = values_after (2 * l) (3 * l + 4 * l) (s.proximity 1) (s.linear 1 ++ s.product 1)
+      (sent.proximity 1 one_low) last in
       let third =
       values_after (4 * l) (2 * l + (3 * l + 4 * l)) (s.product 0)
-      (s.code 1 ++ (s.linear 1 ++ s.product 1)) (sent.product 0 zero_low) second in
+      (s.proximity 1 ++ (s.linear 1 ++ s.product 1)) (sent.product 0 zero_low) second in
       let fourth =
       values_after (3 * l) (4 * l + (2 * l + (3 * l + 4 * l))) (s.linear 0)
-      (s.product 0 ++ (s.code 1 ++ (s.linear 1 ++ s.product 1)))
+      (s.product 0 ++ (s.proximity 1 ++ (s.linear 1 ++ s.product 1)))
       (sent.linear 0 zero_low) third in
-      let all = values_after (2 * l) (3 * l + (4 * l + (2 * l + (3 * l + 4 * l)))) (s.code 0)
-      (s.linear 0 ++ (s.product 0 ++ (s.code 1 ++ (s.linear 1 ++ s.product 1))))
-      (sent.code 0 zero_low) fourth in
+      let all = values_after (2 * l) (3 * l + (4 * l + (2 * l + (3 * l + 4 * l)))) (s.proximity 0)
+      (s.linear 0 ++ (s.product 0 ++ (s.proximity 1 ++ (s.linear 1 ++ s.product 1))))
+      (sent.proximity 0 zero_low) fourth in
       let count = all.count in
       record { count = omega arith; each = all.each }
 
@@ -64,16 +64,16 @@ module _ (p : Params) (s : Polynomials) (sent : AreSent p s) where
   values = in_order s
 
   abbrev repetition : ℕ → List ℕ
-  repetition t = s.code t ++ (s.linear t ++ s.product t)
+  repetition t = s.proximity t ++ (s.linear t ++ s.product t)
 
   length-repetition : (t : ℕ) → t < 2 → length (repetition t) ≡ 9 * p.l
   length-repetition t low =
-      let code = (sent.code t low).count in
+      let proximity = (sent.proximity t low).count in
       let linear = (sent.linear t low).count in
       let product = (sent.product t low).count in
       omega (
         arith,
-        length-append (s.code t) (s.linear t ++ s.product t),
+        length-append (s.proximity t) (s.linear t ++ s.product t),
         length-append (s.linear t) (s.product t),
       )
 
@@ -97,40 +97,40 @@ module _ (p : Params) (s : Polynomials) (sent : AreSent p s) where
   around (suc zero) low = sym (simp (append_assoc, append-nil))
   around (suc (suc t)) low = absurd (omega arith)
 
-  pub code_part : (t : ℕ) → t < 2 → (polynomials_of p values).code t ≡ s.code t
-  code_part t low =
-      let code = (sent.code t low).count in
+  pub proximity_part : (t : ℕ) → t < 2 → (polynomials_of p values).proximity t ≡ s.proximity t
+  proximity_part t low =
+      let proximity = (sent.proximity t low).count in
       let rest = (s.linear t ++ s.product t) ++ behind t in
-      part (before t) (s.code t) rest values (t * (9 * p.l)) (2 * p.l)
+      part (before t) (s.proximity t) rest values (t * (9 * p.l)) (2 * p.l)
       (around t low
       ∙ ap (λ (ys : List ℕ). before t ++ ys)
-      (append_assoc (s.code t) (s.linear t ++ s.product t) (behind t)))
-      (sym (length-before t low)) (sym code)
+      (append_assoc (s.proximity t) (s.linear t ++ s.product t) (behind t)))
+      (sym (length-before t low)) (sym proximity)
 
   pub linear_part : (t : ℕ) → t < 2 → (polynomials_of p values).linear t ≡ s.linear t
   linear_part t low =
-      let code = (sent.code t low).count in
+      let proximity = (sent.proximity t low).count in
       let linear = (sent.linear t low).count in
-      part (before t ++ s.code t) (s.linear t) (s.product t ++ behind t) values
+      part (before t ++ s.proximity t) (s.linear t) (s.product t ++ behind t) values
       (t * (9 * p.l) + 2 * p.l) (3 * p.l)
-      (around t low ∙ regroup (before t) (s.code t) (s.linear t) (s.product t) (behind t))
-      (omega (arith, length-append (before t) (s.code t), length-before t low)) (sym linear)
+      (around t low ∙ regroup (before t) (s.proximity t) (s.linear t) (s.product t) (behind t))
+      (omega (arith, length-append (before t) (s.proximity t), length-before t low)) (sym linear)
     where
       regroup : (a b c d e : List ℕ) → a ++ ((b ++ (c ++ d)) ++ e) ≡ (a ++ b) ++ (c ++ (d ++ e))
       regroup a b c d e = simp append_assoc
 
   pub product_part : (t : ℕ) → t < 2 → (polynomials_of p values).product t ≡ s.product t
   product_part t low =
-      let code = (sent.code t low).count in
+      let proximity = (sent.proximity t low).count in
       let linear = (sent.linear t low).count in
       let product = (sent.product t low).count in
-      part (before t ++ (s.code t ++ s.linear t)) (s.product t) (behind t) values
+      part (before t ++ (s.proximity t ++ s.linear t)) (s.product t) (behind t) values
       (t * (9 * p.l) + 5 * p.l) (4 * p.l)
-      (around t low ∙ regroup (before t) (s.code t) (s.linear t) (s.product t) (behind t))
+      (around t low ∙ regroup (before t) (s.proximity t) (s.linear t) (s.product t) (behind t))
       (omega (
         arith,
-        length-append (before t) (s.code t ++ s.linear t),
-        length-append (s.code t) (s.linear t),
+        length-append (before t) (s.proximity t ++ s.linear t),
+        length-append (s.proximity t) (s.linear t),
         length-before t low,
       )) (sym product)
     where

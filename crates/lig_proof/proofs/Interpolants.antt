@@ -1,4 +1,4 @@
--- Each row has one polynomial, and each row under a mask one code.
+-- Each row has one polynomial, and each row under a mask one.
 use Rattle.std.proofs.Common.{◌≡◌, ℕ, zero, suc, ◌+◌, ◌-◌, ◌*◌, ◌%◌, ◌^◌, ◌<◌, ◌≤◌, List, [], ◌∷◌}
 use Rattle.std.proofs.Common.{length, map, get_or, refl, sym, ap, subst, ◌∙◌, arith, zero-add}
 use Rattle.std.proofs.Common.{⊎_elim}
@@ -17,7 +17,8 @@ use Rattle.lig_layout.specs.declared.params.Params.{Params}
 use Rattle.lig_layout.specs.Sizes.{IsParams}
 use Rattle.lig_proof.specs.ProofBytes.{AreValues}
 use Rattle.lig_proof.specs.Points.{width_log}
-use Rattle.lig_proof.specs.Encoding.{masked, RowsHavePolynomials, PolynomialsAreOne, CodesAreOne}
+use Rattle.lig_proof.specs.Encoding.{masked, RowsHavePolynomials, PolynomialsAreOne}
+use Rattle.lig_proof.specs.Encoding.{MaskedRowsAreOne}
 
 -- numbers of the field, one by one
 pub all_below : (xs : List ℕ) → ((k : ℕ) → k < length xs → get_or xs k 0 < P)
@@ -117,8 +118,8 @@ rows_have_polynomials p row h values =
       },
     )
 
-pub codes_are_one : CodesAreOne
-codes_are_one p row mask a b h first second =
+pub masked_rows_are_one : MaskedRowsAreOne
+masked_rows_are_one p row mask a b h first second =
     first.sum
     ∙ ap (λ base. masked p.l (2 * p.l) base mask)
     (polynomials_are_one p row first.polynomial second.polynomial h first.interpolates

@@ -22,10 +22,10 @@ use Rattle.lig_proof.specs.Transcript.{opened_columns}
 use Rattle.lig_proof.specs.Points.{code_point}
 use Rattle.lig_proof.specs.Masks.{row_mask}
 use Rattle.lig_proof.specs.Columns.{Encoded, polynomials, commitment}
-use Rattle.lig_proof.specs.Tests.{alpha, rho, r_numbers, in_order, code_test, linear_test}
+use Rattle.lig_proof.specs.Tests.{alpha, rho, r_numbers, in_order, proximity_test, linear_test}
 use Rattle.lig_proof.specs.Tests.{product_test, sent_polynomials}
 use Rattle.lig_proof.specs.Proving.{IsEncoded, AreSystems, challenges_for, bytes_in, ProofsAreOne}
-use Rattle.lig_proof.proofs.Interpolants.{codes_are_one, polynomials_are_one}
+use Rattle.lig_proof.proofs.Interpolants.{masked_rows_are_one, polynomials_are_one}
 
 -- lists of what two functions give, which agree from a up to below a + n
 range_same : {X : Type 0} (f g : ℕ → X) (a n : ℕ) → ((k : ℕ) → k < a + n → f k ≡ g k)
@@ -38,16 +38,17 @@ range_same f g a (suc n) same =
 -- the same polynomials, as far as they count
 pub record AreSame (p : Params) (a b : Encoded) : Type 0 where
   pub row : (k : ℕ) → k < p.rows → a.row k ≡ b.row k
-  pub code : (t : ℕ) → t < 2 → a.code t ≡ b.code t
+  pub proximity : (t : ℕ) → t < 2 → a.proximity t ≡ b.proximity t
   pub linear : (t : ℕ) → t < 2 → a.linear t ≡ b.linear t
   pub product : (t : ℕ) → t < 2 → a.product t ≡ b.product t
 
 encoded_once : (p : Params) (v : Vectors) (seed : List ℕ) (a b : Encoded) → IsParams p
     → IsEncoded p v seed a → IsEncoded p v seed b → AreSame p a b
 encoded_once p v seed a b h first second = record {
-  row = λ k l. codes_are_one p (row_at p (message p v) k) (row_mask p seed k) (a.row k) (b.row k) h
+  row = λ k l.
+      masked_rows_are_one p (row_at p (message p v) k) (row_mask p seed k) (a.row k) (b.row k) h
       (first.row k l) (second.row k l);
-  code = λ t l. first.code t l ∙ sym (second.code t l);
+  proximity = λ t l. first.proximity t l ∙ sym (second.proximity t l);
   linear = λ t l. first.linear t l ∙ sym (second.linear t l);
   product = λ t l. first.product t l ∙ sym (second.product t l);
 }
@@ -57,25 +58,25 @@ polynomials_same p a b same =
     let zero_low : 0 < 2 = omega arith in
     let one_low : 1 < 2 = omega arith in
     ap (λ xs. xs
-    ++ (a.code 0 ∷ a.code 1 ∷ a.linear 0 ∷ a.linear 1 ∷ a.product 0 ∷ a.product 1 ∷ []))
+    ++ (a.proximity 0 ∷ a.proximity 1 ∷ a.linear 0 ∷ a.linear 1 ∷ a.product 0 ∷ a.product 1 ∷ []))
     (range_same a.row b.row 0 p.rows (λ k l. same.row k (omega arith)))
     ∙ ap (λ x. map b.row (range_with_len 0 p.rows)
-    ++ (x ∷ a.code 1 ∷ a.linear 0 ∷ a.linear 1 ∷ a.product 0 ∷ a.product 1 ∷ []))
-    (same.code 0 zero_low)
+    ++ (x ∷ a.proximity 1 ∷ a.linear 0 ∷ a.linear 1 ∷ a.product 0 ∷ a.product 1 ∷ []))
+    (same.proximity 0 zero_low)
     ∙ ap (λ x. map b.row (range_with_len 0 p.rows)
-    ++ (b.code 0 ∷ x ∷ a.linear 0 ∷ a.linear 1 ∷ a.product 0 ∷ a.product 1 ∷ []))
-    (same.code 1 one_low)
+    ++ (b.proximity 0 ∷ x ∷ a.linear 0 ∷ a.linear 1 ∷ a.product 0 ∷ a.product 1 ∷ []))
+    (same.proximity 1 one_low)
     ∙ ap (λ x. map b.row (range_with_len 0 p.rows)
-    ++ (b.code 0 ∷ b.code 1 ∷ x ∷ a.linear 1 ∷ a.product 0 ∷ a.product 1 ∷ []))
+    ++ (b.proximity 0 ∷ b.proximity 1 ∷ x ∷ a.linear 1 ∷ a.product 0 ∷ a.product 1 ∷ []))
     (same.linear 0 zero_low)
     ∙ ap (λ x. map b.row (range_with_len 0 p.rows)
-    ++ (b.code 0 ∷ b.code 1 ∷ b.linear 0 ∷ x ∷ a.product 0 ∷ a.product 1 ∷ []))
+    ++ (b.proximity 0 ∷ b.proximity 1 ∷ b.linear 0 ∷ x ∷ a.product 0 ∷ a.product 1 ∷ []))
     (same.linear 1 one_low)
     ∙ ap (λ x. map b.row (range_with_len 0 p.rows)
-    ++ (b.code 0 ∷ b.code 1 ∷ b.linear 0 ∷ b.linear 1 ∷ x ∷ a.product 1 ∷ []))
+    ++ (b.proximity 0 ∷ b.proximity 1 ∷ b.linear 0 ∷ b.linear 1 ∷ x ∷ a.product 1 ∷ []))
     (same.product 0 zero_low)
     ∙ ap (λ x. map b.row (range_with_len 0 p.rows)
-    ++ (b.code 0 ∷ b.code 1 ∷ b.linear 0 ∷ b.linear 1 ∷ b.product 0 ∷ x ∷ []))
+    ++ (b.proximity 0 ∷ b.proximity 1 ∷ b.linear 0 ∷ b.linear 1 ∷ b.product 0 ∷ x ∷ []))
     (same.product 1 one_low)
 
 test_same : (n : ℕ) (f g : ℕ → ℕ) → ((i : ℕ) → f i ≡ g i) → map (λ i. f i % P) (range_with_len 0 n)
@@ -86,14 +87,14 @@ test_same n f g same =
 module _ (p : Params) (c : Challenges) (a b : Encoded) (h : IsParams p) (same : AreSame p a b)
     (first second : ℕ → ℕ → List ℕ)
     (systems : (t k : ℕ) → t < 2 → k < p.rows → first t k ≡ second t k) where
-  code_same : (t : ℕ) → t < 2 → code_test p c a t ≡ code_test p c b t
-  code_same t l =
+  proximity_same : (t : ℕ) → t < 2 → proximity_test p c a t ≡ proximity_test p c b t
+  proximity_same t l =
       test_same (2 * p.l)
-      (λ i. get_or (a.code t) i 0 + sum_to p.rows (λ k. alpha p c t k * get_or (a.row k) i 0))
-      (λ i. get_or (b.code t) i 0 + sum_to p.rows (λ k. alpha p c t k * get_or (b.row k) i 0))
+      (λ i. get_or (a.proximity t) i 0 + sum_to p.rows (λ k. alpha p c t k * get_or (a.row k) i 0))
+      (λ i. get_or (b.proximity t) i 0 + sum_to p.rows (λ k. alpha p c t k * get_or (b.row k) i 0))
       (λ i. ap (λ xs. get_or xs i 0 + sum_to p.rows (λ k. alpha p c t k * get_or (a.row k) i 0))
-      (same.code t l)
-      ∙ ap (λ n. get_or (b.code t) i 0 + n)
+      (same.proximity t l)
+      ∙ ap (λ n. get_or (b.proximity t) i 0 + n)
       (sum_same p.rows (λ k. alpha p c t k * get_or (a.row k) i 0)
       (λ k. alpha p c t k * get_or (b.row k) i 0)
       (λ k m. ap (λ xs. alpha p c t k * get_or xs i 0) (same.row k m))))
@@ -136,12 +137,13 @@ module _ (p : Params) (c : Challenges) (a b : Encoded) (h : IsParams p) (same : 
   polys_same =
       let zero_low : 0 < 2 = omega arith in
       let one_low : 1 < 2 = omega arith in
-      six (code_test p c a 0) (linear_test p a (first 0) 0) (product_test p c a 0)
-      (code_test p c a 1) (linear_test p a (first 1) 1) (product_test p c a 1)
-      (code_test p c b 0) (linear_test p b (second 0) 0) (product_test p c b 0) (code_test p c b 1)
+      six (proximity_test p c a 0) (linear_test p a (first 0) 0) (product_test p c a 0)
+      (proximity_test p c a 1) (linear_test p a (first 1) 1) (product_test p c a 1)
+      (proximity_test p c b 0) (linear_test p b (second 0) 0) (product_test p c b 0)
+      (proximity_test p c b 1)
       (linear_test p b (second 1) 1) (product_test p c b 1)
-      (code_same 0 zero_low) (linear_same 0 zero_low) (product_same 0 zero_low)
-      (code_same 1 one_low) (linear_same 1 one_low) (product_same 1 one_low)
+      (proximity_same 0 zero_low) (linear_same 0 zero_low) (product_same 0 zero_low)
+      (proximity_same 1 one_low) (linear_same 1 one_low) (product_same 1 one_low)
     where
       six : (a1 b1 c1 d1 e1 f1 a2 b2 c2 d2 e2 f2 : List ℕ) → a1 ≡ a2 → b1 ≡ b2 → c1 ≡ c2 → d1 ≡ d2
           → e1 ≡ e2 → f1 ≡ f2

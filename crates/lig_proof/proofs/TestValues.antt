@@ -16,7 +16,7 @@ use Rattle.lig_proof.specs.ProofBytes.{AreValues}
 use Rattle.lig_proof.specs.Drawing.{number_at, numbers_of}
 use Rattle.lig_proof.specs.Masks.{drawn}
 use Rattle.lig_proof.specs.Tests.{alpha, rho, coefficients}
-use Rattle.lig_proof.specs.Values.{EncodedHasDegrees, CodeTestHasValues, LinearTestHasValues}
+use Rattle.lig_proof.specs.Values.{EncodedHasDegrees, ProximityTestHasValues, LinearTestHasValues}
 use Rattle.lig_proof.specs.Values.{ProductTestHasValues}
 use Rattle.lig_proof.proofs.Draws.{length-numbers_of}
 use Rattle.lig_proof.proofs.Interpolants.{made_values}
@@ -111,11 +111,11 @@ pub encoded_has_degrees : EncodedHasDegrees
 encoded_has_degrees p v seed e h is =
     let least = h.least in
     record {
-      row = λ k l. let code = is.row k l in
+      row = λ k l. let row = is.row k l in
           let Fit : List ℕ → Type 0 = λ xs. AreValues (2 * p.l) xs in
-          subst Fit (sym code.sum) (made_values (2 * p.l) _);
-      code = λ t l. let Fit : List ℕ → Type 0 = λ xs. AreValues (2 * p.l) xs in
-          subst Fit (sym (is.code t l)) (drawn_values _ 0 _ (2 * p.l));
+          subst Fit (sym row.sum) (made_values (2 * p.l) _);
+      proximity = λ t l. let Fit : List ℕ → Type 0 = λ xs. AreValues (2 * p.l) xs in
+          subst Fit (sym (is.proximity t l)) (drawn_values _ 0 _ (2 * p.l));
       linear = λ t l. let Fit : List ℕ → Type 0 = λ xs. AreValues (3 * p.l) xs in
           let free = 3 * p.l - 1 in
           let others = drawn seed ((p.rows + 4) * p.l + t * free) free in
@@ -141,13 +141,13 @@ all_below n values h i = below values h.each i
 fits : (n m : ℕ) (values : List ℕ) → AreValues n values → n ≤ m → length values ≤ m
 fits n m values h l = let count = h.count in omega arith
 
-pub code_test_has_values : CodeTestHasValues
-code_test_has_values p c e t x l h =
+pub proximity_test_has_values : ProximityTestHasValues
+proximity_test_has_values p c e t x l h =
     let n = 2 * p.l in
     let row = λ (k i : ℕ). get_or (e.row k) i 0 in
-    combined_at n p.rows (λ i. get_or (e.code t) i 0) (λ k i. alpha p c t k * row k i) x
-    (eval_at (e.code t) x) (λ k. alpha p c t k * eval_at (e.row k) x)
-    (short_at (e.code t) n x (fits n n (e.code t) (h.code t l) (omega arith)))
+    combined_at n p.rows (λ i. get_or (e.proximity t) i 0) (λ k i. alpha p c t k * row k i) x
+    (eval_at (e.proximity t) x) (λ k. alpha p c t k * eval_at (e.row k) x)
+    (short_at (e.proximity t) n x (fits n n (e.proximity t) (h.proximity t l) (omega arith)))
     (λ k m. ap (λ y. y % P) (poly-scale n (alpha p c t k) (row k) x)
     ∙ times_same P (alpha p c t k) (poly n (row k) x) (eval_at (e.row k) x)
     (short_at (e.row k) n x (fits n n (e.row k) (h.row k m) (omega arith))))

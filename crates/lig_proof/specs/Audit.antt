@@ -9,7 +9,7 @@ use Rattle.lig_proof.specs.declared.challenge.Challenges.{Challenges}
 use Rattle.lig_proof.specs.declared.verdict.Verdict.{Verdict}
 use Rattle.lig_proof.specs.declared.verdict.Verdict.TheVariants as verdicts
 use Rattle.lig_proof.specs.Points.{message_point, code_point}
-use Rattle.lig_proof.specs.Columns.{row_value, code_mask_value, linear_mask_value}
+use Rattle.lig_proof.specs.Columns.{row_value, proximity_mask_value, linear_mask_value}
 use Rattle.lig_proof.specs.Columns.{product_mask_value}
 use Rattle.lig_proof.specs.Tests.{Polynomials, alpha, r_numbers, rho}
 
@@ -30,10 +30,10 @@ abbrev pub AtColumns : Audit → (ℕ → ℕ → List ℕ → Type 0) → Type 
 AtColumns a Holds = (t q : ℕ) → t < 2 → q < length a.columns
     → Holds t (code_point a.params (slice_index a.opened q)) (slice_index_or a.columns q [])
 
--- the rows are codes: what was sent for them has the values of the columns, combined by alpha
+-- the rows are codewords: what was sent for them has the values of the columns, combined by alpha
 abbrev pub Proximity : Audit → Type 0
-Proximity a = AtColumns a (λ t x column. eval_at (a.sent.code t) x
-    ≡ (code_mask_value a.params column t
+Proximity a = AtColumns a (λ t x column. eval_at (a.sent.proximity t) x
+    ≡ (proximity_mask_value a.params column t
     + sum_to a.params.rows (λ k. alpha a.params a.challenges t k * row_value column k)) % P)
 
 -- the linear system: the values at the message points sum to the right sides, combined by r

@@ -1,4 +1,4 @@
--- The encoded matrix: the codes of the rows, the masks of the tests, and its columns.
+-- The encoded matrix: the polynomials of the rows, the masks of the tests, and its columns.
 use Rattle.std.specs.Prelude.{ℕ, ◌+◌, ◌*◌, List, [], ◌∷◌, ◌++◌, map, slice_index}
 use Rattle.std.specs.List.{range_with_len}
 use Rattle.gold_ntt.specs.Polynomial.{eval_at}
@@ -9,7 +9,7 @@ use Rattle.lig_proof.specs.Points.{code_point}
 -- polynomials by the row, and those of each test by the repetition
 pub record Encoded : Type 0 where
   pub row : ℕ → List ℕ
-  pub code : ℕ → List ℕ
+  pub proximity : ℕ → List ℕ
   pub linear : ℕ → List ℕ
   pub product : ℕ → List ℕ
 
@@ -17,7 +17,7 @@ pub record Encoded : Type 0 where
 abbrev pub polynomials : Params → Encoded → List (List ℕ)
 polynomials p e =
     map e.row (range_with_len 0 p.rows)
-    ++ (e.code 0 ∷ e.code 1 ∷ e.linear 0 ∷ e.linear 1 ∷ e.product 0 ∷ e.product 1 ∷ [])
+    ++ (e.proximity 0 ∷ e.proximity 1 ∷ e.linear 0 ∷ e.linear 1 ∷ e.product 0 ∷ e.product 1 ∷ [])
 
 abbrev pub column_at : Params → Encoded → ℕ → List ℕ
 column_at p e i = map (λ polynomial. eval_at polynomial (code_point p i)) (polynomials p e)
@@ -33,8 +33,8 @@ commitment p e = root_at p.depth (leaves p e)
 abbrev pub row_value : List ℕ → ℕ → ℕ
 row_value column k = slice_index column k
 
-abbrev pub code_mask_value : Params → List ℕ → ℕ → ℕ
-code_mask_value p column t = slice_index column (p.rows + t)
+abbrev pub proximity_mask_value : Params → List ℕ → ℕ → ℕ
+proximity_mask_value p column t = slice_index column (p.rows + t)
 
 abbrev pub linear_mask_value : Params → List ℕ → ℕ → ℕ
 linear_mask_value p column t = slice_index column (p.rows + 2 + t)

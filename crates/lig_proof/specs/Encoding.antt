@@ -1,4 +1,5 @@
--- Rows as polynomials, and their codes. A polynomial is the list of its coefficients, lowest first.
+-- Rows as polynomials, plain and under a mask. A polynomial is the list of its coefficients, lowest
+-- first.
 use Rattle.std.specs.Prelude.{◌≡◌, ℕ, ◌+◌, ◌-◌, ◌*◌, ◌%◌, ◌<◌, List, map, slice_index}
 use Rattle.std.specs.List.{range_with_len}
 use Rattle.gold_field.specs.declared.gold.TheConstants.{P}
@@ -21,12 +22,12 @@ masked l n base mask =
     let above = λ (i : ℕ). shifted_at l mask i + (P - slice_index mask i) in
     map (λ i. (slice_index base i + above i) % P) (range_with_len 0 n)
 
--- the code of a row under a mask: its polynomial, and X ^ l - 1, which is 0 at the message points,
--- times the mask
-pub record IsCode (p : Params) (row mask code : List ℕ) : Type 0 where
+-- the polynomial of a row under a mask: the one through its values, and X ^ l - 1, which is 0 at
+-- the message points, times the mask
+pub record IsMaskedRow (p : Params) (row mask masked_row : List ℕ) : Type 0 where
   pub polynomial : List ℕ
   pub interpolates : Interpolates p row polynomial
-  pub sum : code ≡ masked p.l (2 * p.l) polynomial mask
+  pub sum : masked_row ≡ masked p.l (2 * p.l) polynomial mask
 
 -- a polynomial for each row of a matrix whose rows stand one after another
 abbrev pub InterpolateRows : Params → List ℕ → (ℕ → List ℕ) → Type 0
@@ -43,7 +44,7 @@ abbrev pub PolynomialsAreOne : Type 0
 PolynomialsAreOne = (p : Params) (row a b : List ℕ) → IsParams p
     → Interpolates p row a → Interpolates p row b → a ≡ b
 
--- and one code under a mask
-abbrev pub CodesAreOne : Type 0
-CodesAreOne = (p : Params) (row mask a b : List ℕ) → IsParams p
-    → IsCode p row mask a → IsCode p row mask b → a ≡ b
+-- and one under a mask
+abbrev pub MaskedRowsAreOne : Type 0
+MaskedRowsAreOne = (p : Params) (row mask a b : List ℕ) → IsParams p
+    → IsMaskedRow p row mask a → IsMaskedRow p row mask b → a ≡ b

@@ -14,9 +14,9 @@ drawn seed k n = numbers seed (2 * k) n
 abbrev pub row_mask : Params → List ℕ → ℕ → List ℕ
 row_mask p seed k = drawn seed (k * p.l) p.l
 
--- of the test that the rows are codes: any polynomial of 2 * l coefficients
-abbrev pub code_mask : Params → List ℕ → ℕ → List ℕ
-code_mask p seed t = drawn seed (p.rows * p.l + t * (2 * p.l)) (2 * p.l)
+-- of the test that the rows are codewords: any polynomial of 2 * l coefficients
+abbrev pub proximity_mask : Params → List ℕ → ℕ → List ℕ
+proximity_mask p seed t = drawn seed (p.rows * p.l + t * (2 * p.l)) (2 * p.l)
 
 -- of the test of the linear system: any one of 3 * l coefficients whose values at the message
 -- points sum to 0, as the coefficients of X ^ 0, X ^ l and X ^ (2 * l) then do. All but the first

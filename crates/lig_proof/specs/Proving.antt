@@ -15,16 +15,16 @@ use Rattle.lig_proof.specs.declared.version.Version.TheVariants.{One, Two}
 use Rattle.lig_proof.specs.ProofBytes.{proof_bytes}
 use Rattle.lig_proof.specs.SharedProof.{opened_once, proof2_bytes}
 use Rattle.lig_proof.specs.Transcript.{first_key, challenges_of, opened_columns}
-use Rattle.lig_proof.specs.Encoding.{IsCode, InterpolateRows}
-use Rattle.lig_proof.specs.Masks.{row_mask, code_mask, linear_mask, product_mask}
+use Rattle.lig_proof.specs.Encoding.{IsMaskedRow, InterpolateRows}
+use Rattle.lig_proof.specs.Masks.{row_mask, proximity_mask, linear_mask, product_mask}
 use Rattle.lig_proof.specs.Columns.{Encoded, column_at, leaves, commitment}
 use Rattle.lig_proof.specs.Tests.{r_numbers, in_order, sent_polynomials}
 
 -- the encoded matrix of the vectors, with the masks that the seed gives
 pub record IsEncoded (p : Params) (v : Vectors) (seed : List ℕ) (e : Encoded) : Type 0 where
   pub row : (k : ℕ) → k < p.rows
-      → IsCode p (row_at p (message p v) k) (row_mask p seed k) (e.row k)
-  pub code : (t : ℕ) → t < 2 → e.code t ≡ code_mask p seed t
+      → IsMaskedRow p (row_at p (message p v) k) (row_mask p seed k) (e.row k)
+  pub proximity : (t : ℕ) → t < 2 → e.proximity t ≡ proximity_mask p seed t
   pub linear : (t : ℕ) → t < 2 → e.linear t ≡ linear_mask p seed t
   pub product : (t : ℕ) → t < 2 → e.product t ≡ product_mask p seed t
 

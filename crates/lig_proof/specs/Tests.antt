@@ -9,18 +9,20 @@ use Rattle.lig_proof.specs.Columns.{Encoded}
 
 -- by the repetition
 pub record Polynomials : Type 0 where
-  pub code : ℕ → List ℕ
+  pub proximity : ℕ → List ℕ
   pub linear : ℕ → List ℕ
   pub product : ℕ → List ℕ
 
 -- as they stand in a proof
 abbrev pub in_order : Polynomials → List ℕ
-in_order s = s.code 0 ++ (s.linear 0 ++ (s.product 0 ++ (s.code 1 ++ (s.linear 1 ++ s.product 1))))
+in_order s =
+    s.proximity 0 ++ (s.linear 0 ++ (s.product 0
+    ++ (s.proximity 1 ++ (s.linear 1 ++ s.product 1))))
 
 -- those of which a proof has the coefficients, 9 * l in each repetition
 abbrev pub polynomials_of : Params → List ℕ → Polynomials
 polynomials_of p values = record {
-  code = λ t. take (2 * p.l) (drop (t * (9 * p.l)) values);
+  proximity = λ t. take (2 * p.l) (drop (t * (9 * p.l)) values);
   linear = λ t. take (3 * p.l) (drop (t * (9 * p.l) + 2 * p.l) values);
   product = λ t. take (4 * p.l) (drop (t * (9 * p.l) + 5 * p.l) values);
 }
@@ -40,9 +42,9 @@ abbrev pub coefficients : ℕ → (ℕ → ℕ) → List ℕ
 coefficients n f = map (λ i. f i % P) (range_with_len 0 n)
 
 -- u + the sum of alpha k * row k
-abbrev pub code_test : Params → Challenges → Encoded → ℕ → List ℕ
-code_test p c e t = coefficients (2 * p.l) (λ i.
-    slice_index (e.code t) i + sum_to p.rows (λ k. alpha p c t k * slice_index (e.row k) i))
+abbrev pub proximity_test : Params → Challenges → Encoded → ℕ → List ℕ
+proximity_test p c e t = coefficients (2 * p.l) (λ i.
+    slice_index (e.proximity t) i + sum_to p.rows (λ k. alpha p c t k * slice_index (e.row k) i))
 
 -- m + the sum of R k * row k, where R k is the polynomial of row k of the combined system
 abbrev pub linear_test : Params → Encoded → (ℕ → List ℕ) → ℕ → List ℕ
@@ -62,7 +64,7 @@ product_test p c e t =
 -- the polynomials that a prover sends: system t k is that of row k of the system, combined by r
 abbrev pub sent_polynomials : Params → Challenges → Encoded → (ℕ → ℕ → List ℕ) → Polynomials
 sent_polynomials p c e system = record {
-  code = code_test p c e;
+  proximity = proximity_test p c e;
   linear = λ t. linear_test p e (system t) t;
   product = product_test p c e;
 }

@@ -9,13 +9,13 @@ use Rattle.lig_layout.specs.Sizes.{IsParams}
 use Rattle.lig_proof.specs.declared.challenge.Challenges.{Challenges}
 use Rattle.lig_proof.specs.ProofBytes.{AreValues}
 use Rattle.lig_proof.specs.Columns.{Encoded}
-use Rattle.lig_proof.specs.Tests.{alpha, rho, code_test, linear_test, product_test}
+use Rattle.lig_proof.specs.Tests.{alpha, rho, proximity_test, linear_test, product_test}
 use Rattle.lig_proof.specs.Proving.{IsEncoded}
 
 -- how many coefficients the polynomials have
 pub record HasDegrees (p : Params) (e : Encoded) : Type 0 where
   pub row : (k : ℕ) → k < p.rows → AreValues (2 * p.l) (e.row k)
-  pub code : (t : ℕ) → t < 2 → AreValues (2 * p.l) (e.code t)
+  pub proximity : (t : ℕ) → t < 2 → AreValues (2 * p.l) (e.proximity t)
   pub linear : (t : ℕ) → t < 2 → AreValues (3 * p.l) (e.linear t)
   pub product : (t : ℕ) → t < 2 → AreValues (4 * p.l) (e.product t)
 
@@ -24,10 +24,10 @@ abbrev pub EncodedHasDegrees : Type 0
 EncodedHasDegrees = (p : Params) (v : Vectors) (seed : List ℕ) (e : Encoded) → IsParams p
     → IsEncoded p v seed e → HasDegrees p e
 
--- the test that the rows are codes, at x
-abbrev pub code_test_at : Params → Challenges → Encoded → ℕ → ℕ → ℕ
-code_test_at p c e t x =
-    (eval_at (e.code t) x + sum_to p.rows (λ k. alpha p c t k * eval_at (e.row k) x)) % P
+-- the test that the rows are codewords, at x
+abbrev pub proximity_test_at : Params → Challenges → Encoded → ℕ → ℕ → ℕ
+proximity_test_at p c e t x =
+    (eval_at (e.proximity t) x + sum_to p.rows (λ k. alpha p c t k * eval_at (e.row k) x)) % P
 
 -- the test of the linear system
 abbrev pub linear_test_at : Params → Encoded → (ℕ → List ℕ) → ℕ → ℕ → ℕ
@@ -44,9 +44,9 @@ product_test_at p c e t x =
     (eval_at (e.product t) x + sum_to p.constraint_rows (λ k.
     rho p c t k * (x_at k * y_at k + (P - z_at k)))) % P
 
-abbrev pub CodeTestHasValues : Type 0
-CodeTestHasValues = (p : Params) (c : Challenges) (e : Encoded) (t x : ℕ) → t < 2
-    → HasDegrees p e → eval_at (code_test p c e t) x ≡ code_test_at p c e t x
+abbrev pub ProximityTestHasValues : Type 0
+ProximityTestHasValues = (p : Params) (c : Challenges) (e : Encoded) (t x : ℕ) → t < 2
+    → HasDegrees p e → eval_at (proximity_test p c e t) x ≡ proximity_test_at p c e t x
 
 abbrev pub LinearTestHasValues : Type 0
 LinearTestHasValues = (p : Params) (e : Encoded) (system : ℕ → List ℕ) (t x : ℕ) → t < 2

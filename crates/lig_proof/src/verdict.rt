@@ -9,7 +9,7 @@ pub enum Verdict {
     /// This opened column, counted from 0 as they stand in the proof, doesn't lead to the root. It
     /// is 0 where columns share their nodes.
     BadPath { opened: u32 },
-    /// The rows aren't codes.
+    /// The rows aren't codewords.
     Proximity,
     /// The values don't solve the linear system, by the sum over the message points.
     LinearSum,

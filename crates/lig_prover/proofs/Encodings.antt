@@ -8,8 +8,8 @@ use Rattle.lig_layout.specs.declared.params.Params.{Params}
 use Rattle.lig_layout.specs.declared.matrix.Vectors.{Vectors}
 use Rattle.lig_layout.specs.Sizes.{IsParams}
 use Rattle.lig_layout.specs.Layout.{message, padded, row_at}
-use Rattle.lig_proof.specs.Encoding.{IsCode}
-use Rattle.lig_proof.specs.Masks.{row_mask, code_mask, linear_mask, product_mask}
+use Rattle.lig_proof.specs.Encoding.{IsMaskedRow}
+use Rattle.lig_proof.specs.Masks.{row_mask, proximity_mask, linear_mask, product_mask}
 use Rattle.lig_proof.specs.Proving.{IsEncoded}
 use Rattle.lig_prover.specs.Matrix.{encoded_by, test_masks}
 use Rattle.lig_proof.proofs.Collected.{at_first, placed_length}
@@ -49,10 +49,10 @@ length-message p v h fit =
     (arith, whole, w, middle, x, last, y, z) in
     sum ∙ sym sides ∙ ap (λ r. r * p.l) (sym h.rows)
 
--- the rows have these codes
-abbrev pub RowCodes : Params → List ℕ → List ℕ → List (List ℕ) → Type 0
-RowCodes p values seed rows =
-    AllZip (λ k code. IsCode p (row_at p values k) (row_mask p seed k) code)
+-- these are the polynomials of the rows under their masks
+abbrev pub AreMaskedRows : Params → List ℕ → List ℕ → List (List ℕ) → Type 0
+AreMaskedRows p values seed rows =
+    AllZip (λ k coefs. IsMaskedRow p (row_at p values k) (row_mask p seed k) coefs)
     (range_with_len 0 p.rows) rows
 
 mask_at : (p : Params) (seed : List ℕ) (rows : List (List ℕ)) (place k : ℕ)
@@ -63,30 +63,30 @@ mask_at p seed rows place k is =
     ∙ get_or-append-add rows (test_masks p seed) k []
 
 pub encoded_from : (p : Params) (v : Vectors) (seed values : List ℕ) (rows : List (List ℕ))
-    → values ≡ message p v → RowCodes p values seed rows
+    → values ≡ message p v → AreMaskedRows p values seed rows
     → IsEncoded p v seed (encoded_by p (rows ++ test_masks p seed))
-encoded_from p v seed values rows is codes =
+encoded_from p v seed values rows is masked =
     let count : length rows ≡ p.rows = placed_length
-    (λ k code. IsCode p (row_at p values k) (row_mask p seed k) code) 0 p.rows rows codes in
+    (λ k coefs. IsMaskedRow p (row_at p values k) (row_mask p seed k) coefs) 0 p.rows rows masked in
     record {
       row = λ k l.
           let here = get_or_append_left rows (test_masks p seed) [] k (omega arith) in
-          let Code : List ℕ → List ℕ → Type 0 = λ vs code. IsCode p (row_at p vs k)
-          (row_mask p seed k) code in
-          subst (λ code. Code (message p v) code) (sym here)
-          (subst (λ vs. Code vs (get_or rows k [])) is
-          (at_first (λ k code. IsCode p (row_at p values k) (row_mask p seed k) code) p.rows rows []
-          codes k l));
-      code = λ t l. code_at count t l;
+          let Masked : List ℕ → List ℕ → Type 0 = λ vs coefs. IsMaskedRow p (row_at p vs k)
+          (row_mask p seed k) coefs in
+          subst (λ coefs. Masked (message p v) coefs) (sym here)
+          (subst (λ vs. Masked vs (get_or rows k [])) is
+          (at_first (λ k coefs. IsMaskedRow p (row_at p values k) (row_mask p seed k) coefs) p.rows
+          rows [] masked k l));
+      proximity = λ t l. proximity_at count t l;
       linear = λ t l. linear_at count t l;
       product = λ t l. product_at count t l;
     }
   where
-    code_at : length rows ≡ p.rows → (t : ℕ) → t < 2
-        → get_or (rows ++ test_masks p seed) (p.rows + t) [] ≡ code_mask p seed t
-    code_at count zero l = mask_at p seed rows (p.rows + 0) 0 (omega arith)
-    code_at count (suc zero) l = mask_at p seed rows (p.rows + 1) 1 (omega arith)
-    code_at count (suc (suc t)) l = absurd (omega arith)
+    proximity_at : length rows ≡ p.rows → (t : ℕ) → t < 2
+        → get_or (rows ++ test_masks p seed) (p.rows + t) [] ≡ proximity_mask p seed t
+    proximity_at count zero l = mask_at p seed rows (p.rows + 0) 0 (omega arith)
+    proximity_at count (suc zero) l = mask_at p seed rows (p.rows + 1) 1 (omega arith)
+    proximity_at count (suc (suc t)) l = absurd (omega arith)
 
     linear_at : length rows ≡ p.rows → (t : ℕ) → t < 2
         → get_or (rows ++ test_masks p seed) (p.rows + 2 + t) [] ≡ linear_mask p seed t

@@ -30,7 +30,7 @@ use Rattle.lig_proof.specs.Proving.{IsEncoded, AreMade, bytes_in}
 use Rattle.lig_proof.specs.Tests.{in_order, sent_polynomials}
 use Rattle.lig_proof.specs.Transcript.{first_key, challenges_of, opened_columns}
 use Rattle.lig_proof.specs.Values.{HasDegrees}
-use Rattle.lig_prover.specs.Matrix.{AreCodes, AreSystemsOf, encoded_by, column_in}
+use Rattle.lig_prover.specs.Matrix.{AreCodewords, AreSystemsOf, encoded_by, column_in}
 use Rattle.lig_prover.specs.Spelling.{spelled_by}
 use Rattle.lig_prover.specs.Transform.{values_at}
 use Rattle.lig_proof.proofs.Collected.{range_same}
@@ -47,12 +47,12 @@ all_fit p polys h count degrees k low =
     ⊎_elim
     (λ row. let size = (degrees.row k row).count in omega arith)
     (λ past. ⊎_elim
-    (λ code.
+    (λ proximity.
     let t = k - p.rows in
     let low_t : t < 2 = omega arith in
     let same : k ≡ p.rows + t = omega arith in
     let here = ap size_at same in
-    let size = (degrees.code t low_t).count in omega arith)
+    let size = (degrees.proximity t low_t).count in omega arith)
     (λ past2. ⊎_elim
     (λ linear.
     let t = k - (p.rows + 2) in
@@ -103,37 +103,39 @@ polynomials_are p polys count =
     ∙ ap (λ ys. take n polys ++ ys) masks ∙ take-append-drop n polys
 
 columns_of : (d i : ℕ) → i < 2 ^ d → (xs : List (List ℕ))
-    → map (λ code. get_or code i 0) (map (values_at d) xs)
+    → map (λ codeword. get_or codeword i 0) (map (values_at d) xs)
     ≡ map (λ coefs. eval_at coefs (7 * root_of d ^ i % P)) xs
 columns_of d i l [] = refl
 columns_of d i l (x ∷ xs) =
-    ap (λ y. y ∷ map (λ code. get_or code i 0) (map (values_at d) xs)) (get_or-values_at d x i l)
+    ap (λ y. y ∷ map (λ codeword. get_or codeword i 0) (map (values_at d) xs))
+    (get_or-values_at d x i l)
     ∙ ap (λ ys. eval_at x (7 * root_of d ^ i % P) ∷ ys) (columns_of d i l xs)
 
-module _ (p : Params) (polys codes : List (List ℕ)) (h : IsParams p)
-    (are : AreCodes p polys codes) where
-  pub column_same : (i : ℕ) → i < 8 * p.l → column_in codes i ≡ column_at p (encoded_by p polys) i
+module _ (p : Params) (polys codewords : List (List ℕ)) (h : IsParams p)
+    (are : AreCodewords p polys codewords) where
+  pub column_same : (i : ℕ) → i < 8 * p.l
+      → column_in codewords i ≡ column_at p (encoded_by p polys) i
   column_same i l =
       let depth = h.depth in
-      ap (map (λ code. get_or code i 0)) are.each ∙ columns_of p.depth i (omega arith) polys
+      ap (map (λ codeword. get_or codeword i 0)) are.each ∙ columns_of p.depth i (omega arith) polys
       ∙ ap (map (λ coefs. eval_at coefs (code_point p i))) (sym (polynomials_are p polys are.count))
 
-  pub leaves_same : map (λ i. leaf_hash (column_in codes i)) (range_with_len 0 (8 * p.l))
+  pub leaves_same : map (λ i. leaf_hash (column_in codewords i)) (range_with_len 0 (8 * p.l))
       ≡ leaves p (encoded_by p polys)
   leaves_same =
-      range_same (λ i. leaf_hash (column_in codes i))
+      range_same (λ i. leaf_hash (column_in codewords i))
       (λ i. leaf_hash (column_at p (encoded_by p polys) i)) 0 (8 * p.l)
       (λ i l. ap leaf_hash (column_same i (omega arith)))
 
   pub columns_same : (drawn : List ℕ) → All (λ i. i < 8 * p.l) drawn
-      → map (column_in codes) drawn ≡ map (column_at p (encoded_by p polys)) drawn
+      → map (column_in codewords) drawn ≡ map (column_at p (encoded_by p polys)) drawn
   columns_same drawn low = each drawn (recursion_from_All (λ i. i < 8 * p.l) drawn low)
     where
       each : (xs : List ℕ) → AllByRecursion (λ i. i < 8 * p.l) xs
-          → map (column_in codes) xs ≡ map (column_at p (encoded_by p polys)) xs
+          → map (column_in codewords) xs ≡ map (column_at p (encoded_by p polys)) xs
       each [] a = refl
       each (x ∷ xs) a =
-          ap (λ y. y ∷ map (column_in codes) xs) (column_same x a.0)
+          ap (λ y. y ∷ map (column_in codewords) xs) (column_same x a.0)
           ∙ ap (λ ys. column_at p (encoded_by p polys) x ∷ ys) (each xs a.1)
 
 -- ---- the bytes
@@ -143,26 +145,26 @@ low_range n = All-from_get_or (λ i. i < n) (range_with_len 0 n) 0
     (λ i l. let count = length-range_with_len 0 n in
     let at = get_or-range_with_len 0 n i 0 (omega arith) in omega arith)
 
-pub spelled_same : (version : Version) (p : Params) (polys codes hashes : List (List ℕ))
+pub spelled_same : (version : Version) (p : Params) (polys codewords hashes : List (List ℕ))
     (all drawn : List ℕ)
-    → IsParams p → AreCodes p polys codes → hashes ≡ leaves p (encoded_by p polys)
+    → IsParams p → AreCodewords p polys codewords → hashes ≡ leaves p (encoded_by p polys)
     → All (λ i. i < 8 * p.l) drawn
-    → spelled_by version p hashes codes all drawn
+    → spelled_by version p hashes codewords all drawn
     ≡ bytes_in version p (encoded_by p polys) all drawn
-spelled_same One p polys codes hashes all drawn h are is low = λ i. proof_bytes (record {
+spelled_same One p polys codewords hashes all drawn h are is low = λ i. proof_bytes (record {
   root = root_at p.depth (is i);
   polys = all;
-  columns = columns_same p polys codes h are drawn low i;
+  columns = columns_same p polys codewords h are drawn low i;
   paths = map (path_at p.depth (is i)) drawn;
 })
-spelled_same Two p polys codes hashes all drawn h are is low =
+spelled_same Two p polys codewords hashes all drawn h are is low =
     let once = opened_once p drawn in
     let within = All-filter (is_known drawn) (λ i. i < 8 * p.l) (range_with_len 0 (8 * p.l))
     (low_range (8 * p.l)) in
     λ i. proof2_bytes (record {
       root = root_at p.depth (is i);
       polys = all;
-      columns = columns_same p polys codes h are once within i;
+      columns = columns_same p polys codewords h are once within i;
       nodes = shared_nodes p.depth (λ k. get_or (is i) k []) once;
     })
 

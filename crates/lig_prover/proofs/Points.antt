@@ -1,4 +1,4 @@
--- Every other code point, and what the codes have there.
+-- Every other code point, and what the codewords have there.
 use Rattle.std.proofs.Common.{◌≡◌, ℕ, zero, suc, ◌+◌, ◌-◌, ◌*◌, ◌%◌, ◌^◌, ◌<◌, ◌≤◌, List, [], ◌∷◌}
 use Rattle.std.proofs.Common.{◌++◌, length, map, take, replicate, get_or, refl, sym, ap, ◌∙◌, arith}
 use Rattle.std.proofs.Common.{⊎_elim}
@@ -26,7 +26,7 @@ use Rattle.lig_proof.specs.ProofBytes.{AreValues}
 use Rattle.lig_proof.specs.Tests.{rho, linear_test, product_test}
 use Rattle.lig_proof.proofs.Interpolants.{width_is}
 use Rattle.lig_proof.proofs.TestValues.{linear_test_has_values, product_test_has_values}
-use Rattle.lig_prover.specs.Matrix.{AreCodes, encoded_by, entry_of, linear_value, product_value}
+use Rattle.lig_prover.specs.Matrix.{AreCodewords, encoded_by, entry_of, linear_value, product_value}
 use Rattle.lig_prover.specs.Transform.{values_at}
 use Rattle.lig_proof.proofs.Collected.{range_same}
 use Rattle.lig_prover.proofs.Coset.{get_or-values_at}
@@ -67,12 +67,12 @@ half_points p h =
     let whole = ap (λ m. 2 ^ m) up ∙ two-pow-succ (p.depth - 1) in
     omega (arith, depth, whole)
 
--- ---- what the codes have there
+-- ---- what the codewords have there
 
-code_entry : (p : Params) (polynomials codes : List (List ℕ)) (k i : ℕ) → IsParams p
-    → AreCodes p polynomials codes → k < p.rows + 6 → i < 8 * p.l
-    → entry_of codes k i ≡ eval_at (get_or polynomials k []) (code_point p i)
-code_entry p polynomials codes k i h are low inside =
+codeword_entry : (p : Params) (polynomials codewords : List (List ℕ)) (k i : ℕ) → IsParams p
+    → AreCodewords p polynomials codewords → k < p.rows + 6 → i < 8 * p.l
+    → entry_of codewords k i ≡ eval_at (get_or polynomials k []) (code_point p i)
+codeword_entry p polynomials codewords k i h are low inside =
     let count = are.count in
     let depth = h.depth in
     ap (λ cs. get_or (get_or cs k []) i 0) are.each
@@ -141,50 +141,52 @@ pub widened_front : (p : Params) (n : ℕ) (coefs : List ℕ) → length coefs �
 widened_front p n coefs count =
     take-append-le n coefs (replicate p.l 0) (omega arith) ∙ take_all n coefs (omega arith)
 
-module _ (p : Params) (polynomials codes : List (List ℕ)) (t : ℕ) (h : IsParams p)
-    (are : AreCodes p polynomials codes) (low : t < 2) where
+module _ (p : Params) (polynomials codewords : List (List ℕ)) (t : ℕ) (h : IsParams p)
+    (are : AreCodewords p polynomials codewords) (low : t < 2) where
   linear_at : (system factors : List (List ℕ)) (j : ℕ) → length system ≡ p.rows
       → ((k : ℕ) → k < p.rows → AreValues p.l (get_or system k []))
       → factors ≡ map (values_at (p.depth - 1)) system → j < 4 * p.l
-      → linear_value p codes factors t (2 * j) j
+      → linear_value p codewords factors t (2 * j) j
       ≡ eval_at (linear_test p (encoded_by p polynomials) (λ k. get_or system k []) t)
       (7 * root_of (p.depth - 1) ^ j % P)
   linear_at system factors j count degrees is inside =
       let x = 7 * root_of (p.depth - 1) ^ j % P in
       let point : code_point p (2 * j) ≡ x = sym (even_point p j h) in
       let half = half_points p h in
-      let mask = code_entry p polynomials codes (p.rows + 2 + t) (2 * j) h are (omega arith)
+      let mask = codeword_entry p polynomials codewords (p.rows + 2 + t) (2 * j) h are (omega arith)
       (omega arith)
       ∙ ap (eval_at (get_or polynomials (p.rows + 2 + t) [])) point in
       let term = λ (k : ℕ). eval_at (get_or system k []) x * eval_at (get_or polynomials k []) x in
-      let terms = sum_same p.rows (λ k. entry_of factors k j * entry_of codes k (2 * j)) term
+      let terms = sum_same p.rows (λ k. entry_of factors k j * entry_of codewords k (2 * j)) term
       (λ k l.
-      let row = code_entry p polynomials codes k (2 * j) h are (omega arith) (omega arith)
+      let row = codeword_entry p polynomials codewords k (2 * j) h are (omega arith) (omega arith)
       ∙ ap (eval_at (get_or polynomials k [])) point in
       let factor : entry_of factors k j ≡ eval_at (get_or system k []) x =
       ap (λ fs. get_or (get_or fs k []) j 0) is
       ∙ ap (λ f. get_or f j 0) (get_or-map (values_at (p.depth - 1)) system k [] []
       (omega (arith, count)))
       ∙ get_or-values_at (p.depth - 1) (get_or system k []) j (omega arith) in
-      ap (λ y. y * entry_of codes k (2 * j)) factor
+      ap (λ y. y * entry_of codewords k (2 * j)) factor
       ∙ ap (λ y. eval_at (get_or system k []) x * y) row) in
-      ap (λ y. (y + sum_to p.rows (λ k. entry_of factors k j * entry_of codes k (2 * j))) % P) mask
+      ap (λ y. (y
+      + sum_to p.rows (λ k. entry_of factors k j * entry_of codewords k (2 * j))) % P) mask
       ∙ ap (λ y. (eval_at (get_or polynomials (p.rows + 2 + t) []) x + y) % P) terms
       ∙ sym (linear_test_has_values p (encoded_by p polynomials)
       (λ k. get_or system k []) t x low degrees are.degrees)
 
   product_at : (c : Challenges) (j : ℕ) → j < 4 * p.l
-      → product_value p c codes t (2 * j)
+      → product_value p c codewords t (2 * j)
       ≡ eval_at (product_test p c (encoded_by p polynomials) t) (7 * root_of (p.depth - 1) ^ j % P)
   product_at c j inside =
       let x = 7 * root_of (p.depth - 1) ^ j % P in
       let rows = h.rows in
       let point : code_point p (2 * j) ≡ x = sym (even_point p j h) in
-      let row = λ (k : ℕ) (l : k < p.rows + 6). code_entry p polynomials codes k (2 * j) h are l
+      let row = λ (k : ℕ) (l : k < p.rows + 6).
+      codeword_entry p polynomials codewords k (2 * j) h are l
       (omega arith)
       ∙ ap (eval_at (get_or polynomials k [])) point in
       let value = λ (k : ℕ). eval_at (get_or polynomials k []) x in
-      let entry = λ (k : ℕ). entry_of codes k (2 * j) in
+      let entry = λ (k : ℕ). entry_of codewords k (2 * j) in
       let form = λ (n x y z : ℕ). n * (x * y + (P - z)) in
       let x_at = λ (k : ℕ). p.wire_rows + k in
       let y_at = λ (k : ℕ). p.wire_rows + p.constraint_rows + k in
@@ -201,22 +203,23 @@ module _ (p : Params) (polynomials codes : List (List ℕ)) (t : ℕ) (h : IsPar
       ∙ sym (product_test_has_values p c (encoded_by p polynomials) t x low h are.degrees)
 
   pub product_are : (c : Challenges) (values : List ℕ)
-      → values ≡ map (λ j. product_value p c codes t (2 * j)) (range_with_len 0 (4 * p.l))
+      → values ≡ map (λ j. product_value p c codewords t (2 * j)) (range_with_len 0 (4 * p.l))
       → values ≡ values_at (p.depth - 1) (product_test p c (encoded_by p polynomials) t)
   product_are c values is =
       is ∙ values_there p (product_test p c (encoded_by p polynomials) t)
-      (λ j. product_value p c codes t (2 * j)) h
+      (λ j. product_value p c codewords t (2 * j)) h
       (λ j l. product_at c j l)
 
   pub linear_are : (system factors : List (List ℕ)) (values : List ℕ) → length system ≡ p.rows
       → ((k : ℕ) → k < p.rows → AreValues p.l (get_or system k []))
       → factors ≡ map (values_at (p.depth - 1)) system
-      → values ≡ map (λ j. linear_value p codes factors t (2 * j) j) (range_with_len 0 (4 * p.l))
+      → values
+      ≡ map (λ j. linear_value p codewords factors t (2 * j) j) (range_with_len 0 (4 * p.l))
       → values ≡ values_at (p.depth - 1) (widened p
       (linear_test p (encoded_by p polynomials) (λ k. get_or system k []) t))
   linear_are system factors values count degrees is made =
       let test = linear_test p (encoded_by p polynomials) (λ k. get_or system k []) t in
-      made ∙ values_there p (widened p test) (λ j. linear_value p codes factors t (2 * j) j) h
+      made ∙ values_there p (widened p test) (λ j. linear_value p codewords factors t (2 * j) j) h
       (λ j l. linear_at system factors j count degrees is l
       ∙ sym (value_of_padded test (widened p test) (7 * root_of (p.depth - 1) ^ j % P)
       (widened_same p test)))

@@ -1,4 +1,4 @@
--- The encoded matrix as code keeps it: its polynomials in the order of a column, and their codes.
+-- The encoded matrix in two lists: its polynomials in the order of a column, and their codewords.
 use Rattle.std.specs.Prelude.{◌≡◌, ℕ, ◌+◌, ◌-◌, ◌*◌, ◌%◌, ◌<◌, List, [], ◌∷◌, length, map}
 use Rattle.std.specs.Prelude.{slice_index, slice_index_or}
 use Rattle.gold_field.specs.declared.gold.TheConstants.{P}
@@ -9,7 +9,7 @@ use Rattle.lig_layout.specs.System.{combined, left_sides, equation_count}
 use Rattle.lig_proof.specs.declared.challenge.Challenges.{Challenges}
 use Rattle.lig_proof.specs.Columns.{Encoded}
 use Rattle.lig_proof.specs.Encoding.{InterpolateRows}
-use Rattle.lig_proof.specs.Masks.{code_mask, linear_mask, product_mask}
+use Rattle.lig_proof.specs.Masks.{proximity_mask, linear_mask, product_mask}
 use Rattle.lig_proof.specs.Tests.{rho, r_numbers, linear_test}
 use Rattle.lig_proof.specs.Values.{HasDegrees}
 use Rattle.lig_prover.specs.Transform.{values_at}
@@ -21,41 +21,41 @@ entry_of rows k i = slice_index (slice_index_or rows k []) i
 -- the masks of the tests, in the order of a column
 abbrev pub test_masks : Params → List ℕ → List (List ℕ)
 test_masks p seed =
-    code_mask p seed 0 ∷ code_mask p seed 1 ∷ linear_mask p seed 0 ∷ linear_mask p seed 1
+    proximity_mask p seed 0 ∷ proximity_mask p seed 1 ∷ linear_mask p seed 0 ∷ linear_mask p seed 1
     ∷ product_mask p seed 0 ∷ product_mask p seed 1 ∷ []
 
 -- the matrix that has these polynomials
 abbrev pub encoded_by : Params → List (List ℕ) → Encoded
 encoded_by p polynomials = record {
   row = λ k. slice_index_or polynomials k [];
-  code = λ t. slice_index_or polynomials (p.rows + t) [];
+  proximity = λ t. slice_index_or polynomials (p.rows + t) [];
   linear = λ t. slice_index_or polynomials (p.rows + 2 + t) [];
   product = λ t. slice_index_or polynomials (p.rows + 4 + t) [];
 }
 
--- column i of the matrix that has these codes
+-- column i of the matrix that has these codewords
 abbrev pub column_in : List (List ℕ) → ℕ → List ℕ
-column_in codes i = map (λ code. slice_index code i) codes
+column_in codewords i = map (λ codeword. slice_index codeword i) codewords
 
--- the codes of these polynomials
-pub record AreCodes (p : Params) (polynomials codes : List (List ℕ)) : Type 0 where
+-- the codewords of these polynomials
+pub record AreCodewords (p : Params) (polynomials codewords : List (List ℕ)) : Type 0 where
   pub count : length polynomials ≡ p.rows + 6
   pub degrees : HasDegrees p (encoded_by p polynomials)
-  pub each : codes ≡ map (values_at p.depth) polynomials
+  pub each : codewords ≡ map (values_at p.depth) polynomials
 
 -- the test of the linear system at code point i, where the system's rows have the values at place j
 abbrev pub linear_value : Params → List (List ℕ) → List (List ℕ) → ℕ → ℕ → ℕ → ℕ
-linear_value p codes factors t i j =
-    (entry_of codes (p.rows + 2 + t) i
-    + sum_to p.rows (λ k. entry_of factors k j * entry_of codes k i)) % P
+linear_value p codewords factors t i j =
+    (entry_of codewords (p.rows + 2 + t) i
+    + sum_to p.rows (λ k. entry_of factors k j * entry_of codewords k i)) % P
 
 -- the test of the products at code point i
 abbrev pub product_value : Params → Challenges → List (List ℕ) → ℕ → ℕ → ℕ
-product_value p c codes t i =
-    let x = λ (k : ℕ). entry_of codes (p.wire_rows + k) i in
-    let y = λ (k : ℕ). entry_of codes (p.wire_rows + p.constraint_rows + k) i in
-    let z = λ (k : ℕ). entry_of codes (p.wire_rows + 2 * p.constraint_rows + k) i in
-    (entry_of codes (p.rows + 4 + t) i
+product_value p c codewords t i =
+    let x = λ (k : ℕ). entry_of codewords (p.wire_rows + k) i in
+    let y = λ (k : ℕ). entry_of codewords (p.wire_rows + p.constraint_rows + k) i in
+    let z = λ (k : ℕ). entry_of codewords (p.wire_rows + 2 * p.constraint_rows + k) i in
+    (entry_of codewords (p.rows + 4 + t) i
     + sum_to p.constraint_rows (λ k. rho p c t k * (x k * y k + (P - z k)))) % P
 
 -- the test of the linear system, with the polynomials of the system's rows

@@ -16,39 +16,39 @@ use std::alloc::{AllocError, Global};
 use std::thread::Threads;
 
 /// A column of the encoded matrix.
-pub fn column(alloc: Global, codes: &[Items<Gold>], at: usize) -> Result<Vec<Gold>, AllocError>
-    ensures { IfOk result (λ v. v.items ≡ column_in codes.now at) }
+pub fn column(alloc: Global, codewords: &[Items<Gold>], at: usize) -> Result<Vec<Gold>, AllocError>
+    ensures { IfOk result (λ v. v.items ≡ column_in codewords.now at) }
 {
-    let mut values = Vec::with_capacity(alloc, codes.len())?;
-    for code in codes {
-        values.push(number_at(code.as_slice(), at))?;
+    let mut values = Vec::with_capacity(alloc, codewords.len())?;
+    for codeword in codewords {
+        values.push(number_at(codeword.as_slice(), at))?;
     }
     Ok(values)
 }
 
-fn leaf_at(alloc: Global, codes: &[Items<Gold>], at: usize) -> Result<Hash, AllocError>
-    ensures { IfOk result (λ hash. hash ≡ leaf_hash (column_in codes.now at)) }
+fn leaf_at(alloc: Global, codewords: &[Items<Gold>], at: usize) -> Result<Hash, AllocError>
+    ensures { IfOk result (λ hash. hash ≡ leaf_hash (column_in codewords.now at)) }
 {
-    let values = column(alloc, codes, at)?;
+    let values = column(alloc, codewords, at)?;
     Ok(leaf(&values))
 }
 
 fn leaves<R: Threads + Sync>(
     rt: &R,
     alloc: Global,
-    codes: &[Items<Gold>],
+    codewords: &[Items<Gold>],
     count: usize,
 ) -> Result<Vec<Hash>, AllocError>
     ensures { IfOk result (λ v. v.items
-        ≡ map (λ i. leaf_hash (column_in codes.now i)) (range_with_len 0 count)) }
+        ≡ map (λ i. leaf_hash (column_in codewords.now i)) (range_with_len 0 count)) }
 {
     each_place(
         rt,
         alloc,
         count,
         |at: usize| -> Result<Hash, AllocError>
-            ensures { IfOk result (λ hash. hash ≡ leaf_hash (column_in codes.entry.now at)) }
-        { leaf_at(alloc, codes, at) },
+            ensures { IfOk result (λ hash. hash ≡ leaf_hash (column_in codewords.entry.now at)) }
+        { leaf_at(alloc, codewords, at) },
     )
 }
 
@@ -57,13 +57,13 @@ pub fn commit<R: Threads + Sync>(
     rt: &R,
     alloc: Global,
     params: &Params,
-    codes: &[Items<Gold>],
+    codewords: &[Items<Gold>],
 ) -> Result<Tree, AllocError>
     requires { IsParams params.now }
     ensures leaves { IfOk result (λ t. t.hashes
-        ≡ map (λ i. leaf_hash (column_in codes.now i)) (range_with_len 0 (8 * params.now.l))) }
+        ≡ map (λ i. leaf_hash (column_in codewords.now i)) (range_with_len 0 (8 * params.now.l))) }
     ensures depth { IfOk result (λ t. t.depth ≡ params.now.depth) }
 {
-    let leaves = leaves(rt, alloc, codes, 8 * params.l as usize)?;
+    let leaves = leaves(rt, alloc, codewords, 8 * params.l as usize)?;
     Tree::make(alloc, &leaves)
 }

@@ -4,7 +4,7 @@ ghost use Rattle.std.specs.Prelude.{◌≡◌, ◌<◌, ◌≤◌, ◌+◌, ◌-
 ghost use Rattle.std.specs.Prelude.{length};
 ghost use Rattle.gold_field.specs.declared.gold.TheConstants.{P};
 ghost use Rattle.lig_layout.specs.Sizes.{IsParams};
-ghost use Rattle.lig_proof.specs.Masks.{drawn, row_mask, code_mask, linear_mask, product_mask};
+ghost use Rattle.lig_proof.specs.Masks.{drawn, row_mask, proximity_mask, linear_mask, product_mask};
 ghost use Rattle.lig_prover.specs.Matrix.{test_masks};
 
 use crate::transform::{masked, number_at};
@@ -42,7 +42,7 @@ pub fn row_mask(
     drawn(alloc, seed, k * params.l, params.l)
 }
 
-fn code_mask(
+fn proximity_mask(
     alloc: Global,
     params: &Params,
     seed: &Hash,
@@ -50,7 +50,7 @@ fn code_mask(
 ) -> Result<Vec<Gold>, AllocError>
     requires params { IsParams params.now }
     requires repetition { repetition < 2 }
-    ensures { IfOk result (λ v. v.items ≡ code_mask params.now seed.now repetition) }
+    ensures { IfOk result (λ v. v.items ≡ proximity_mask params.now seed.now repetition) }
 {
     let from = params.rows * params.l + repetition * (2 * params.l);
     drawn(alloc, seed, from, 2 * params.l)
@@ -112,8 +112,8 @@ pub fn put_test_masks(
     requires { IsParams params.now }
     ensures { OnOk result (out.new.items ≡ out.old.items ++ test_masks params.now seed.now) }
 {
-    out.push(Items::of(code_mask(alloc, params, seed, 0)?))?;
-    out.push(Items::of(code_mask(alloc, params, seed, 1)?))?;
+    out.push(Items::of(proximity_mask(alloc, params, seed, 0)?))?;
+    out.push(Items::of(proximity_mask(alloc, params, seed, 1)?))?;
     out.push(Items::of(linear_mask(alloc, params, seed, 0)?))?;
     out.push(Items::of(linear_mask(alloc, params, seed, 1)?))?;
     out.push(Items::of(product_mask(alloc, params, seed, 0)?))?;

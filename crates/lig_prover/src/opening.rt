@@ -21,7 +21,7 @@ pub fn proof_in(
     version: Version,
     params: &Params,
     tree: &Tree,
-    codes: &[Items<Gold>],
+    codewords: &[Items<Gold>],
     polys: Vec<Gold>,
     drawn: &[u32],
 ) -> Result<Vec<u8>, AllocError>
@@ -31,11 +31,11 @@ pub fn proof_in(
     requires count { length drawn.now ≡ 96 }
     requires below { All (λ i. i < 8 * params.now.l) drawn.now }
     ensures { IfOk result (λ v. v.items
-        ≡ spelled_by version params.now tree.now.hashes codes.now polys.items drawn.now) }
+        ≡ spelled_by version params.now tree.now.hashes codewords.now polys.items drawn.now) }
 {
     match version {
-        Version::One => first_proof(alloc, params, tree, codes, polys, drawn),
-        Version::Two => second_proof(alloc, params, tree, codes, polys, drawn),
+        Version::One => first_proof(alloc, params, tree, codewords, polys, drawn),
+        Version::Two => second_proof(alloc, params, tree, codewords, polys, drawn),
     }
 }
 
@@ -44,7 +44,7 @@ fn first_proof(
     alloc: Global,
     params: &Params,
     tree: &Tree,
-    codes: &[Items<Gold>],
+    codewords: &[Items<Gold>],
     polys: Vec<Gold>,
     drawn: &[u32],
 ) -> Result<Vec<u8>, AllocError>
@@ -53,9 +53,9 @@ fn first_proof(
     requires count { length drawn.now ≡ 96 }
     requires below { All (λ i. i < 8 * params.now.l) drawn.now }
     ensures { IfOk result (λ v. v.items
-        ≡ spelled_by One params.now tree.now.hashes codes.now polys.items drawn.now) }
+        ≡ spelled_by One params.now tree.now.hashes codewords.now polys.items drawn.now) }
 {
-    let columns = columns(alloc, codes, drawn)?;
+    let columns = columns(alloc, codewords, drawn)?;
     let paths = paths(alloc, tree, drawn)?;
     let proof = Proof {
         root: tree.root(),
@@ -71,7 +71,7 @@ fn second_proof(
     alloc: Global,
     params: &Params,
     tree: &Tree,
-    codes: &[Items<Gold>],
+    codewords: &[Items<Gold>],
     polys: Vec<Gold>,
     drawn: &[u32],
 ) -> Result<Vec<u8>, AllocError>
@@ -80,10 +80,10 @@ fn second_proof(
     requires some { 0 < length drawn.now }
     requires below { All (λ i. i < 8 * params.now.l) drawn.now }
     ensures { IfOk result (λ v. v.items
-        ≡ spelled_by Two params.now tree.now.hashes codes.now polys.items drawn.now) }
+        ≡ spelled_by Two params.now tree.now.hashes codewords.now polys.items drawn.now) }
 {
     let opened = opened_once(alloc, params, drawn)?;
-    let columns = columns(alloc, codes, &opened)?;
+    let columns = columns(alloc, codewords, &opened)?;
     let nodes = tree.nodes(alloc, &opened)?;
     let proof = Proof2 {
         root: tree.root(),
@@ -96,14 +96,14 @@ fn second_proof(
 
 fn columns(
     alloc: Global,
-    codes: &[Items<Gold>],
+    codewords: &[Items<Gold>],
     opened: &[u32],
 ) -> Result<Vec<Items<Gold>>, AllocError>
-    ensures { IfOk result (λ v. v.items ≡ map (column_in codes.now) opened.now) }
+    ensures { IfOk result (λ v. v.items ≡ map (column_in codewords.now) opened.now) }
 {
     let mut columns = Vec::with_capacity(alloc, opened.len())?;
     for at in opened {
-        let values = column(alloc, codes, *at as usize)?;
+        let values = column(alloc, codewords, *at as usize)?;
         columns.push(Items::of(values))?;
     }
     Ok(columns)

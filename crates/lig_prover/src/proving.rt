@@ -7,7 +7,7 @@ ghost use Rattle.lig_layout.specs.Sizes.{IsParams, params_of};
 ghost use Rattle.lig_layout.specs.System.{equation_count};
 ghost use Rattle.lig_proof.specs.declared.version.Version.TheVariants.{One, Two};
 ghost use Rattle.lig_proof.specs.Proving.{AreMade, IsEncoded};
-ghost use Rattle.lig_prover.specs.Matrix.{AreCodes, encoded_by};
+ghost use Rattle.lig_prover.specs.Matrix.{AreCodewords, encoded_by};
 ghost use Rattle.lig_prover.specs.Proves.{AreOf, IsProofOrRefusal};
 ghost use Rattle.lig_prover.specs.Refusing.{refusal_of};
 
@@ -125,17 +125,17 @@ pub fn prove_any_as<R: Threads + AllocGlobal + Sync>(
 {
     let alloc = rt.alloc();
     let params = Params::of(file);
-    let (polynomials, codes) = encode(rt, alloc, &params, file, vectors, &seed)?;
-    let tree = commit(rt, alloc, &params, &codes)?;
+    let (polynomials, codewords) = encode(rt, alloc, &params, file, vectors, &seed)?;
+    let tree = commit(rt, alloc, &params, &codewords)?;
     let publics = publics_of(file, vectors.w.as_slice());
     let equations = equation_count(file);
     let drawn = challenges(alloc, &params, r1cs_bytes, publics, equations, &tree.root())?;
-    let polys = sent(rt, alloc, file, &params, &drawn, polynomials, &codes)?;
+    let polys = sent(rt, alloc, file, &params, &drawn, polynomials, &codewords)?;
     let opened = queries(alloc, &params, &drawn.first, &polys)?;
-    proof_in(alloc, version, &params, &tree, &codes, polys, &opened)
+    proof_in(alloc, version, &params, &tree, &codewords, polys, &opened)
 }
 
-// The polynomials of the encoded matrix, and their codes.
+// The polynomials of the encoded matrix, and their codewords.
 fn encode<R: Threads + Sync>(
     rt: &R,
     alloc: Global,
@@ -149,11 +149,11 @@ fn encode<R: Threads + Sync>(
     requires vectors { AreOf file.now vectors.now }
     ensures encoded { IfOk result (λ m. IsEncoded params.now vectors.now seed.now
         (encoded_by params.now m.0.items)) }
-    ensures codes { IfOk result (λ m. AreCodes params.now m.0.items m.1.items) }
+    ensures codewords { IfOk result (λ m. AreCodewords params.now m.0.items m.1.items) }
 {
     let polynomials = polynomials(rt, alloc, params, vectors, seed)?;
-    let codes = evaluated(rt, alloc, &polynomials, params.depth)?;
-    Ok((polynomials, codes))
+    let codewords = evaluated(rt, alloc, &polynomials, params.depth)?;
+    Ok((polynomials, codewords))
 }
 
 // The public values among those of the wires.

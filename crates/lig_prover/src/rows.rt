@@ -1,18 +1,18 @@
-//! The rows of the matrix, as values, as polynomials and as codes.
+//! The rows of the matrix, as values, as polynomials and as codewords.
 
 ghost use Rattle.std.specs.Prelude.{◌≡◌, ◌≤◌, ◌<◌, ◌+◌, ◌*◌, ◌^◌, ◌++◌, All, IfOk, OnOk, length};
 ghost use Rattle.std.specs.Prelude.{map, slice_index_or, []};
 ghost use Rattle.std.specs.List.{AllZip, range_with_len};
 ghost use Rattle.lig_layout.specs.Sizes.{IsParams};
 ghost use Rattle.lig_layout.specs.Layout.{message, padded, row_at};
-ghost use Rattle.lig_proof.specs.Encoding.{IsCode};
+ghost use Rattle.lig_proof.specs.Encoding.{IsMaskedRow};
 ghost use Rattle.lig_proof.specs.Masks.{row_mask};
 ghost use Rattle.lig_proof.specs.Proving.{IsEncoded};
 ghost use Rattle.lig_prover.specs.Matrix.{encoded_by};
 ghost use Rattle.lig_prover.specs.Transform.{values_at};
 
 use crate::masks::{put_test_masks, row_mask};
-use crate::transform::{evaluate, row_code};
+use crate::transform::{evaluate, masked_row};
 use gold_field::Gold;
 use items::Items;
 use lig_layout::{Params, Vectors};
@@ -71,13 +71,13 @@ pub fn polynomials<R: Threads + Sync>(
         (encoded_by params.now v.items)) }
 {
     let values = message(alloc, params, vectors)?;
-    let mut all = row_codes(rt, alloc, params, &values, seed)?;
+    let mut all = masked_rows(rt, alloc, params, &values, seed)?;
     put_test_masks(&mut all, alloc, params, seed)?;
     Ok(all)
 }
 
-// The code of each row under its mask.
-fn row_codes<R: Threads + Sync>(
+// The polynomial of each row under its mask.
+fn masked_rows<R: Threads + Sync>(
     rt: &R,
     alloc: Global,
     params: &Params,
@@ -86,8 +86,9 @@ fn row_codes<R: Threads + Sync>(
 ) -> Result<Vec<Items<Gold>>, AllocError>
     requires params { IsParams params.now }
     requires whole { length values.now ≡ params.now.rows * params.now.l }
-    ensures { IfOk result (λ v. AllZip (λ k code. IsCode params.now (row_at params.now values.now k)
-        (row_mask params.now seed.now k) code) (range_with_len 0 params.now.rows) v.items) }
+    ensures { IfOk result (λ v. AllZip (λ k coefs. IsMaskedRow params.now
+        (row_at params.now values.now k) (row_mask params.now seed.now k) coefs)
+        (range_with_len 0 params.now.rows) v.items) }
 {
     each_place(
         rt,
@@ -96,14 +97,14 @@ fn row_codes<R: Threads + Sync>(
         |k: usize| -> Result<Items<Gold>, AllocError>
             requires { IsParams params.now × (k < params.now.rows)
                 × (length values.now ≡ params.now.rows * params.now.l) }
-            ensures { IfOk result (λ code. IsCode params.entry.now
+            ensures { IfOk result (λ coefs. IsMaskedRow params.entry.now
                 (row_at params.entry.now values.entry.now k)
-                (row_mask params.entry.now seed.entry.now k) code) }
-        { code_at(alloc, params, values, seed, k) },
+                (row_mask params.entry.now seed.entry.now k) coefs) }
+        { masked_row_at(alloc, params, values, seed, k) },
     )
 }
 
-fn code_at(
+fn masked_row_at(
     alloc: Global,
     params: &Params,
     values: &[Gold],
@@ -113,12 +114,12 @@ fn code_at(
     requires params { IsParams params.now }
     requires row { k < params.now.rows }
     requires whole { length values.now ≡ params.now.rows * params.now.l }
-    ensures { IfOk result (λ code. IsCode params.now (row_at params.now values.now k)
-        (row_mask params.now seed.now k) code) }
+    ensures { IfOk result (λ coefs. IsMaskedRow params.now (row_at params.now values.now k)
+        (row_mask params.now seed.now k) coefs) }
 {
     let mask = row_mask(alloc, params, seed, k as u32)?;
-    let code = row_code(alloc, params, row_at(params, values, k), &mask)?;
-    Ok(Items::of(code))
+    let coefs = masked_row(alloc, params, row_at(params, values, k), &mask)?;
+    Ok(Items::of(coefs))
 }
 
 /// The values of each polynomial at 7 times the powers of the root of order `2^log`.

@@ -4,10 +4,10 @@ ghost use Rattle.std.specs.Prelude.{◌≡◌, ℕ, ◌*◌, List, IfOk, length}
 ghost use Rattle.iden_files.specs.File.{InLimits};
 ghost use Rattle.lig_layout.specs.Sizes.{IsParams, params_of};
 ghost use Rattle.lig_layout.specs.System.{equation_count};
-ghost use Rattle.lig_proof.specs.Tests.{code_test, in_order, sent_polynomials};
-ghost use Rattle.lig_prover.specs.Matrix.{AreCodes, AreSystemsOf, encoded_by};
+ghost use Rattle.lig_proof.specs.Tests.{proximity_test, in_order, sent_polynomials};
+ghost use Rattle.lig_prover.specs.Matrix.{AreCodewords, AreSystemsOf, encoded_by};
 
-use crate::tests::{code_test, linear_test, product_test};
+use crate::tests::{proximity_test, linear_test, product_test};
 use gold_field::Gold;
 use iden_files::R1cs;
 use items::Items;
@@ -24,34 +24,34 @@ pub fn sent<R: Threads + Sync>(
     params: &Params,
     challenges: &Challenges,
     polynomials: Vec<Items<Gold>>,
-    codes: &[Items<Gold>],
+    codewords: &[Items<Gold>],
 ) -> Result<Vec<Gold>, AllocError>
     requires limits { InLimits file.now }
     requires file { params.now ≡ params_of file.now }
     requires params { IsParams params.now }
     requires numbers { length challenges.now.r ≡ 2 * equation_count file.now }
-    requires codes { AreCodes params.now polynomials.items codes.now }
+    requires codewords { AreCodewords params.now polynomials.items codewords.now }
     ensures { IfOk result (λ v. (system : ℕ → ℕ → List ℕ)
         × AreSystemsOf params.now file.now challenges.now system
         × (v.items ≡ in_order (sent_polynomials params.now challenges.now
         (encoded_by params.now polynomials.items) system))) }
 {
-    let (code_0, code_1) = code_tests(rt, alloc, params, challenges, polynomials)?;
-    let linear_0 = linear_test(rt, alloc, file, params, challenges, codes, 0)?;
-    let linear_1 = linear_test(rt, alloc, file, params, challenges, codes, 1)?;
-    let product_0 = product_test(rt, alloc, params, challenges, codes, 0)?;
-    let product_1 = product_test(rt, alloc, params, challenges, codes, 1)?;
-    let mut all = code_0;
+    let (proximity_0, proximity_1) = proximity_tests(rt, alloc, params, challenges, polynomials)?;
+    let linear_0 = linear_test(rt, alloc, file, params, challenges, codewords, 0)?;
+    let linear_1 = linear_test(rt, alloc, file, params, challenges, codewords, 1)?;
+    let product_0 = product_test(rt, alloc, params, challenges, codewords, 0)?;
+    let product_1 = product_test(rt, alloc, params, challenges, codewords, 1)?;
+    let mut all = proximity_0;
     all.extend_from_slice(&linear_0)?;
     all.extend_from_slice(&product_0)?;
-    all.extend_from_slice(&code_1)?;
+    all.extend_from_slice(&proximity_1)?;
     all.extend_from_slice(&linear_1)?;
     all.extend_from_slice(&product_1)?;
     Ok(all)
 }
 
 // The polynomials of the rows aren't needed after this.
-fn code_tests<R: Threads + Sync>(
+fn proximity_tests<R: Threads + Sync>(
     rt: &R,
     alloc: Global,
     params: &Params,
@@ -59,12 +59,12 @@ fn code_tests<R: Threads + Sync>(
     polynomials: Vec<Items<Gold>>,
 ) -> Result<(Vec<Gold>, Vec<Gold>), AllocError>
     requires { IsParams params.now }
-    ensures first { IfOk result (λ both. both.0.items ≡ code_test params.now challenges.now
+    ensures first { IfOk result (λ both. both.0.items ≡ proximity_test params.now challenges.now
         (encoded_by params.now polynomials.items) 0) }
-    ensures second { IfOk result (λ both. both.1.items ≡ code_test params.now challenges.now
+    ensures second { IfOk result (λ both. both.1.items ≡ proximity_test params.now challenges.now
         (encoded_by params.now polynomials.items) 1) }
 {
-    let first = code_test(rt, alloc, params, challenges, &polynomials, 0)?;
-    let second = code_test(rt, alloc, params, challenges, &polynomials, 1)?;
+    let first = proximity_test(rt, alloc, params, challenges, &polynomials, 0)?;
+    let second = proximity_test(rt, alloc, params, challenges, &polynomials, 1)?;
     Ok((first, second))
 }

@@ -11,8 +11,9 @@ ghost use Rattle.lig_layout.specs.Layout.{row_at};
 ghost use Rattle.lig_layout.specs.System.{combined, left_sides, equation_count};
 ghost use Rattle.lig_proof.specs.Encoding.{Interpolates, InterpolateRows};
 ghost use Rattle.lig_proof.specs.ProofBytes.{AreValues};
-ghost use Rattle.lig_proof.specs.Tests.{alpha, r_numbers, code_test, linear_test, product_test};
-ghost use Rattle.lig_prover.specs.Matrix.{AreCodes, IsLinearTest, encoded_by, entry_of};
+ghost use Rattle.lig_proof.specs.Tests.{alpha, r_numbers, proximity_test, linear_test};
+ghost use Rattle.lig_proof.specs.Tests.{product_test};
+ghost use Rattle.lig_prover.specs.Matrix.{AreCodewords, IsLinearTest, encoded_by, entry_of};
 ghost use Rattle.lig_prover.specs.Matrix.{linear_value, product_value};
 ghost use Rattle.lig_prover.specs.Transform.{values_at};
 
@@ -36,8 +37,8 @@ fn entry(rows: &[Items<Gold>], k: usize, i: usize) -> Gold
     }
 }
 
-/// The polynomial of one repetition that tests that the rows are codes.
-pub fn code_test<R: Threads + Sync>(
+/// The polynomial of one repetition that tests that the rows are codewords.
+pub fn proximity_test<R: Threads + Sync>(
     rt: &R,
     alloc: Global,
     params: &Params,
@@ -48,7 +49,7 @@ pub fn code_test<R: Threads + Sync>(
     requires params { IsParams params.now }
     requires repetition { t < 2 }
     ensures { IfOk result (λ v. v.items
-        ≡ code_test params.now challenges.now (encoded_by params.now polynomials.now) t) }
+        ≡ proximity_test params.now challenges.now (encoded_by params.now polynomials.now) t) }
 {
     each_place(
         rt,
@@ -61,11 +62,11 @@ pub fn code_test<R: Threads + Sync>(
                 + sum_to params.entry.now.rows
                 (λ k. alpha params.entry.now challenges.entry.now t k
                 * entry_of polynomials.entry.now k i)) % P) }
-        { Ok(code_coefficient(params, challenges, polynomials, t, i)) },
+        { Ok(proximity_coefficient(params, challenges, polynomials, t, i)) },
     )
 }
 
-fn code_coefficient(
+fn proximity_coefficient(
     params: &Params,
     challenges: &Challenges,
     polynomials: &[Items<Gold>],
@@ -93,7 +94,7 @@ pub fn linear_test<R: Threads + Sync>(
     file: &R1cs,
     params: &Params,
     challenges: &Challenges,
-    codes: &[Items<Gold>],
+    codewords: &[Items<Gold>],
     t: usize,
 ) -> Result<Vec<Gold>, AllocError>
     requires limits { InLimits file.now }
@@ -102,13 +103,13 @@ pub fn linear_test<R: Threads + Sync>(
     requires numbers { length challenges.now.r ≡ 2 * equation_count file.now }
     requires repetition { t < 2 }
     ensures { IfOk result (λ v. (polynomials : List (List ℕ))
-        → AreCodes params.now polynomials codes.now
+        → AreCodewords params.now polynomials codewords.now
         → IsLinearTest params.now file.now challenges.now polynomials t v.items) }
 {
     let system = combine(alloc, file, params, r_numbers(challenges, t))?;
     let rows = row_polynomials(rt, alloc, params, &system)?;
     let factors = evaluated(rt, alloc, &rows, params.depth - 1)?;
-    let values = linear_values(rt, alloc, params, codes, &factors, t)?;
+    let values = linear_values(rt, alloc, params, codewords, &factors, t)?;
     Ok(coefficients_of(params, values, 3 * params.l as usize))
 }
 
@@ -129,14 +130,14 @@ fn linear_values<R: Threads + Sync>(
     rt: &R,
     alloc: Global,
     params: &Params,
-    codes: &[Items<Gold>],
+    codewords: &[Items<Gold>],
     factors: &[Items<Gold>],
     t: usize,
 ) -> Result<Vec<Gold>, AllocError>
     requires params { IsParams params.now }
     requires repetition { t < 2 }
     ensures { IfOk result (λ v. v.items
-        ≡ map (λ j. linear_value params.now codes.now factors.now t (2 * j) j)
+        ≡ map (λ j. linear_value params.now codewords.now factors.now t (2 * j) j)
         (range_with_len 0 (4 * params.now.l))) }
 {
     each_place(
@@ -145,15 +146,15 @@ fn linear_values<R: Threads + Sync>(
         4 * params.l as usize,
         |j: usize| -> Result<Gold, AllocError>
             requires { IsParams params.now × (t < 2) × (j < 4 * params.now.l) }
-            ensures { IfOk result (λ value. value ≡ linear_value params.entry.now codes.entry.now
-                factors.entry.now t (2 * j) j) }
-        { Ok(linear_value(params, codes, factors, t, j)) },
+            ensures { IfOk result (λ value. value ≡ linear_value params.entry.now
+                codewords.entry.now factors.entry.now t (2 * j) j) }
+        { Ok(linear_value(params, codewords, factors, t, j)) },
     )
 }
 
 fn linear_value(
     params: &Params,
-    codes: &[Items<Gold>],
+    codewords: &[Items<Gold>],
     factors: &[Items<Gold>],
     t: usize,
     j: usize,
@@ -161,14 +162,14 @@ fn linear_value(
     requires params { IsParams params.now }
     requires repetition { t < 2 }
     requires place { j < 4 * params.now.l }
-    ensures { result ≡ linear_value params.now codes.now factors.now t (2 * j) j }
+    ensures { result ≡ linear_value params.now codewords.now factors.now t (2 * j) j }
 {
     let rows = params.rows as usize;
     let mut sum = Gold::ZERO;
     for k in 0..rows {
-        sum = sum.add(entry(factors, k, j).mul(entry(codes, k, 2 * j)));
+        sum = sum.add(entry(factors, k, j).mul(entry(codewords, k, 2 * j)));
     }
-    entry(codes, rows + 2 + t, 2 * j).add(sum)
+    entry(codewords, rows + 2 + t, 2 * j).add(sum)
 }
 
 /// The polynomial of one repetition that tests the products.
@@ -177,16 +178,16 @@ pub fn product_test<R: Threads + Sync>(
     alloc: Global,
     params: &Params,
     challenges: &Challenges,
-    codes: &[Items<Gold>],
+    codewords: &[Items<Gold>],
     t: usize,
 ) -> Result<Vec<Gold>, AllocError>
     requires params { IsParams params.now }
     requires repetition { t < 2 }
     ensures { IfOk result (λ v. (polynomials : List (List ℕ))
-        → AreCodes params.now polynomials codes.now
+        → AreCodewords params.now polynomials codewords.now
         → v.items ≡ product_test params.now challenges.now (encoded_by params.now polynomials) t) }
 {
-    let values = product_values(rt, alloc, params, challenges, codes, t)?;
+    let values = product_values(rt, alloc, params, challenges, codewords, t)?;
     Ok(coefficients_of(params, values, 4 * params.l as usize))
 }
 
@@ -195,13 +196,13 @@ fn product_values<R: Threads + Sync>(
     alloc: Global,
     params: &Params,
     challenges: &Challenges,
-    codes: &[Items<Gold>],
+    codewords: &[Items<Gold>],
     t: usize,
 ) -> Result<Vec<Gold>, AllocError>
     requires params { IsParams params.now }
     requires repetition { t < 2 }
     ensures { IfOk result (λ v. v.items
-        ≡ map (λ j. product_value params.now challenges.now codes.now t (2 * j))
+        ≡ map (λ j. product_value params.now challenges.now codewords.now t (2 * j))
         (range_with_len 0 (4 * params.now.l))) }
 {
     each_place(
@@ -211,31 +212,31 @@ fn product_values<R: Threads + Sync>(
         |j: usize| -> Result<Gold, AllocError>
             requires { IsParams params.now × (t < 2) × (j < 4 * params.now.l) }
             ensures { IfOk result (λ value. value ≡ product_value params.entry.now
-                challenges.entry.now codes.entry.now t (2 * j)) }
-        { Ok(product_value(params, challenges, codes, t, 2 * j)) },
+                challenges.entry.now codewords.entry.now t (2 * j)) }
+        { Ok(product_value(params, challenges, codewords, t, 2 * j)) },
     )
 }
 
 fn product_value(
     params: &Params,
     challenges: &Challenges,
-    codes: &[Items<Gold>],
+    codewords: &[Items<Gold>],
     t: usize,
     i: usize,
 ) -> Gold
     requires params { IsParams params.now }
     requires repetition { t < 2 }
-    ensures { result ≡ product_value params.now challenges.now codes.now t i }
+    ensures { result ≡ product_value params.now challenges.now codewords.now t i }
 {
     let rows = params.constraint_rows as usize;
     let first = params.wire_rows as usize;
     let mut sum = Gold::ZERO;
     for k in 0..rows {
         let number = number_at(challenges.rho.as_slice(), t * rows + k);
-        let x = entry(codes, first + k, i);
-        let y = entry(codes, first + rows + k, i);
-        let z = entry(codes, first + 2 * rows + k, i);
+        let x = entry(codewords, first + k, i);
+        let y = entry(codewords, first + rows + k, i);
+        let z = entry(codewords, first + 2 * rows + k, i);
         sum = sum.add(number.mul(x.mul(y).sub(z)));
     }
-    entry(codes, params.rows as usize + 4 + t, i).add(sum)
+    entry(codewords, params.rows as usize + 4 + t, i).add(sum)
 }

@@ -6,7 +6,7 @@ ghost use Rattle.gold_field.specs.declared.gold.TheConstants.{P};
 ghost use Rattle.gold_ntt.specs.Polynomial.{IsPadded, shifted_at};
 ghost use Rattle.gold_ntt.specs.Transform.{IsLength};
 ghost use Rattle.lig_layout.specs.Sizes.{IsParams};
-ghost use Rattle.lig_proof.specs.Encoding.{Interpolates, IsCode, masked};
+ghost use Rattle.lig_proof.specs.Encoding.{Interpolates, IsMaskedRow, masked};
 ghost use Rattle.lig_proof.specs.ProofBytes.{AreValues};
 ghost use Rattle.lig_prover.specs.Transform.{values_at};
 
@@ -50,8 +50,8 @@ pub fn interpolate(values: &mut [Gold])
     scale_by_powers(values, Gold::from_wide(INVERSE_OF_SEVEN));
 }
 
-/// The code of a row under a mask.
-pub fn row_code(
+/// The polynomial of a row under a mask.
+pub fn masked_row(
     alloc: Global,
     params: &Params,
     row: &[Gold],
@@ -59,7 +59,7 @@ pub fn row_code(
 ) -> Result<Vec<Gold>, AllocError>
     requires params { IsParams params.now }
     requires row { length row.now ≡ params.now.l }
-    ensures { IfOk result (λ v. IsCode params.now row.now mask.now v.items) }
+    ensures { IfOk result (λ v. IsMaskedRow params.now row.now mask.now v.items) }
 {
     let polynomial = row_polynomial(alloc, params, row)?;
     let l = params.l as usize;

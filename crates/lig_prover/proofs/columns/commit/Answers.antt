@@ -7,7 +7,7 @@ use Rattle.lig_prover.proofs.columns.commit.Goals as goal
 
 pub make-requires : goal.make-requires
 make-requires g c =
-    let leaf = λ (i : ℕ). leaf_hash (column_in c.args.codes.now i) in
+    let leaf = λ (i : ℕ). leaf_hash (column_in c.args.codewords.now i) in
     let count = 8 * c.args.params.now.l in
     let size = ap length (c.deref.ensures.value ∙ c.in_ok-leaves.ensures)
     ∙ length-map-range_with_len leaf 0 count in
@@ -15,7 +15,7 @@ make-requires g c =
 
 pub returns-clause-depth : goal.returns-clause-depth
 returns-clause-depth g c =
-    let leaf = λ (i : ℕ). leaf_hash (column_in c.args.codes.now i) in
+    let leaf = λ (i : ℕ). leaf_hash (column_in c.args.codewords.now i) in
     let count = 8 * c.args.params.now.l in
     let size = ap length (c.deref.ensures.value ∙ c.in_ok-leaves.ensures)
     ∙ length-map-range_with_len leaf 0 count in

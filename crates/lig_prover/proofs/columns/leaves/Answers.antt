@@ -8,5 +8,5 @@ use Rattle.lig_prover.proofs.columns.leaves.Goals as goal
 pub returns : goal.returns
 returns g c =
     IfOk-then c.each_place.result _ _ c.each_place.ensures (λ v h.
-    AllZip-map (λ i. leaf_hash (column_in c.args.codes.now i))
+    AllZip-map (λ i. leaf_hash (column_in c.args.codewords.now i))
     (range_with_len 0 c.args.count) v.items h)

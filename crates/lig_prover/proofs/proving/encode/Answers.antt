@@ -16,13 +16,13 @@ evaluated-requires-clause-fits g c κs within =
     (All-from_get_or (λ coefs. length coefs ≤ 2 ^ p.depth) polys []
     (λ k l. all_fit p polys c.requires.params c.in_ok-polynomials.ensures.count degrees k l))
 
-pub returns-clause-codes : goal.returns-clause-codes
-returns-clause-codes g c =
+pub returns-clause-codewords : goal.returns-clause-codewords
+returns-clause-codewords g c =
     let p = c.args.params.now in
     let polys = c.in_ok-polynomials.polynomials.items in
     record {
       count = c.in_ok-polynomials.ensures.count;
       degrees = encoded_has_degrees p c.args.vectors.now c.args.seed.now
           (encoded_by p polys) c.requires.params c.in_ok-polynomials.ensures.encoded;
-      each = c.in_ok-codes.ensures ∙ ap (map (values_at p.depth)) c.deref.ensures.value;
+      each = c.in_ok-codewords.ensures ∙ ap (map (values_at p.depth)) c.deref.ensures.value;
     }

@@ -15,9 +15,9 @@ use Rattle.lig_prover.proofs.proving.prove_any_as.Goals as goal
 pub proof_in-requires-clause-leaves : goal.proof_in-requires-clause-leaves
 proof_in-requires-clause-leaves g c =
     let p = c.of-params.result in
-    let codes = c.deref.result.now in
+    let codewords = c.deref.result.now in
     ap length c.in_ok-tree.ensures.leaves ∙ length-map-range_with_len
-    (λ i. leaf_hash (column_in codes i)) 0 (8 * p.l)
+    (λ i. leaf_hash (column_in codewords i)) 0 (8 * p.l)
 
 pub proof_in-requires-clause-below : goal.proof_in-requires-clause-below
 proof_in-requires-clause-below g c = rw c.deref-5.ensures.value c.in_ok-opened.ensures.below
@@ -32,8 +32,8 @@ returns g c =
     let version = c.args.version in
     let r1cs_bytes = c.args.r1cs_bytes.now in
     let polys = c.in_ok-polynomials.polynomials.items in
-    let codes = c.in_ok-polynomials.codes.items in
-    let are = c.in_ok-polynomials.ensures.codes in
+    let codewords = c.in_ok-polynomials.codewords.items in
+    let are = c.in_ok-polynomials.ensures.codewords in
     let e = encoded_by p polys in
     let challenges = c.in_ok-drawn.drawn in
     let all = c.in_ok-polys.polys.items in
@@ -42,7 +42,7 @@ returns g c =
     let hashes = c.in_ok-tree.ensures.leaves
     ∙ ap (λ cs. map (λ i. leaf_hash (column_in cs i)) (range_with_len 0 (8 * p.l)))
     c.deref.ensures.value
-    ∙ leaves_same p polys codes h are in
+    ∙ leaves_same p polys codewords h are in
     let root : c.root.result ≡ commitment p e =
     c.root.ensures ∙ (λ i. root_at (c.in_ok-tree.ensures.depth i) (hashes i)) in
     let publics = c.publics_of-publics.ensures ∙ ap (publics_of f) c.as_slice.ensures in
@@ -61,7 +61,7 @@ returns g c =
       systems = sent.1;
       spelled = made ∙ (λ i. spelled_by version p tree (c.deref-4.ensures.value i) all
           (c.deref-5.ensures.value i))
-          ∙ spelled_same version p polys codes tree all opened h are hashes
+          ∙ spelled_same version p polys codewords tree all opened h are hashes
           c.in_ok-opened.ensures.below
           ∙ (λ i. bytes_in version p e (sent.2 i) (columns i));
     }))

@@ -41,17 +41,17 @@ returns g c =
     let f = c.args.file.now in
     let challenges = c.args.challenges.now in
     let polynomials = c.args.polynomials.items in
-    let first = c.in_ok-linear_0.ensures polynomials c.requires.codes in
-    let second = c.in_ok-linear_1.ensures polynomials c.requires.codes in
-    let code_0 = c.in_ok-code_0.code_0.items in
-    let code_1 = c.in_ok-code_0.code_1.items in
+    let first = c.in_ok-linear_0.ensures polynomials c.requires.codewords in
+    let second = c.in_ok-linear_1.ensures polynomials c.requires.codewords in
+    let proximity_0 = c.in_ok-proximity_0.proximity_0.items in
+    let proximity_1 = c.in_ok-proximity_0.proximity_1.items in
     let linear_0 = c.in_ok-linear_0.linear_0.items in
     let linear_1 = c.in_ok-linear_1.linear_1.items in
     let product_0 = c.in_ok-product_0.product_0.items in
     let product_1 = c.in_ok-product_1.product_1.items in
-    let product_is = c.in_ok-product_0.ensures polynomials c.requires.codes in
-    let product_too = c.in_ok-product_1.ensures polynomials c.requires.codes in
-    let all = extended code_0 linear_0 product_0 code_1 linear_1 product_1
+    let product_is = c.in_ok-product_0.ensures polynomials c.requires.codewords in
+    let product_too = c.in_ok-product_1.ensures polynomials c.requires.codewords in
+    let all = extended proximity_0 linear_0 product_0 proximity_1 linear_1 product_1
     c.deref.result.now c.deref-2.result.now c.deref-3.result.now c.deref-4.result.now
     c.deref-5.result.now
     c.extend_from_slice.new.self.items c.extend_from_slice-2.new.self.items
@@ -64,8 +64,8 @@ returns g c =
     c.in_ok-extend_from_slice-4.ensures.items c.in_ok-extend_from_slice-5.ensures.items in (
       either first.0 second.0,
       both p f challenges first.0 second.0 first.1 second.1,
-      all ∙ joined code_0 linear_0 product_0 code_1 linear_1 product_1
-          ∙ (λ i. c.in_ok-code_0.ensures.first i
-          ++ (first.2 i ++ (product_is i ++ (c.in_ok-code_0.ensures.second i
+      all ∙ joined proximity_0 linear_0 product_0 proximity_1 linear_1 product_1
+          ∙ (λ i. c.in_ok-proximity_0.ensures.first i
+          ++ (first.2 i ++ (product_is i ++ (c.in_ok-proximity_0.ensures.second i
           ++ (second.2 i ++ product_too i))))),
     )

@@ -47,7 +47,8 @@ pub coefficients_of-requires-clause-each : goal.coefficients_of-requires-clause-
 coefficients_of-requires-clause-each g c =
     let p = c.args.params.now in
     ap length c.in_ok-values.ensures
-    ∙ length-map-range_with_len (λ j. linear_value p c.args.codes.now c.deref-3.result.now c.args.t
+    ∙ length-map-range_with_len (λ j.
+    linear_value p c.args.codewords.now c.deref-3.result.now c.args.t
     (2 * j) j) 0 (4 * p.l)
 
 pub returns : goal.returns
@@ -70,7 +71,7 @@ returns g c = λ polynomials are.
       interpolate,
       c.coefficients_of.ensures (widened p test)
           (subst Fits four (widened_values p (3 * p.l) test fits))
-          (linear_are p polynomials c.args.codes.now c.args.t c.requires.params are
+          (linear_are p polynomials c.args.codewords.now c.args.t c.requires.params are
           c.requires.repetition
           rows c.deref-3.result.now c.in_ok-values.values.items c.in_ok-rows.ensures.count
           (λ k l. (c.in_ok-rows.ensures.rows k l).degree)

@@ -6,4 +6,4 @@ use Rattle.lig_prover.proofs.tests.linear_value.Given as goal
 
 abbrev pub invariant-loop-k : goal.invariant-loop-k
 invariant-loop-k l = l.sum
-    ≡ sum_to l.k (λ k. entry_of l.factors k l.j * entry_of l.codes k (2 * l.j)) % P
+    ≡ sum_to l.k (λ k. entry_of l.factors k l.j * entry_of l.codewords k (2 * l.j)) % P

@@ -7,8 +7,10 @@ use Rattle.lig_prover.proofs.tests.product_value.Given as goal
 
 abbrev pub invariant-loop-k : goal.invariant-loop-k
 invariant-loop-k l =
-    let x = λ (k : ℕ). entry_of l.codes (l.params.wire_rows + k) l.i in
-    let y = λ (k : ℕ). entry_of l.codes (l.params.wire_rows + l.params.constraint_rows + k) l.i in
-    let z = λ (k : ℕ). entry_of l.codes (l.params.wire_rows + 2 * l.params.constraint_rows + k) l.i
+    let x = λ (k : ℕ). entry_of l.codewords (l.params.wire_rows + k) l.i in
+    let y = λ (k : ℕ).
+    entry_of l.codewords (l.params.wire_rows + l.params.constraint_rows + k) l.i in
+    let z = λ (k : ℕ).
+    entry_of l.codewords (l.params.wire_rows + 2 * l.params.constraint_rows + k) l.i
     in
     l.sum ≡ sum_to l.k (λ k. rho l.params l.challenges l.t k * (x k * y k + (P - z k))) % P

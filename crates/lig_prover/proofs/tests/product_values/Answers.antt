@@ -9,5 +9,5 @@ pub returns : goal.returns
 returns g c =
     let p = c.args.params.now in
     IfOk-then c.each_place.result _ _ c.each_place.ensures (λ v h.
-    AllZip-map (λ j. product_value p c.args.challenges.now c.args.codes.now c.args.t (2 * j))
+    AllZip-map (λ j. product_value p c.args.challenges.now c.args.codewords.now c.args.t (2 * j))
     (range_with_len 0 (4 * p.l)) v.items h)

@@ -1,4 +1,4 @@
-use Rattle.lig_prover.proofs.sent.code_tests.Goals as goal
+use Rattle.lig_prover.proofs.sent.proximity_tests.Goals as goal
 
 pub returns-clause-first : goal.returns-clause-first
 returns-clause-first g c = rw c.deref.ensures.value at c.in_ok-first.ensures

@@ -3,7 +3,7 @@ use Rattle.gold_field.specs.declared.gold.TheConstants.{P}
 use Rattle.lig_proof.specs.Tests.{alpha}
 use Rattle.lig_prover.specs.Matrix.{entry_of}
 use Rattle.lig_prover.proofs.Adding.{nothing_added, one_added, all_added}
-use Rattle.lig_prover.proofs.tests.code_coefficient.Goals as goal
+use Rattle.lig_prover.proofs.tests.proximity_coefficient.Goals as goal
 
 pub loop-k-init : goal.loop-k-init
 loop-k-init c = nothing_added (λ k. alpha c.args.params.now c.args.challenges.now c.args.t k *

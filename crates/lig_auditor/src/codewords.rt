@@ -1,18 +1,18 @@
-//! The test that the rows are codes.
+//! The test that the rows are codewords.
 
 ghost use Rattle.std.specs.Prelude.{◌≡◌, ◌<◌, ◌+◌, ◌↔◌, [], IfOk, IsTrue, length};
 ghost use Rattle.std.specs.Prelude.{slice_index_or};
 ghost use Rattle.lig_proof.specs.Audit.{Proximity};
-ghost use Rattle.lig_auditor.specs.Opened.{IsOpening, ArePoints, CodesAgree, audit_in, no_system};
-ghost use Rattle.lig_auditor.specs.Opened.{code_value};
+ghost use Rattle.lig_auditor.specs.Opened.{IsOpening, ArePoints, ProximityAgrees, audit_in};
+ghost use Rattle.lig_auditor.specs.Opened.{no_system, proximity_value};
 
 use crate::agreement::{agrees, both};
-use crate::opening::{Opening, code_polynomial, column};
+use crate::opening::{Opening, proximity_polynomial, column};
 use gold_field::Gold;
 use std::alloc::{AllocError, Global};
 use std::thread::Threads;
 
-/// Whether what was sent for the codes has the values of the columns.
+/// Whether what was sent for the rows has the values of the columns.
 pub fn proximity<R: Threads + Sync>(
     rt: &R,
     alloc: Global,
@@ -23,12 +23,12 @@ pub fn proximity<R: Threads + Sync>(
     requires points { ArePoints opening.now.params.now opening.now.indices.now points.now }
     ensures { IfOk result (λ holds. IsTrue holds ↔ Proximity (audit_in opening.now [] no_system)) }
 {
-    let first = codes_agree(rt, alloc, opening, points, 0)?;
-    let second = codes_agree(rt, alloc, opening, points, 1)?;
+    let first = proximity_agrees(rt, alloc, opening, points, 0)?;
+    let second = proximity_agrees(rt, alloc, opening, points, 1)?;
     Ok(both(first, second))
 }
 
-fn codes_agree<R: Threads + Sync>(
+fn proximity_agrees<R: Threads + Sync>(
     rt: &R,
     alloc: Global,
     opening: &Opening<'_>,
@@ -38,9 +38,9 @@ fn codes_agree<R: Threads + Sync>(
     requires opening { IsOpening opening.now }
     requires points { ArePoints opening.now.params.now opening.now.indices.now points.now }
     requires repetition { t < 2 }
-    ensures { IfOk result (λ holds. IsTrue holds ↔ CodesAgree opening.now t) }
+    ensures { IfOk result (λ holds. IsTrue holds ↔ ProximityAgrees opening.now t) }
 {
-    let polynomial = code_polynomial(opening, t);
+    let polynomial = proximity_polynomial(opening, t);
     agrees(
         rt,
         alloc,
@@ -49,18 +49,18 @@ fn codes_agree<R: Threads + Sync>(
         polynomial,
         |q: usize| -> Result<Gold, AllocError>
             requires { IsOpening opening.now × (t < 2) × (q < length opening.now.columns.now) }
-            ensures { IfOk result (λ value. value ≡ code_value opening.entry.now t
+            ensures { IfOk result (λ value. value ≡ proximity_value opening.entry.now t
                 (slice_index_or opening.entry.now.columns.now q [])) }
-        { Ok(code_value(opening, t, column(opening, q))) },
+        { Ok(proximity_value(opening, t, column(opening, q))) },
     )
 }
 
 // A column's mask and its rows, combined by the challenges.
-fn code_value(opening: &Opening<'_>, t: usize, column: &[Gold]) -> Gold
+fn proximity_value(opening: &Opening<'_>, t: usize, column: &[Gold]) -> Gold
     requires opening { IsOpening opening.now }
     requires repetition { t < 2 }
     requires column { length column.now ≡ opening.now.params.now.rows + 6 }
-    ensures { result ≡ code_value opening.now t column.now }
+    ensures { result ≡ proximity_value opening.now t column.now }
 {
     let rows = opening.params.rows as usize;
     let alpha = opening.challenges.alpha.as_slice();

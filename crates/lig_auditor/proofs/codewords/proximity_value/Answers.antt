@@ -1,10 +1,10 @@
 use Rattle.std.proofs.Common.{◌+◌, ◌*◌, ◌%◌, ◌<◌, ◌≡◌, ℕ, length, refl, ap, ◌∙◌, sym, arith}
 use Rattle.gold_field.specs.declared.gold.TheConstants.{P}
 use Rattle.gold_ntt.specs.Polynomial.{sum_to}
-use Rattle.lig_proof.specs.Columns.{row_value, code_mask_value}
+use Rattle.lig_proof.specs.Columns.{row_value, proximity_mask_value}
 use Rattle.lig_proof.specs.Tests.{alpha}
 use Rattle.lig_auditor.proofs.Adding.{read, in_part, none_yet, next_product, on_top}
-use Rattle.lig_auditor.proofs.codes.code_value.Goals as goal
+use Rattle.lig_auditor.proofs.codewords.proximity_value.Goals as goal
 
 pub loop-k-init : goal.loop-k-init
 loop-k-init c =
@@ -42,7 +42,7 @@ returns c =
     let mask =
     read c.args.column.now c.args.column.now (p.rows + c.args.t) c.index-column-rows.result refl
     (omega arith) c.index-column-rows.is in
-    on_top (code_mask_value p c.args.column.now c.args.t)
+    on_top (proximity_mask_value p c.args.column.now c.args.t)
     (sum_to p.rows f) c.loop-k.sum c.add.result
     (c.loop-k.invariant ∙ ap (λ k. sum_to k f % P) is)
     (c.add.ensures ∙ ap (λ m. (m + c.loop-k.sum) % P) mask)

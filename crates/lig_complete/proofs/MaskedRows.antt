@@ -1,4 +1,4 @@
--- Codes and masks at the message points.
+-- Masked rows and masks at the message points.
 use Rattle.std.proofs.Common.{◌≡◌, ℕ, zero, suc, ◌+◌, ◌-◌, ◌*◌, ◌%◌, ◌^◌, ◌<◌, ◌≤◌, List, []}
 use Rattle.std.proofs.Common.{length, get_or, cond, refl, sym, ap, subst, ◌∙◌, arith, zero-add}
 use Rattle.std.proofs.Common.{⊎_elim, lit<}
@@ -21,7 +21,7 @@ use Rattle.lig_layout.specs.declared.params.Params.{Params}
 use Rattle.lig_layout.specs.Sizes.{IsParams}
 use Rattle.lig_proof.specs.Points.{width_log, message_point}
 use Rattle.lig_proof.specs.Drawing.{numbers_of}
-use Rattle.lig_proof.specs.Encoding.{IsCode, masked}
+use Rattle.lig_proof.specs.Encoding.{IsMaskedRow, masked}
 use Rattle.lig_proof.specs.Masks.{row_mask, product_mask, drawn}
 use Rattle.lig_proof.proofs.Draws.{length-numbers_of}
 use Rattle.lig_proof.proofs.Interpolants.{width_is}
@@ -36,7 +36,7 @@ numbers_below key stream place (suc n) (suc k) = numbers_below key stream (place
 put_back : (b s m : ℕ) → m < P → ((b + (s + (P - m))) % P + m) % P ≡ (s + b) % P
 put_back b s m l = omega arith
 
--- a code divided by X ^ l - 1
+-- a masked polynomial divided by X ^ l - 1
 masked_division : (l n : ℕ) (base mask : List ℕ) → length base ≤ l → l + length mask ≤ n
     → ((k : ℕ) → get_or mask k 0 < P)
     → IsDivision l (masked l n base mask) mask base
@@ -51,14 +51,14 @@ masked_division l n base mask small fits low =
           (get_or-map-range_with_len (λ i. at i % P) 0 n k k 0 inside (zero-add k))
           ∙ put_back (get_or base k 0) (shifted_at l mask k) (get_or mask k 0) (low k))
           (λ past.
-          let code_none =
+          let masked_none =
           get_or_past made k 0 (omega (arith, length-map-range_with_len (λ i. at i % P) 0 n)) in
           let mask_none = get_or_past mask k 0 (omega arith) in
           let base_none = get_or_past base k 0 (omega arith) in
           let shifted_none : shifted_at l mask k ≡ 0 =
           ap (λ b. cond b 0 (get_or mask (k - l) 0)) (le-ltb k l (omega arith))
           ∙ get_or_past mask (k - l) 0 (omega arith) in
-          ap (λ (y : ℕ). (y + get_or mask k 0) % P) code_none
+          ap (λ (y : ℕ). (y + get_or mask k 0) % P) masked_none
           ∙ ap (λ (y : ℕ). (0 + y) % P) mask_none
           ∙ sym (ap (λ (y : ℕ). (y + get_or base k 0) % P) shifted_none
           ∙ ap (λ (y : ℕ). (0 + y) % P) base_none))
@@ -90,12 +90,12 @@ root_value e f q r j small is =
     ∙ sum_cancel P g (eval_at f x) (eval_at r x) (lit< tt) both
     ∙ mod-mod (poly (length r) (λ i. get_or r i 0) x) P
 
--- a code has the row's values
-pub code_at_message : (p : Params) (row mask code : List ℕ) (j : ℕ) → IsParams p
-    → IsCode p row mask code
+-- a masked row has the row's values
+pub masked_row_at_message : (p : Params) (row mask masked_row : List ℕ) (j : ℕ) → IsParams p
+    → IsMaskedRow p row mask masked_row
     → length mask ≡ p.l → ((k : ℕ) → get_or mask k 0 < P) → j < p.l
-    → eval_at code (message_point p j) ≡ get_or row j 0
-code_at_message p row mask code j h is count low inside =
+    → eval_at masked_row (message_point p j) ≡ get_or row j 0
+masked_row_at_message p row mask masked_row j h is count low inside =
     let width = width_is p h in
     let e = width_log p in
     let base = is.polynomial in

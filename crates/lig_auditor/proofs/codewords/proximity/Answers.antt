@@ -2,17 +2,17 @@ use Rattle.std.proofs.Common.{◌≡◌, [], length, get_or}
 use Rattle.gold_ntt.specs.Polynomial.{eval_at}
 use Rattle.lig_proof.specs.Points.{code_point}
 use Rattle.lig_proof.specs.Tests.{polynomials_of}
-use Rattle.lig_auditor.specs.Opened.{code_value}
+use Rattle.lig_auditor.specs.Opened.{proximity_value}
 use Rattle.lig_auditor.proofs.Matching.{in_both}
-use Rattle.lig_auditor.proofs.codes.proximity.Goals as goal
+use Rattle.lig_auditor.proofs.codewords.proximity.Goals as goal
 
 pub returns : goal.returns
 returns g c =
     let o = c.args.opening.now in
     let p = o.params.now in
     in_both (length o.columns.now)
-    (λ t q. eval_at ((polynomials_of p o.polys.now).code t)
+    (λ t q. eval_at ((polynomials_of p o.polys.now).proximity t)
     (code_point p (get_or o.indices.now q 0))
-    ≡ code_value o t (get_or o.columns.now q []))
+    ≡ proximity_value o t (get_or o.columns.now q []))
     c.in_ok-first.first c.in_ok-second.second c.both.result c.in_ok-first.ensures
     c.in_ok-second.ensures c.both.ensures
