@@ -151,11 +151,11 @@ module _ (r1cs_bytes : List ℕ) (f : File) (publics : List ℕ) (proof : AnyPro
       (columns_in proof) ep ec eo ei em h)
 
 -- the challenges, as a call made them
-pub drawn_is : (r1cs_bytes publics root : List ℕ) (p : Params) (f : File) (equations : ℕ)
+pub challenges_are : (r1cs_bytes publics root : List ℕ) (p : Params) (f : File) (equations : ℕ)
     (c : Challenges) → p ≡ params_of f → equations ≡ equation_count f
     → c ≡ challenges_of p equations (first_key r1cs_bytes publics root)
     → c ≡ challenges_for r1cs_bytes f publics root
-drawn_is r1cs_bytes publics root p f equations c ep ee ec =
+challenges_are r1cs_bytes publics root p f equations c ep ee ec =
     let first = first_key r1cs_bytes publics root in
     ec ∙ ap (λ q. challenges_of q equations first) ep
     ∙ ap (λ n. challenges_of (params_of f) n first) ee

@@ -76,15 +76,15 @@ fn audit_proof<R: Threads + AllocGlobal + Sync>(
 {
     let alloc = rt.alloc();
     let equations = equation_count(file);
-    let drawn = challenges(alloc, params, r1cs_bytes, publics, equations, proof.root())?;
-    let indices = indices(alloc, params, &drawn.first, proof)?;
+    let challenges = challenges(alloc, params, r1cs_bytes, publics, equations, proof.root())?;
+    let indices = indices(alloc, params, &challenges.first, proof)?;
     let way = first_astray(alloc, params, &indices, proof)?;
     if let Some(opened) = way {
         return Ok(Verdict::BadPath { opened });
     }
     let opening = Opening {
         params,
-        challenges: &drawn,
+        challenges: &challenges,
         polys: proof.polys(),
         indices: &indices,
         columns: proof.columns(),

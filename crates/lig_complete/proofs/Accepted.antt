@@ -152,7 +152,7 @@ accepted version r1cs_bytes f w seed bytes file limits witness made =
     let polys = λ (d : Challenges). in_order (sent_polynomials p d e system) in
     let Made : Challenges → Type 0 = λ d. AreSystems f d system
     × (bytes ≡ bytes_in version p e (polys d) (opened_columns p d.first (polys d))) in
-    let moved : Made c = subst Made made.drawn (made.systems, made.spelled) in
+    let moved : Made c = subst Made made.challenges_drawn (made.systems, made.spelled) in
     let Read : List ℕ
     → Type 0 =
     λ bs. IsReadVerdict r1cs_bytes f publics (any_proof_of p r1cs_bytes publics bs) Accepted

@@ -22,7 +22,7 @@ use Rattle.lig_layout.specs.Sizes.{IsParams}
 use Rattle.lig_proof.specs.Points.{width_log, message_point}
 use Rattle.lig_proof.specs.Drawing.{numbers_of}
 use Rattle.lig_proof.specs.Encoding.{IsMaskedRow, masked}
-use Rattle.lig_proof.specs.Masks.{row_mask, product_mask, drawn}
+use Rattle.lig_proof.specs.Masks.{row_mask, product_mask, mask_numbers}
 use Rattle.lig_proof.proofs.Draws.{length-numbers_of}
 use Rattle.lig_proof.proofs.Interpolants.{width_is}
 
@@ -121,7 +121,7 @@ pub product_mask_zero : (p : Params) (seed : List ℕ) (t j : ℕ) → IsParams 
 product_mask_zero p seed t j h =
     let width = width_is p h in
     let before = (p.rows + 4) * p.l + 2 * (3 * p.l - 1) in
-    let mask = drawn seed (before + t * (3 * p.l)) (3 * p.l) in
+    let mask = mask_numbers seed (before + t * (3 * p.l)) (3 * p.l) in
     let count = length-numbers_of (key_of seed) 0 (2 * (before + t * (3 * p.l))) (3 * p.l) in
     let Divides : ℕ → Type 0 = λ n. IsDivision n (masked p.l (4 * p.l) [] mask) mask [] in
     let division = subst Divides width.power

@@ -22,7 +22,7 @@ use Rattle.lig_layout.specs.Laws.{publics_of}
 use Rattle.lig_proof.specs.declared.challenge.Challenges.{Challenges}
 use Rattle.lig_proof.specs.Points.{width_log, message_point}
 use Rattle.lig_proof.specs.Encoding.{Interpolates}
-use Rattle.lig_proof.specs.Masks.{drawn, row_mask, linear_mask}
+use Rattle.lig_proof.specs.Masks.{mask_numbers, row_mask, linear_mask}
 use Rattle.lig_proof.specs.Columns.{Encoded}
 use Rattle.lig_proof.specs.Tests.{r_numbers}
 use Rattle.lig_proof.specs.Values.{HasDegrees}
@@ -62,7 +62,7 @@ mask_cancels : (p : Params) (seed : List ℕ) (t : ℕ) → 0 < p.l
 mask_cancels p seed t pos =
     let free = 3 * p.l - 1 in
     let start = (p.rows + 4) * p.l + t * free in
-    let others = drawn seed start free in
+    let others = mask_numbers seed start free in
     let a = get_or others (p.l - 1) 0 in
     let b = get_or others (2 * p.l - 1) 0 in
     let first = ((P - a) + (P - b)) % P in

@@ -188,9 +188,9 @@ proofs_are_one version r1cs_bytes f v seed xs ys h first second =
     let p = params_of f in
     let same = encoded_once p v seed first.encoded second.encoded h first.rows second.rows in
     let challenges : first.challenges ≡ second.challenges =
-    first.drawn
+    first.challenges_drawn
     ∙ ap (λ root. challenges_for r1cs_bytes f (publics_of f v.w) root)
-    (commitment_same p first.encoded second.encoded same) ∙ sym second.drawn in
+    (commitment_same p first.encoded second.encoded same) ∙ sym second.challenges_drawn in
     let Systems : Challenges → Type 0 = λ c. AreSystems f c first.system in
     let moved = subst Systems challenges first.systems in
     let systems : (t k : ℕ) → t < 2 → k < p.rows → first.system t k ≡ second.system t k = λ t k l m.

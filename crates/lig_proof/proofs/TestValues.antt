@@ -14,7 +14,7 @@ use Rattle.gold_ntt.proofs.Products.{poly-add, poly_past, product, product_value
 use Rattle.rand_chacha.specs.ChaCha.{key_of}
 use Rattle.lig_proof.specs.ProofBytes.{AreValues}
 use Rattle.lig_proof.specs.Drawing.{number_at, numbers_of}
-use Rattle.lig_proof.specs.Masks.{drawn}
+use Rattle.lig_proof.specs.Masks.{mask_numbers}
 use Rattle.lig_proof.specs.Tests.{alpha, rho, coefficients}
 use Rattle.lig_proof.specs.Values.{EncodedHasDegrees, ProximityTestHasValues, LinearTestHasValues}
 use Rattle.lig_proof.specs.Values.{ProductTestHasValues}
@@ -118,7 +118,7 @@ encoded_has_degrees p v seed e h is =
           subst Fit (sym (is.proximity t l)) (drawn_values _ 0 _ (2 * p.l));
       linear = λ t l. let Fit : List ℕ → Type 0 = λ xs. AreValues (3 * p.l) xs in
           let free = 3 * p.l - 1 in
-          let others = drawn seed ((p.rows + 4) * p.l + t * free) free in
+          let others = mask_numbers seed ((p.rows + 4) * p.l + t * free) free in
           let are : AreValues free others = drawn_values (key_of seed) 0
           (2 * ((p.rows + 4) * p.l + t * free)) free in
           let count = are.count in

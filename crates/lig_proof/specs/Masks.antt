@@ -7,16 +7,16 @@ use Rattle.lig_proof.specs.Transcript.{numbers}
 use Rattle.lig_proof.specs.Encoding.{masked}
 
 -- n of the numbers that the seed gives, from number k on
-abbrev pub drawn : List ℕ → ℕ → ℕ → List ℕ
-drawn seed k n = numbers seed (2 * k) n
+abbrev pub mask_numbers : List ℕ → ℕ → ℕ → List ℕ
+mask_numbers seed k n = numbers seed (2 * k) n
 
 -- of row k: as many as the width
 abbrev pub row_mask : Params → List ℕ → ℕ → List ℕ
-row_mask p seed k = drawn seed (k * p.l) p.l
+row_mask p seed k = mask_numbers seed (k * p.l) p.l
 
 -- of the test that the rows are codewords: any polynomial of 2 * l coefficients
 abbrev pub proximity_mask : Params → List ℕ → ℕ → List ℕ
-proximity_mask p seed t = drawn seed (p.rows * p.l + t * (2 * p.l)) (2 * p.l)
+proximity_mask p seed t = mask_numbers seed (p.rows * p.l + t * (2 * p.l)) (2 * p.l)
 
 -- of the test of the linear system: any one of 3 * l coefficients whose values at the message
 -- points sum to 0, as the coefficients of X ^ 0, X ^ l and X ^ (2 * l) then do. All but the first
@@ -24,7 +24,7 @@ proximity_mask p seed t = drawn seed (p.rows * p.l + t * (2 * p.l)) (2 * p.l)
 abbrev pub linear_mask : Params → List ℕ → ℕ → List ℕ
 linear_mask p seed t =
     let free = 3 * p.l - 1 in
-    let others = drawn seed ((p.rows + 4) * p.l + t * free) free in
+    let others = mask_numbers seed ((p.rows + 4) * p.l + t * free) free in
     let first = slice_index others (p.l - 1) in
     let second = slice_index others (2 * p.l - 1) in
     ((P - first) + (P - second)) % P ∷ others
@@ -33,4 +33,4 @@ linear_mask p seed t =
 abbrev pub product_mask : Params → List ℕ → ℕ → List ℕ
 product_mask p seed t =
     let before = (p.rows + 4) * p.l + 2 * (3 * p.l - 1) in
-    masked p.l (4 * p.l) [] (drawn seed (before + t * (3 * p.l)) (3 * p.l))
+    masked p.l (4 * p.l) [] (mask_numbers seed (before + t * (3 * p.l)) (3 * p.l))

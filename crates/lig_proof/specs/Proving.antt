@@ -70,7 +70,7 @@ pub record AreMade (version : Version) (r1cs_bytes : List ℕ) (f : File) (v : V
   pub challenges : Challenges
   pub system : ℕ → ℕ → List ℕ
   pub rows : IsEncoded (params_of f) v seed encoded
-  pub drawn : (let root = commitment (params_of f) encoded in
+  pub challenges_drawn : (let root = commitment (params_of f) encoded in
       challenges ≡ challenges_for r1cs_bytes f (publics_of f v.w) root)
   pub systems : AreSystems f challenges system
   pub spelled : (let p = params_of f in

@@ -174,7 +174,7 @@ pub record IsMade (p : Params) (version : Version) (r1cs_bytes : List ℕ) (f : 
     (seed bytes : List ℕ) (polys : List (List ℕ)) (c : Challenges) (system : ℕ → ℕ → List ℕ)
     : Type 0 where
   pub rows : IsEncoded p v seed (encoded_by p polys)
-  pub drawn : (let root = commitment p (encoded_by p polys) in
+  pub challenges_drawn : (let root = commitment p (encoded_by p polys) in
       c ≡ challenges_of p (equation_count f) (first_key r1cs_bytes (publics_of f v.w) root))
   pub systems : AreSystemsOf p f c system
   pub spelled : (let e = encoded_by p polys in
@@ -193,7 +193,7 @@ made_for p version r1cs_bytes f v seed bytes polys c system is made =
       challenges = c;
       system = system;
       rows = here.rows;
-      drawn = here.drawn;
+      challenges_drawn = here.challenges_drawn;
       systems = here.systems;
       spelled = here.spelled;
     }

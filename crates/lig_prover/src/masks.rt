@@ -4,7 +4,8 @@ ghost use Rattle.std.specs.Prelude.{◌≡◌, ◌<◌, ◌≤◌, ◌+◌, ◌-
 ghost use Rattle.std.specs.Prelude.{length};
 ghost use Rattle.gold_field.specs.declared.gold.TheConstants.{P};
 ghost use Rattle.lig_layout.specs.Sizes.{IsParams};
-ghost use Rattle.lig_proof.specs.Masks.{drawn, row_mask, proximity_mask, linear_mask, product_mask};
+ghost use Rattle.lig_proof.specs.Masks.{mask_numbers, row_mask, proximity_mask, linear_mask};
+ghost use Rattle.lig_proof.specs.Masks.{product_mask};
 ghost use Rattle.lig_prover.specs.Matrix.{test_masks};
 
 use crate::transform::{masked, number_at};
@@ -18,8 +19,8 @@ use rand_core::SeedableRng;
 use std::alloc::{AllocError, Global};
 
 // So many of the numbers that the seed gives, from one on.
-fn drawn(alloc: Global, seed: &Hash, from: u32, count: u32) -> Result<Vec<Gold>, AllocError>
-    ensures { IfOk result (λ v. v.items ≡ drawn seed.now from count) }
+fn mask_numbers(alloc: Global, seed: &Hash, from: u32, count: u32) -> Result<Vec<Gold>, AllocError>
+    ensures { IfOk result (λ v. v.items ≡ mask_numbers seed.now from count) }
 {
     let mut words = ChaCha20Rng::from_seed(*seed);
     words.set_word_pos(2 * u128::from(from));
@@ -39,7 +40,7 @@ pub fn row_mask(
     requires row { k < params.now.rows }
     ensures { IfOk result (λ v. v.items ≡ row_mask params.now seed.now k) }
 {
-    drawn(alloc, seed, k * params.l, params.l)
+    mask_numbers(alloc, seed, k * params.l, params.l)
 }
 
 fn proximity_mask(
@@ -53,7 +54,7 @@ fn proximity_mask(
     ensures { IfOk result (λ v. v.items ≡ proximity_mask params.now seed.now repetition) }
 {
     let from = params.rows * params.l + repetition * (2 * params.l);
-    drawn(alloc, seed, from, 2 * params.l)
+    mask_numbers(alloc, seed, from, 2 * params.l)
 }
 
 fn linear_mask(
@@ -69,7 +70,7 @@ fn linear_mask(
     let l = params.l as usize;
     let free = 3 * params.l - 1;
     let from = (params.rows + 4) * params.l + repetition * free;
-    let others = drawn(alloc, seed, from, free)?;
+    let others = mask_numbers(alloc, seed, from, free)?;
     let first = number_at(&others, l - 1);
     let second = number_at(&others, 2 * l - 1);
     let mut mask = Vec::with_capacity(alloc, 3 * l)?;
@@ -98,7 +99,7 @@ fn product_mask(
     let l = params.l as usize;
     let before = (params.rows + 4) * params.l + 2 * (3 * params.l - 1);
     let from = before + repetition * (3 * params.l);
-    let numbers = drawn(alloc, seed, from, 3 * params.l)?;
+    let numbers = mask_numbers(alloc, seed, from, 3 * params.l)?;
     masked(alloc, l, 4 * l, &[], &numbers)
 }
 

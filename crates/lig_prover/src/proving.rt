@@ -129,10 +129,10 @@ pub fn prove_any_as<R: Threads + AllocGlobal + Sync>(
     let tree = commit(rt, alloc, &params, &codewords)?;
     let publics = publics_of(file, vectors.w.as_slice());
     let equations = equation_count(file);
-    let drawn = challenges(alloc, &params, r1cs_bytes, publics, equations, &tree.root())?;
-    let polys = sent(rt, alloc, file, &params, &drawn, polynomials, &codewords)?;
-    let opened = queries(alloc, &params, &drawn.first, &polys)?;
-    proof_in(alloc, version, &params, &tree, &codewords, polys, &opened)
+    let challenges = challenges(alloc, &params, r1cs_bytes, publics, equations, &tree.root())?;
+    let polys = sent(rt, alloc, file, &params, &challenges, polynomials, &codewords)?;
+    let drawn = queries(alloc, &params, &challenges.first, &polys)?;
+    proof_in(alloc, version, &params, &tree, &codewords, polys, &drawn)
 }
 
 // The polynomials of the encoded matrix, and their codewords.

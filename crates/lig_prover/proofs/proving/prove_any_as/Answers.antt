@@ -20,7 +20,7 @@ proof_in-requires-clause-leaves g c =
     (λ i. leaf_hash (column_in codewords i)) 0 (8 * p.l)
 
 pub proof_in-requires-clause-below : goal.proof_in-requires-clause-below
-proof_in-requires-clause-below g c = rw c.deref-5.ensures.value c.in_ok-opened.ensures.below
+proof_in-requires-clause-below g c = rw c.deref-5.ensures.value c.in_ok-drawn.ensures.below
 
 pub returns : goal.returns
 returns g c =
@@ -35,9 +35,9 @@ returns g c =
     let codewords = c.in_ok-polynomials.codewords.items in
     let are = c.in_ok-polynomials.ensures.codewords in
     let e = encoded_by p polys in
-    let challenges = c.in_ok-drawn.drawn in
+    let challenges = c.in_ok-challenges.challenges in
     let all = c.in_ok-polys.polys.items in
-    let opened = c.in_ok-opened.opened.items in
+    let drawn = c.in_ok-drawn.drawn.items in
     let tree = c.in_ok-tree.tree.hashes in
     let hashes = c.in_ok-tree.ensures.leaves
     ∙ ap (λ cs. map (λ i. leaf_hash (column_in cs i)) (range_with_len 0 (8 * p.l)))
@@ -48,7 +48,7 @@ returns g c =
     let publics = c.publics_of-publics.ensures ∙ ap (publics_of f) c.as_slice.ensures in
     let equations = c.equation_count-equations.ensures in
     let sent = c.in_ok-polys.ensures in
-    let columns = c.in_ok-opened.ensures.columns
+    let columns = c.in_ok-drawn.ensures.columns
     ∙ ap (opened_columns p challenges.first) (c.deref-3.ensures.value ∙ sent.2) in
     IfOk-then c.proof_in.result _ (λ bytes. AreMade version r1cs_bytes f v seed bytes.items)
     c.proof_in.ensures
@@ -56,12 +56,12 @@ returns g c =
     c.of-params.ensures.value
     (record {
       rows = c.in_ok-polynomials.ensures.encoded;
-      drawn = c.in_ok-drawn.ensures.value ∙ (λ i. challenges_of p (equations i)
+      challenges_drawn = c.in_ok-challenges.ensures.value ∙ (λ i. challenges_of p (equations i)
           (first_key r1cs_bytes (publics i) (root i)));
       systems = sent.1;
       spelled = made ∙ (λ i. spelled_by version p tree (c.deref-4.ensures.value i) all
           (c.deref-5.ensures.value i))
-          ∙ spelled_same version p polys codewords tree all opened h are hashes
-          c.in_ok-opened.ensures.below
+          ∙ spelled_same version p polys codewords tree all drawn h are hashes
+          c.in_ok-drawn.ensures.below
           ∙ (λ i. bytes_in version p e (sent.2 i) (columns i));
     }))
