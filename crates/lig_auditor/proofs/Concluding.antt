@@ -21,10 +21,10 @@ use Rattle.lig_proof.specs.declared.verdict.Verdict.TheVariants.{LinearColumn as
 use Rattle.lig_proof.specs.declared.verdict.Verdict.TheVariants.{QuadZero as NotZero}
 use Rattle.lig_proof.specs.declared.verdict.Verdict.TheVariants.{QuadColumn as NotProduct}
 use Rattle.lig_proof.specs.ProofBytes.{AreValues, IsProof}
-use Rattle.lig_proof.specs.Transcript.{first_key, challenges_of, opened_columns}
+use Rattle.lig_proof.specs.Transcript.{first_key, challenges_of, queries}
 use Rattle.lig_proof.specs.SharedProof.{IsProof2, opened_once, opened_for}
 use Rattle.lig_proof.specs.SharedReading.{IsAny, any_proof_of}
-use Rattle.lig_proof.specs.Tests.{polynomials_of}
+use Rattle.lig_proof.specs.Sent.{polynomials_of}
 use Rattle.lig_proof.specs.Proving.{AreSystems, challenges_for}
 use Rattle.lig_proof.specs.Audit.{Audit, Proximity, LinearSum, LinearColumn, QuadZero, QuadColumn}
 use Rattle.lig_proof.specs.Audit.{IsTested}
@@ -132,7 +132,7 @@ module _ (r1cs_bytes : List ℕ) (f : File) (publics : List ℕ) (proof : AnyPro
   due =
       let p = params_of f in
       let c = challenges_for r1cs_bytes f publics (root_in proof) in
-      indices_in p (opened_columns p c.first (polys_in proof)) proof
+      indices_in p (queries p c.first (polys_in proof)) proof
 
   pub proof_verdict : (v : Verdict) (p : Params) (c : Challenges) (polys indices : List ℕ)
       (columns : List (List ℕ))
@@ -168,13 +168,13 @@ first_is p equations c key made = ap (λ (d : Challenges). d.first) made
 module _ (r1cs_bytes : List ℕ) (f : File) (publics : List ℕ) (proof : AnyProof) (p : Params)
     (is : p ≡ params_of f) (indices : List ℕ) where
   pub are_due : (c : Challenges) → c ≡ challenges_for r1cs_bytes f publics (root_in proof)
-      → indices ≡ indices_in p (opened_columns p c.first (polys_in proof)) proof
+      → indices ≡ indices_in p (queries p c.first (polys_in proof)) proof
       → indices ≡ due r1cs_bytes f publics proof
   are_due c made are =
       let polys = polys_in proof in
-      are ∙ ap (λ q. indices_in q (opened_columns q c.first polys) proof) is
+      are ∙ ap (λ q. indices_in q (queries q c.first polys) proof) is
       ∙ ap (λ (d : Challenges).
-      indices_in (params_of f) (opened_columns (params_of f) d.first polys) proof) made
+      indices_in (params_of f) (queries (params_of f) d.first polys) proof) made
 
   module _ (are : indices ≡ due r1cs_bytes f publics proof) where
     at_due : (way : Option ℕ) → IsFirstAstray p indices proof way
@@ -227,14 +227,14 @@ drawn_ways p r1cs_bytes publics drawn proof count h =
 
 pub once_ways : (p : Params) (r1cs_bytes publics first drawn once : List ℕ) (proof : Proof2)
     → first ≡ first_key r1cs_bytes publics proof.root
-    → drawn ≡ opened_columns p first proof.polys → once ≡ opened_once p drawn
+    → drawn ≡ queries p first proof.polys → once ≡ opened_once p drawn
     → AreOpened p.depth once
     → IsProof2 p (opened_for p r1cs_bytes publics proof.root proof.polys) proof
     → HasWays p once (Second proof)
 once_ways p r1cs_bytes publics first drawn once proof key are is opened h =
     let due : once ≡ opened_for p r1cs_bytes publics proof.root proof.polys =
-    is ∙ ap (opened_once p) (are ∙ ap (λ k. opened_columns p k proof.polys) key) in (
-      ap length due ∙ sym h.opened_count,
+    is ∙ ap (opened_once p) (are ∙ ap (λ k. queries p k proof.polys) key) in (
+      ap length due ∙ sym h.columns_count,
       h.nodes_count ∙ sym (ap (shared_count p.depth) due),
       opened,
     )
@@ -255,18 +255,18 @@ lifted_two A B C (Ok x) f a b = f x a b
 lifted_two A B C (Err e) f a b = tt
 
 module _ (p : Params) (first drawn once : List ℕ) (proof : AnyProof) (second : Proof2)
-    (is : proof ≡ Second second) (are : drawn ≡ opened_columns p first (polys_in proof))
+    (is : proof ≡ Second second) (are : drawn ≡ queries p first (polys_in proof))
     (each_once : once ≡ opened_once p drawn) where
-  pub second_due : once ≡ indices_in p (opened_columns p first (polys_in proof)) proof
+  pub second_due : once ≡ indices_in p (queries p first (polys_in proof)) proof
   second_due =
       each_once ∙ ap (opened_once p) are
-      ∙ sym (ap (indices_in p (opened_columns p first (polys_in proof))) is)
+      ∙ sym (ap (indices_in p (queries p first (polys_in proof))) is)
 
   pub second_ways : (r1cs_bytes publics : List ℕ) → AreOpened p.depth once
       → first ≡ first_key r1cs_bytes publics (root_in proof)
       → IsAny p r1cs_bytes publics proof → HasWays p once proof
   second_ways r1cs_bytes publics opened key h =
-      let Holds : AnyProof → Type 0 = λ q. drawn ≡ opened_columns p first (polys_in q)
+      let Holds : AnyProof → Type 0 = λ q. drawn ≡ queries p first (polys_in q)
       → first ≡ first_key r1cs_bytes publics (root_in q)
       → IsAny p r1cs_bytes publics q → HasWays p once q in
       let at_second : Holds (Second second) =

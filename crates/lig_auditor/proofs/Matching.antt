@@ -6,7 +6,7 @@ use Rattle.gold_ntt.specs.Polynomial.{eval_at}
 use Rattle.lig_layout.specs.declared.params.Params.{Params}
 use Rattle.lig_layout.specs.Sizes.{IsParams}
 use Rattle.lig_proof.specs.Points.{code_point, message_point, width_log}
-use Rattle.lig_proof.specs.Tests.{polynomials_of}
+use Rattle.lig_proof.specs.Sent.{polynomials_of}
 use Rattle.lig_auditor.specs.declared.opening.Opening.{Opening}
 use Rattle.lig_auditor.specs.Opened.{ArePoints, HasValuesAt, folded}
 use Rattle.lig_proof.proofs.Interpolants.{width_is}

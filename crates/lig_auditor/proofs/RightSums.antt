@@ -16,7 +16,7 @@ use Rattle.lig_proof.specs.Points.{message_point, width_log}
 use Rattle.lig_proof.proofs.Interpolants.{width_is}
 use Rattle.lig_proof.proofs.PointSums.{sum_parts, sum_at_points}
 use Rattle.lig_auditor.proofs.Matching.{one_more}
-use Rattle.lig_proof.specs.Tests.{polynomials_of, r_numbers}
+use Rattle.lig_proof.specs.Sent.{polynomials_of, r_numbers}
 use Rattle.lig_auditor.specs.declared.opening.Opening.{Opening}
 use Rattle.gold_ntt.proofs.Sums.{sum_same, sum_first, sum-zero}
 

@@ -17,7 +17,7 @@ use Rattle.lig_layout.specs.System.{combined, combined_at, left_sides, equation_
 use Rattle.lig_proof.specs.declared.challenge.Challenges.{Challenges}
 use Rattle.lig_proof.specs.Encoding.{Interpolates, InterpolateRows}
 use Rattle.lig_proof.specs.ProofBytes.{AreValues}
-use Rattle.lig_proof.specs.Tests.{r_numbers}
+use Rattle.lig_proof.specs.Sent.{r_numbers}
 use Rattle.lig_proof.specs.Proving.{AreSystems}
 use Rattle.lig_proof.specs.Points.{code_point}
 use Rattle.lig_proof.specs.Columns.{row_value, linear_mask_value}

@@ -8,7 +8,7 @@ use Rattle.lig_layout.specs.Sizes.{IsParams}
 use Rattle.lig_proof.specs.Points.{code_point}
 use Rattle.lig_proof.specs.Columns.{row_value, proximity_mask_value, linear_mask_value}
 use Rattle.lig_proof.specs.Columns.{product_mask_value}
-use Rattle.lig_proof.specs.Tests.{alpha, rho, polynomials_of}
+use Rattle.lig_proof.specs.Sent.{alpha, rho, polynomials_of}
 use Rattle.lig_proof.specs.Audit.{Audit, excess}
 use Rattle.lig_auditor.specs.declared.opening.Opening.{Opening}
 

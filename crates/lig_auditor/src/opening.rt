@@ -6,7 +6,7 @@ ghost use Rattle.lig_layout.specs.Sizes.{IsParams};
 ghost use Rattle.gold_ntt.specs.Transform.{root_of};
 ghost use Rattle.lig_layout.specs.declared.params.Params.{Params};
 ghost use Rattle.lig_proof.specs.Points.{code_point};
-ghost use Rattle.lig_proof.specs.Tests.{polynomials_of};
+ghost use Rattle.lig_proof.specs.Sent.{polynomials_of};
 ghost use Rattle.lig_auditor.specs.Opened.{IsOpening, ArePoints};
 
 use gold_field::Gold;

@@ -7,7 +7,7 @@ ghost use Rattle.lig_merkle.specs.Shared.{AreOpened};
 ghost use Rattle.lig_proof.specs.Acceptance.{IsVerdict, IsProofVerdict, public_count};
 ghost use Rattle.lig_proof.specs.Acceptance.{indices_in, polys_in, root_in};
 ghost use Rattle.lig_proof.specs.SharedReading.{IsAny};
-ghost use Rattle.lig_proof.specs.Transcript.{first_key, opened_columns};
+ghost use Rattle.lig_proof.specs.Transcript.{first_key, queries};
 ghost use Rattle.lig_auditor.specs.Ways.{HasWays};
 
 use crate::opening::Opening;
@@ -101,7 +101,7 @@ fn indices(
 ) -> Result<Vec<u32>, AllocError>
     requires { IsParams params.now }
     ensures value { IfOk result (λ v. v.items ≡ indices_in params.now
-        (opened_columns params.now first.now (polys_in proof.now)) proof.now) }
+        (queries params.now first.now (polys_in proof.now)) proof.now) }
     ensures ways { IfOk result (λ v. (r1cs_bytes publics : List ℕ)
         → first.now ≡ first_key r1cs_bytes publics (root_in proof.now)
         → IsAny params.now r1cs_bytes publics proof.now

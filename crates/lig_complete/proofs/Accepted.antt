@@ -20,8 +20,8 @@ use Rattle.lig_proof.specs.declared.version.Version.TheVariants.{One, Two}
 use Rattle.lig_proof.specs.ProofBytes.{AreValues}
 use Rattle.lig_proof.specs.Columns.{Encoded, column_at, commitment}
 use Rattle.lig_proof.specs.SharedProof.{opened_once}
-use Rattle.lig_proof.specs.Transcript.{key_word, second_key, opened_columns}
-use Rattle.lig_proof.specs.Tests.{in_order, sent_polynomials}
+use Rattle.lig_proof.specs.Transcript.{key_word, second_key, queries}
+use Rattle.lig_proof.specs.Sent.{in_order, sent_polynomials}
 use Rattle.lig_proof.specs.Audit.{IsTested}
 use Rattle.lig_proof.specs.SharedReading.{any_proof_of}
 use Rattle.lig_proof.specs.Proving.{AreSystems, IsEncoded, challenges_for, bytes_in}
@@ -41,11 +41,11 @@ use Rattle.lig_complete.proofs.Spelled.{first_read, second_read}
 
 -- the columns that are drawn are columns, and as many as a proof opens
 drawn_low : (p : Params) (first polys : List ℕ) → IsParams p
-    → All (λ i. i < 8 * p.l) (opened_columns p first polys)
+    → All (λ i. i < 8 * p.l) (queries p first polys)
 drawn_low p first polys h = let least = h.least
     in each_below (λ q. key_word (second_key first polys) q) opened_count (8 * p.l) (omega arith)
 
-drawn_count : (p : Params) (first polys : List ℕ) → length (opened_columns p first polys)
+drawn_count : (p : Params) (first polys : List ℕ) → length (queries p first polys)
     ≡ opened_count
 drawn_count p first polys =
     length-map-range_with_len (λ q. key_word (second_key first polys) q % (8 * p.l)) 0 opened_count
@@ -64,7 +64,7 @@ module _ (r1cs_bytes : List ℕ) (f : File) (w seed : List ℕ) (e : Encoded) (s
   polys = in_order (sent_polynomials (params_of f) c e system)
 
   abbrev drawn : List ℕ
-  drawn = opened_columns (params_of f) c.first polys
+  drawn = queries (params_of f) c.first polys
 
   module _ (systems : AreSystems f c system) where
     tested : (opened : List ℕ)
@@ -135,7 +135,7 @@ either_accepted : (version : Version) (r1cs_bytes : List ℕ) (f : File) (w seed
     let polys = in_order (sent_polynomials (params_of f) c e system) in
     AreSystems f c system → IsReadVerdict r1cs_bytes f (publics_of f w)
     (any_proof_of (params_of f) r1cs_bytes (publics_of f w)
-    (bytes_in version (params_of f) e polys (opened_columns (params_of f) c.first polys)))
+    (bytes_in version (params_of f) e polys (queries (params_of f) c.first polys)))
     Accepted)
 either_accepted One r1cs_bytes f w seed e system file limits witness h encoded systems =
     first_accepted r1cs_bytes f w seed e system file limits witness h encoded systems
@@ -151,7 +151,7 @@ accepted version r1cs_bytes f w seed bytes file limits witness made =
     let c = challenges_for r1cs_bytes f publics (commitment p e) in
     let polys = λ (d : Challenges). in_order (sent_polynomials p d e system) in
     let Made : Challenges → Type 0 = λ d. AreSystems f d system
-    × (bytes ≡ bytes_in version p e (polys d) (opened_columns p d.first (polys d))) in
+    × (bytes ≡ bytes_in version p e (polys d) (queries p d.first (polys d))) in
     let moved : Made c = subst Made made.challenges_drawn (made.systems, made.spelled) in
     let Read : List ℕ
     → Type 0 =

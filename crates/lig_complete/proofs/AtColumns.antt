@@ -12,8 +12,8 @@ use Rattle.lig_proof.specs.ProofBytes.{AreValues}
 use Rattle.lig_proof.specs.Points.{code_point}
 use Rattle.lig_proof.specs.Columns.{Encoded, column_at, row_value, proximity_mask_value}
 use Rattle.lig_proof.specs.Columns.{linear_mask_value, product_mask_value}
-use Rattle.lig_proof.specs.Tests.{Polynomials, in_order, polynomials_of, alpha, rho}
-use Rattle.lig_proof.specs.Tests.{sent_polynomials}
+use Rattle.lig_proof.specs.Sent.{Polynomials, in_order, polynomials_of, alpha, rho}
+use Rattle.lig_proof.specs.Sent.{sent_polynomials}
 use Rattle.lig_proof.specs.Audit.{Audit, Proximity, LinearColumn, QuadColumn, excess}
 use Rattle.lig_proof.specs.Values.{HasDegrees}
 use Rattle.lig_proof.proofs.Interpolants.{made_values}

@@ -12,7 +12,7 @@ use Rattle.lig_proof.specs.declared.challenge.Challenges.{Challenges}
 use Rattle.lig_proof.specs.ProofBytes.{AreValues}
 use Rattle.lig_proof.specs.Points.{message_point}
 use Rattle.lig_proof.specs.Columns.{Encoded}
-use Rattle.lig_proof.specs.Tests.{Polynomials, rho, r_numbers, sent_polynomials}
+use Rattle.lig_proof.specs.Sent.{Polynomials, rho, r_numbers, sent_polynomials}
 use Rattle.lig_proof.specs.Audit.{LinearSum, QuadZero}
 use Rattle.lig_proof.specs.Values.{HasDegrees}
 use Rattle.lig_proof.proofs.TestValues.{linear_test_has_values, product_test_has_values}

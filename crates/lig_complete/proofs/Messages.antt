@@ -24,7 +24,7 @@ use Rattle.lig_proof.specs.Points.{width_log, message_point}
 use Rattle.lig_proof.specs.Encoding.{Interpolates}
 use Rattle.lig_proof.specs.Masks.{mask_numbers, row_mask, linear_mask}
 use Rattle.lig_proof.specs.Columns.{Encoded}
-use Rattle.lig_proof.specs.Tests.{r_numbers}
+use Rattle.lig_proof.specs.Sent.{r_numbers}
 use Rattle.lig_proof.specs.Values.{HasDegrees}
 use Rattle.lig_proof.specs.Proving.{IsEncoded, AreSystems}
 use Rattle.lig_proof.proofs.Interpolants.{width_is}

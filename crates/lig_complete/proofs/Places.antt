@@ -7,7 +7,7 @@ use Rattle.std.proofs.lemmas.List.{append-nil, length-append}
 use Rattle.gold_field.specs.declared.gold.TheConstants.{P}
 use Rattle.lig_layout.specs.declared.params.Params.{Params}
 use Rattle.lig_proof.specs.ProofBytes.{AreValues}
-use Rattle.lig_proof.specs.Tests.{Polynomials, in_order, polynomials_of}
+use Rattle.lig_proof.specs.Sent.{Polynomials, in_order, polynomials_of}
 
 values_after : (m n : ℕ) (xs ys : List ℕ) → AreValues m xs → AreValues n ys
     → AreValues (m + n) (xs ++ ys)

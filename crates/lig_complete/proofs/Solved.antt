@@ -23,7 +23,7 @@ use Rattle.lig_layout.specs.Width.{width_exponent}
 use Rattle.lig_layout.specs.Layout.{message, vectors_of, x_start, y_start, z_start}
 use Rattle.lig_layout.specs.System.{combined, differences, wire_forms, known_wires, left_sides}
 use Rattle.lig_layout.specs.System.{right_sides, equation_count}
-use Rattle.lig_layout.specs.Laws.{product, combined_values, publics_of}
+use Rattle.lig_layout.specs.Laws.{inner_product, combined_values, publics_of}
 use Rattle.lig_layout.proofs.Products.{linear}
 use Rattle.lig_layout.proofs.Solving.{solves}
 use Rattle.lig_layout.proofs.Wired.{side_below, ceil_room}
@@ -32,7 +32,7 @@ use Rattle.lig_complete.proofs.Matrix.{length-message}
 
 -- the products of two lists, as a sum over their places
 product_sum : (n : ℕ) (xs ys : List ℕ) → length ys ≤ n
-    → product xs ys ≡ sum_to n (λ i. get_or xs i 0 * get_or ys i 0)
+    → inner_product xs ys ≡ sum_to n (λ i. get_or xs i 0 * get_or ys i 0)
 product_sum n [] ys fits =
     sym (sum_same n (λ i. 0 * get_or ys i 0) (λ i. 0) (λ i l. omega arith) ∙ sum-zero n)
 product_sum n (x ∷ xs) [] fits =
@@ -43,7 +43,7 @@ product_sum (suc n) (x ∷ xs) (y ∷ ys) fits =
     ∙ sym (sum_first n (λ i. get_or (x ∷ xs) i 0 * get_or (y ∷ ys) i 0))
 
 combined_product : (values r : List ℕ) (forms : List (List Term))
-    → combined_values values r forms ≡ product r (map (value_at (slice_index values)) forms)
+    → combined_values values r forms ≡ inner_product r (map (value_at (slice_index values)) forms)
 combined_product values [] forms = refl
 combined_product values (n ∷ r) [] = refl
 combined_product values (n ∷ r) (form ∷ forms) =
@@ -136,9 +136,9 @@ solved f w r file limits count low one =
     (pow_pos (width_exponent (f.wires + 3 * length f.constraints))) in
     let below = subst Within (sym size) (left_below p f file (omega arith) sides refl) in
     ap (λ (s : ℕ). s % P) (sym (product_sum n (combined n r lefts) m (omega arith)))
-    ∙ ap (λ (k : ℕ). product (combined k r lefts) m % P) (sym size)
+    ∙ ap (λ (k : ℕ). inner_product (combined k r lefts) m % P) (sym size)
     ∙ linear m r lefts below
     ∙ ap (λ (s : ℕ). s % P)
     (combined_product m r lefts
-    ∙ ap (λ (values : List ℕ). product r values) (solves f w file limits count low one)
+    ∙ ap (λ (values : List ℕ). inner_product r values) (solves f w file limits count low one)
     ∙ product_sum (length rights) r rights (omega arith))

@@ -74,7 +74,7 @@ module _ (p : Params) (e : Encoded) (h : IsParams p) where
       record {
         root = root_fits;
         polys = values;
-        opened_count = length-map opened (column_at p e);
+        columns_count = length-map opened (column_at p e);
         columns = all_made (AreValues (p.rows + 6)) (column_at p e) opened (column_values p e);
         nodes_count = length-shared_nodes p.depth leaf opened;
         nodes = nodes_hashes p.depth leaf opened are.within (λ i l. leaf_is_hash i (omega arith));

@@ -12,7 +12,7 @@ use Rattle.gold_field.specs.declared.gold.TheConstants.{P}
 use Rattle.gold_field.specs.declared.form.Term.{Term}
 use Rattle.gold_field.specs.Form.{SignalsBelow}
 use Rattle.lig_layout.specs.System.{coefficient, combined_at}
-use Rattle.lig_layout.specs.Laws.{product, combined_values, CombiningIsLinear}
+use Rattle.lig_layout.specs.Laws.{inner_product, combined_values, CombiningIsLinear}
 use Rattle.lig_layout.proofs.Forms.{coefficient-append}
 
 pub mod_both : (u v x y : ℕ) → u % P ≡ v % P → x % P ≡ y % P → (u + x) % P ≡ (v + y) % P
@@ -22,7 +22,7 @@ mod_both u v x y e f =
 
 -- the values of f from a on, times these values
 abbrev at : (ℕ → ℕ) → ℕ → List ℕ → ℕ
-at f a m = product (map f (range_with_len a (length m))) m
+at f a m = inner_product (map f (range_with_len a (length m))) m
 
 at_mod : (f : ℕ → ℕ) (a : ℕ) (m : List ℕ) → at (λ j. f j % P) a m % P ≡ at f a m % P
 at_mod f a [] = refl

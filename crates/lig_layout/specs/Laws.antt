@@ -11,10 +11,10 @@ use Rattle.lig_layout.specs.Layout.{vectors_of, message}
 use Rattle.lig_layout.specs.System.{combined, left_sides, right_sides}
 
 -- the sum of the products of two lists, place by place
-abbrev pub product : List ℕ → List ℕ → ℕ
-product [] ys = 0
-product (x ∷ xs) [] = 0
-product (x ∷ xs) (y ∷ ys) = x * y + product xs ys
+abbrev pub inner_product : List ℕ → List ℕ → ℕ
+inner_product [] ys = 0
+inner_product (x ∷ xs) [] = 0
+inner_product (x ∷ xs) (y ∷ ys) = x * y + inner_product xs ys
 
 -- the sum, over the left sides, of the number with that index times the left side's value
 abbrev pub combined_values : List ℕ → List ℕ → List (List Term) → ℕ
@@ -27,7 +27,8 @@ combined_values values (n ∷ r) (form ∷ forms) =
 abbrev pub CombiningIsLinear : Type 0
 CombiningIsLinear = (values r : List ℕ) (forms : List (List Term))
     → AllByRecursion (SignalsBelow (length values)) forms
-    → product (combined (length values) r forms) values % P ≡ combined_values values r forms % P
+    → inner_product (combined (length values) r forms) values % P
+    ≡ combined_values values r forms % P
 
 -- the public values among those of the wires
 abbrev pub publics_of : File → List ℕ → List ℕ

@@ -9,7 +9,7 @@ use Rattle.binary_format.proofs.Loop.{with_front, fails}
 use Rattle.lig_layout.specs.declared.params.Params.{Params}
 use Rattle.lig_proof.specs.declared.fault.ProofFault.{ProofFault}
 use Rattle.lig_proof.specs.declared.fault.ProofFault.TheVariants as faults
-use Rattle.lig_proof.specs.Reading.{refused, value_at, hash_at, openings_at}
+use Rattle.lig_proof.specs.Reading.{refused, next_value, next_hash, next_openings}
 
 abbrev front_or_none : Option (List ℕ × List ℕ) → List ℕ
 front_or_none None = []
@@ -60,49 +60,50 @@ regroup columns paths column path (Err e) = refl
 
 module _ (p : Params) (end count i : ℕ) (columns : List (List ℕ)) (paths : List (List (List ℕ)))
     (bytes : List ℕ) (total : Result ((List (List ℕ) × List (List (List ℕ))) × List ℕ) ℕ)
-    (so_far : with_fronts columns paths (openings_at p end (count - i) bytes) ≡ total) where
+    (so_far : with_fronts columns paths (next_openings p end (count - i) bytes) ≡ total) where
   pub opening_read : (column : List ℕ) (path : List (List ℕ)) (middle rest : List ℕ) → i < count
-      → repeated (value_at end) (p.rows + 6) bytes ≡ Ok (column, middle)
-      → repeated (hash_at end) p.depth middle ≡ Ok (path, rest)
+      → repeated (next_value end) (p.rows + 6) bytes ≡ Ok (column, middle)
+      → repeated (next_hash end) p.depth middle ≡ Ok (path, rest)
       → with_fronts (columns ++ column ∷ []) (paths ++ path ∷ [])
-      (openings_at p end (count - (i + 1)) rest) ≡ total
-  unfolding openings_at
+      (next_openings p end (count - (i + 1)) rest) ≡ total
+  unfolding next_openings
   opening_read column path middle rest lt first second =
       let n : count - i ≡ suc (count - (i + 1)) = omega arith in
-      let one : with_fronts columns paths (openings_at p end (count - i) bytes)
+      let one : with_fronts columns paths (next_openings p end (count - i) bytes)
       ≡ with_fronts (columns ++ column ∷ []) (paths ++ path ∷ [])
-      (openings_at p end (count - (i + 1)) rest) =
+      (next_openings p end (count - (i + 1)) rest) =
       rw (n, first, second)
-      (regroup columns paths column path (openings_at p end (count - (i + 1)) rest)) in
+      (regroup columns paths column path (next_openings p end (count - (i + 1)) rest)) in
       sym one ∙ so_far
 
   pub column_fails : (fault : ProofFault) → i < count
-      → Fails (refused fault) (repeated (value_at end) (p.rows + 6) bytes)
+      → Fails (refused fault) (repeated (next_value end) (p.rows + 6) bytes)
       → Fails (refused fault) total
-  unfolding openings_at
+  unfolding next_openings
   column_fails (faults.Malformed offset) lt at =
       let n : count - i ≡ suc (count - (i + 1)) = omega arith in
-      let one : with_fronts columns paths (openings_at p end (count - i) bytes) ≡ Err offset =
+      let one : with_fronts columns paths (next_openings p end (count - i) bytes) ≡ Err offset =
       rw (n, at) refl in
       sym so_far ∙ one
   column_fails faults.OutOfMemory lt at = tt
 
   pub path_fails : (fault : ProofFault) (column middle : List ℕ) → i < count
-      → repeated (value_at end) (p.rows + 6) bytes ≡ Ok (column, middle)
-      → Fails (refused fault) (repeated (hash_at end) p.depth middle) → Fails (refused fault) total
-  unfolding openings_at
+      → repeated (next_value end) (p.rows + 6) bytes ≡ Ok (column, middle)
+      → Fails (refused fault) (repeated (next_hash end) p.depth middle)
+      → Fails (refused fault) total
+  unfolding next_openings
   path_fails (faults.Malformed offset) column middle lt first at =
       let n : count - i ≡ suc (count - (i + 1)) = omega arith in
-      let one : with_fronts columns paths (openings_at p end (count - i) bytes) ≡ Err offset =
+      let one : with_fronts columns paths (next_openings p end (count - i) bytes) ≡ Err offset =
       rw (n, first, at) refl in
       sym so_far ∙ one
   path_fails faults.OutOfMemory column middle lt first at = tt
 
   pub all_opened : count ≤ i → total ≡ Ok ((columns, paths), bytes)
-  unfolding openings_at
+  unfolding next_openings
   all_opened le =
       let n : count - i ≡ 0 = omega arith in
-      let one : with_fronts columns paths (openings_at p end (count - i) bytes)
+      let one : with_fronts columns paths (next_openings p end (count - i) bytes)
       ≡ Ok ((columns, paths), bytes) = rw n (rw (append-nil columns, append-nil paths) refl) in
       sym so_far ∙ one
 
@@ -110,5 +111,5 @@ module _ (p : Params) (end count i : ℕ) (columns : List (List ℕ)) (paths : L
 pub record Opening (p : Params) (count end end0 counter : ℕ) (columns : List (List ℕ))
     (paths : List (List (List ℕ))) (rest rest0 : List ℕ) : Type 0 where
   pub ends : end ≡ end0
-  pub so_far : with_fronts columns paths (openings_at p end0 (count - counter) rest)
-      ≡ openings_at p end0 count rest0
+  pub so_far : with_fronts columns paths (next_openings p end0 (count - counter) rest)
+      ≡ next_openings p end0 count rest0

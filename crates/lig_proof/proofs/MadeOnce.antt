@@ -18,12 +18,12 @@ use Rattle.lig_proof.specs.declared.version.Version.{Version}
 use Rattle.lig_proof.specs.declared.version.Version.TheVariants.{One, Two}
 use Rattle.lig_proof.specs.ProofBytes.{proof_bytes}
 use Rattle.lig_proof.specs.SharedProof.{opened_once, proof2_bytes}
-use Rattle.lig_proof.specs.Transcript.{opened_columns}
+use Rattle.lig_proof.specs.Transcript.{queries}
 use Rattle.lig_proof.specs.Points.{code_point}
 use Rattle.lig_proof.specs.Masks.{row_mask}
 use Rattle.lig_proof.specs.Columns.{Encoded, polynomials, commitment}
-use Rattle.lig_proof.specs.Tests.{alpha, rho, r_numbers, in_order, proximity_test, linear_test}
-use Rattle.lig_proof.specs.Tests.{product_test, sent_polynomials}
+use Rattle.lig_proof.specs.Sent.{alpha, rho, r_numbers, in_order, proximity_test, linear_test}
+use Rattle.lig_proof.specs.Sent.{product_test, sent_polynomials}
 use Rattle.lig_proof.specs.Proving.{IsEncoded, AreSystems, challenges_for, bytes_in, ProofsAreOne}
 use Rattle.lig_proof.proofs.Interpolants.{masked_rows_are_one, polynomials_are_one}
 
@@ -203,11 +203,11 @@ proofs_are_one version r1cs_bytes f v seed xs ys h first second =
     polys_same p second.challenges first.encoded second.encoded h same first.system
     second.system systems in
     let bytes = λ (c : Challenges). λ (polys : List ℕ). bytes_in version p first.encoded polys
-    (opened_columns p c.first polys) in
+    (queries p c.first polys) in
     let polys = in_order (sent_polynomials p second.challenges second.encoded second.system) in
     first.spelled
     ∙ ap (λ (c : Challenges). bytes c
     (in_order (sent_polynomials p c first.encoded first.system))) challenges
     ∙ ap (λ ps. bytes second.challenges ps) sent
     ∙ bytes_same version p first.encoded second.encoded polys
-    (opened_columns p second.challenges.first polys) same ∙ sym second.spelled
+    (queries p second.challenges.first polys) same ∙ sym second.spelled

@@ -17,18 +17,18 @@ use Rattle.lig_proof.specs.declared.shared_proof.Proof2.{Proof2}
 use Rattle.lig_proof.specs.declared.fault.ProofFault.{ProofFault}
 use Rattle.lig_proof.specs.ProofBytes.{head_bytes, hashes_bytes, IsHash, AreValues}
 use Rattle.lig_proof.specs.SharedProof.{IsProof2, opened_for, proof2_bytes}
-use Rattle.lig_proof.specs.Reading.{refused, head_of, value_at, hash_at}
+use Rattle.lig_proof.specs.Reading.{refused, head_of, next_value, next_hash}
 use Rattle.lig_proof.specs.SharedReading.{proof2_of}
 use Rattle.lig_proof.proofs.Takes.{IsBytes, TakesExactly, bind_ok}
 use Rattle.lig_proof.proofs.Takes.{or_else, required_ok, repeated_takes, hash_takes, value_takes}
 use Rattle.lig_proof.proofs.Whole.{each_of, head_takes, head_again, hash_again, values_again}
 
 -- a column
-column_takes : (end m : ℕ) → TakesExactly (repeated (value_at end) m) column_bytes (AreValues m)
+column_takes : (end m : ℕ) → TakesExactly (repeated (next_value end) m) column_bytes (AreValues m)
 column_takes end m = record {
   takes = λ bytes x rest h e.
       let taken =
-      repeated_takes (value_at end) (to_le_bytes w64) (λ value. value < P)
+      repeated_takes (next_value end) (to_le_bytes w64) (λ value. value < P)
       (value_takes end) m bytes x rest h e in
       record { whole = taken.0; fits = record { count = taken.1; each = taken.2 }; left = taken.3 };
 }
@@ -41,7 +41,7 @@ pub proof2_takes : (p : Params) (r1cs_bytes publics bytes : List ℕ) (proof : P
 unfolding proof2_of proof2_bytes
 proof2_takes p r1cs_bytes publics bytes proof h e =
     let end = length bytes in
-    let field = repeated (value_at end) (p.rows + 6) in
+    let field = repeated (next_value end) (p.rows + 6) in
     let opened =
     λ (root : List ℕ). λ (polys : List ℕ). opened_for p r1cs_bytes publics root polys in
     let made : List ℕ → List ℕ → List (List ℕ) → List (List ℕ)
@@ -58,24 +58,24 @@ proof2_takes p r1cs_bytes publics bytes proof h e =
     λ _. Ok (made root polys columns nodes.0) in
     let from_columns : List ℕ → List ℕ → (List (List ℕ) × List ℕ)
     → Result Proof2 ℕ =
-    λ root polys columns. repeated (hash_at end) (shared_count p.depth (opened root polys))
+    λ root polys columns. repeated (next_hash end) (shared_count p.depth (opened root polys))
     columns.1 >>= last root polys columns.0 in
     let from_polys : List ℕ → (List ℕ × List ℕ)
     → Result Proof2 ℕ =
     λ root polys. repeated field (length (opened root polys.0)) polys.1 >>= from_columns root
     polys.0 in
     let from_root : (List ℕ × List ℕ) → Result Proof2 ℕ =
-    λ root. repeated (value_at end) (18 * p.l) root.1 >>= from_polys root.0 in
-    let head = bind_ok (head_of 2 bytes) (λ head. hash_at end head.1 >>= from_root) proof e in
-    let root = bind_ok (hash_at end head.0.1) from_root proof head.2 in
+    λ root. repeated (next_value end) (18 * p.l) root.1 >>= from_polys root.0 in
+    let head = bind_ok (head_of 2 bytes) (λ head. next_hash end head.1 >>= from_root) proof e in
+    let root = bind_ok (next_hash end head.0.1) from_root proof head.2 in
     let polys =
-    bind_ok (repeated (value_at end) (18 * p.l) root.0.1) (from_polys root.0.0) proof root.2 in
+    bind_ok (repeated (next_value end) (18 * p.l) root.0.1) (from_polys root.0.0) proof root.2 in
     let due = opened root.0.0 polys.0.0 in
     let columns =
     bind_ok (repeated field (length due) polys.0.1) (from_columns root.0.0 polys.0.0) proof
     polys.2 in
     let nodes =
-    bind_ok (repeated (hash_at end) (shared_count p.depth due) columns.0.1)
+    bind_ok (repeated (next_hash end) (shared_count p.depth due) columns.0.1)
     (last root.0.0 polys.0.0 columns.0.0) proof columns.2 in
     let whole =
     bind_ok (required (length nodes.0.1 == 0) (end - length nodes.0.1))
@@ -83,14 +83,14 @@ proof2_takes p r1cs_bytes publics bytes proof h e =
     let headed = head_takes 2 bytes head.0 h head.1 in
     let rooted = (hash_takes end).takes head.0.1 root.0.0 root.0.1 headed.1 root.1 in
     let valued =
-    repeated_takes (value_at end) (to_le_bytes w64) (λ value. value < P) (value_takes end)
+    repeated_takes (next_value end) (to_le_bytes w64) (λ value. value < P) (value_takes end)
     (18 * p.l) root.0.1 polys.0.0 polys.0.1 rooted.left polys.1 in
-    let opened_columns =
+    let listed =
     repeated_takes field column_bytes (AreValues (p.rows + 6)) (column_takes end (p.rows + 6))
     (length due) polys.0.1 columns.0.0 columns.0.1 valued.3 columns.1 in
     let hashed =
-    repeated_takes (hash_at end) (λ hash. hash) IsHash (hash_takes end)
-    (shared_count p.depth due) columns.0.1 nodes.0.0 nodes.0.1 opened_columns.3 nodes.1 in
+    repeated_takes (next_hash end) (λ hash. hash) IsHash (hash_takes end)
+    (shared_count p.depth due) columns.0.1 nodes.0.0 nodes.0.1 listed.3 nodes.1 in
     let nothing : nodes.0.1 ≡ [] =
     nil_from_length nodes.0.1
     (eqb-true (length nodes.0.1) 0
@@ -104,13 +104,13 @@ proof2_takes p r1cs_bytes publics bytes proof h e =
     let tail : columns.0.1 ≡ hashes_bytes nodes.0.0 = hashed.0
     ∙ ap (λ r. hashes_bytes nodes.0.0 ++ r) nothing ∙ append-nil (hashes_bytes nodes.0.0) in
     let body : polys.0.1 ≡ flat_map column_bytes columns.0.0 ++ hashes_bytes nodes.0.0 =
-    opened_columns.0 ∙ ap (λ r. flat_map column_bytes columns.0.0 ++ r) tail in
+    listed.0 ∙ ap (λ r. flat_map column_bytes columns.0.0 ++ r) tail in
     subst Good is (
       record {
         root = rooted.fits;
         polys = record { count = valued.1; each = valued.2 };
-        opened_count = opened_columns.1;
-        columns = opened_columns.2;
+        columns_count = listed.1;
+        columns = listed.2;
         nodes_count = hashed.1;
         nodes = hashed.2;
       },
@@ -121,26 +121,26 @@ proof2_takes p r1cs_bytes publics bytes proof h e =
 
 -- ---- and back
 
-column_again : (end m : ℕ) → ReadsBack (repeated (value_at end) m) column_bytes (AreValues m)
+column_again : (end m : ℕ) → ReadsBack (repeated (next_value end) m) column_bytes (AreValues m)
 column_again end m = record { again = λ values rest fits. values_again end m values rest fits }
 
 columns_again : (end m n : ℕ) (columns : List (List ℕ)) (rest : List ℕ) → length columns ≡ n
     → AllByRecursion (AreValues m) columns
-    → repeated (repeated (value_at end) m) n (flat_map column_bytes columns ++ rest)
+    → repeated (repeated (next_value end) m) n (flat_map column_bytes columns ++ rest)
     ≡ Ok (columns, rest)
 columns_again end m n columns rest count fits =
-    ap (λ k. repeated (repeated (value_at end) m) k (flat_map column_bytes columns ++ rest))
+    ap (λ k. repeated (repeated (next_value end) m) k (flat_map column_bytes columns ++ rest))
     (sym count)
-    ∙ repeated_again (repeated (value_at end) m) column_bytes (AreValues m)
+    ∙ repeated_again (repeated (next_value end) m) column_bytes (AreValues m)
     (column_again end m) columns rest (each_of (AreValues m) columns fits)
 
 nodes_again : (end n : ℕ) (nodes : List (List ℕ)) → length nodes ≡ n → AllByRecursion IsHash nodes
-    → repeated (hash_at end) n (hashes_bytes nodes) ≡ Ok (nodes, [])
+    → repeated (next_hash end) n (hashes_bytes nodes) ≡ Ok (nodes, [])
 nodes_again end n nodes count fits =
-    ap (λ k. repeated (hash_at end) k (hashes_bytes nodes)) (sym count)
-    ∙ ap (λ bytes. repeated (hash_at end) (length nodes) bytes)
+    ap (λ k. repeated (next_hash end) k (hashes_bytes nodes)) (sym count)
+    ∙ ap (λ bytes. repeated (next_hash end) (length nodes) bytes)
     (sym (append-nil (hashes_bytes nodes)))
-    ∙ repeated_again (hash_at end) (λ hash. hash) IsHash (hash_again end) nodes []
+    ∙ repeated_again (next_hash end) (λ hash. hash) IsHash (hash_again end) nodes []
     (each_of IsHash nodes fits)
 
 -- what is spelled so is read
@@ -158,7 +158,7 @@ proof2_again p r1cs_bytes publics proof fits =
     let root = (hash_again end).again proof.root values fits.root in
     let polys = values_again end (18 * p.l) proof.polys columns fits.polys in
     let opened =
-    columns_again end (p.rows + 6) (length due) proof.columns tail fits.opened_count
+    columns_again end (p.rows + 6) (length due) proof.columns tail fits.columns_count
     fits.columns in
     let nodes =
     nodes_again end (shared_count p.depth due) proof.nodes fits.nodes_count fits.nodes in

@@ -13,7 +13,7 @@ use Rattle.gold_field.specs.declared.gold.TheConstants.{P}
 use Rattle.lig_layout.specs.declared.params.Params.{Params}
 use Rattle.lig_merkle.specs.Merkle.{column_bytes}
 use Rattle.lig_proof.specs.ProofBytes.{hashes_bytes, openings_bytes, IsHash, AreValues, IsPath}
-use Rattle.lig_proof.specs.Reading.{value_at, hash_at, openings_at}
+use Rattle.lig_proof.specs.Reading.{next_value, next_hash, next_openings}
 
 -- each is a byte
 abbrev pub IsBytes : List ℕ → Type 0
@@ -113,8 +113,8 @@ front_takes n end bytes x rest e = ⊎_elim
     ))
     (cases_lt (length bytes) n)
 
-pub hash_takes : (end : ℕ) → TakesExactly (hash_at end) (λ hash. hash) IsHash
-unfolding hash_at
+pub hash_takes : (end : ℕ) → TakesExactly (next_hash end) (λ hash. hash) IsHash
+unfolding next_hash
 hash_takes end = record {
   takes = λ bytes x rest h e.
       let taken = front_takes 32 end bytes x rest e in
@@ -149,8 +149,8 @@ number_takes end n bytes rest h e = ⊎_elim
     ))
     (cases_lt (length bytes) 8)
 
-pub value_takes : (end : ℕ) → TakesExactly (value_at end) (to_le_bytes w64) (λ value. value < P)
-unfolding value_at
+pub value_takes : (end : ℕ) → TakesExactly (next_value end) (to_le_bytes w64) (λ value. value < P)
+unfolding next_value
 value_takes end = record {
   takes = λ bytes x rest h e.
       let found =
@@ -185,9 +185,9 @@ pub record AreOpened (p : Params) (n : ℕ) (bytes : List ℕ) (columns : List (
 
 pub openings_take : (p : Params) (end n : ℕ) (bytes : List ℕ) (columns : List (List ℕ))
     (paths : List (List (List ℕ))) (rest : List ℕ)
-    → IsBytes bytes → openings_at p end n bytes ≡ Ok ((columns, paths), rest)
+    → IsBytes bytes → next_openings p end n bytes ≡ Ok ((columns, paths), rest)
     → AreOpened p n bytes columns paths rest
-unfolding openings_at
+unfolding next_openings
 openings_take p end zero bytes columns paths rest h e =
     let pair = ok_pair ([], []) (columns, paths) bytes rest e in
     both (λ q r. AreOpened p 0 bytes q.0 q.1 r) pair.0 pair.1
@@ -201,24 +201,24 @@ openings_take p end zero bytes columns paths rest h e =
     })
 openings_take p end (suc n) bytes columns paths rest h e =
     let column =
-    bind_ok (repeated (value_at end) (p.rows + 6) bytes)
-    (λ x. repeated (hash_at end) p.depth x.1 >>= λ y. openings_at p end n y.1 >>=
+    bind_ok (repeated (next_value end) (p.rows + 6) bytes)
+    (λ x. repeated (next_hash end) p.depth x.1 >>= λ y. next_openings p end n y.1 >>=
     λ z. Ok ((x.0 ∷ z.0.0, y.0 ∷ z.0.1), z.1)) ((columns, paths), rest) e in
     let path =
-    bind_ok (repeated (hash_at end) p.depth column.0.1)
-    (λ y. openings_at p end n y.1 >>= λ z. Ok ((column.0.0 ∷ z.0.0, y.0 ∷ z.0.1), z.1))
+    bind_ok (repeated (next_hash end) p.depth column.0.1)
+    (λ y. next_openings p end n y.1 >>= λ z. Ok ((column.0.0 ∷ z.0.0, y.0 ∷ z.0.1), z.1))
     ((columns, paths), rest) column.2 in
     let others =
-    bind_ok (openings_at p end n path.0.1)
+    bind_ok (next_openings p end n path.0.1)
     (λ z. Ok ((column.0.0 ∷ z.0.0, path.0.0 ∷ z.0.1), z.1)) ((columns, paths), rest) path.2 in
     let pair =
     ok_pair (column.0.0 ∷ others.0.0.0, path.0.0 ∷ others.0.0.1)
     (columns, paths) others.0.1 rest others.2 in
     let first =
-    repeated_takes (value_at end) (to_le_bytes w64) (λ value. value < P) (value_takes end)
+    repeated_takes (next_value end) (to_le_bytes w64) (λ value. value < P) (value_takes end)
     (p.rows + 6) bytes column.0.0 column.0.1 h column.1 in
     let second =
-    repeated_takes (hash_at end) (λ hash. hash) IsHash (hash_takes end) p.depth column.0.1
+    repeated_takes (next_hash end) (λ hash. hash) IsHash (hash_takes end) p.depth column.0.1
     path.0.0 path.0.1 first.3 path.1 in
     let more =
     openings_take p end n path.0.1 others.0.0.0 others.0.0.1 others.0.1 second.3 others.1 in

@@ -15,7 +15,7 @@ use Rattle.rand_chacha.specs.ChaCha.{key_of}
 use Rattle.lig_proof.specs.ProofBytes.{AreValues}
 use Rattle.lig_proof.specs.Drawing.{number_at, numbers_of}
 use Rattle.lig_proof.specs.Masks.{mask_numbers}
-use Rattle.lig_proof.specs.Tests.{alpha, rho, coefficients}
+use Rattle.lig_proof.specs.Sent.{alpha, rho, coefficients}
 use Rattle.lig_proof.specs.Values.{EncodedHasDegrees, ProximityTestHasValues, LinearTestHasValues}
 use Rattle.lig_proof.specs.Values.{ProductTestHasValues}
 use Rattle.lig_proof.proofs.Draws.{length-numbers_of}

@@ -19,10 +19,10 @@ use Rattle.lig_proof.specs.declared.verdict.Verdict.TheVariants.{LinearSum as No
 use Rattle.lig_proof.specs.declared.verdict.Verdict.TheVariants.{LinearColumn as NotLinear}
 use Rattle.lig_proof.specs.declared.verdict.Verdict.TheVariants.{QuadZero as NotZero}
 use Rattle.lig_proof.specs.declared.verdict.Verdict.TheVariants.{QuadColumn as NotProduct}
-use Rattle.lig_proof.specs.Transcript.{opened_columns}
+use Rattle.lig_proof.specs.Transcript.{queries}
 use Rattle.lig_proof.specs.Points.{code_point}
 use Rattle.lig_proof.specs.Columns.{linear_mask_value, row_value}
-use Rattle.lig_proof.specs.Tests.{r_numbers}
+use Rattle.lig_proof.specs.Sent.{r_numbers}
 use Rattle.lig_proof.specs.Proving.{AreSystems, challenges_for}
 use Rattle.lig_proof.specs.SharedReading.{any_proof_of}
 use Rattle.lig_proof.specs.Audit.{Audit, Proximity, LinearSum, LinearColumn, QuadZero, QuadColumn}
@@ -187,7 +187,7 @@ read_once r1cs_bytes f publics (Err offset) v w params h k = h ∙ sym k
 read_once r1cs_bytes f publics (Ok proof) v w params h k =
     let p = params_of f in
     let c = challenges_for r1cs_bytes f publics (root_in proof) in
-    let indices = indices_in p (opened_columns p c.first (polys_in proof)) proof in
+    let indices = indices_in p (queries p c.first (polys_in proof)) proof in
     let audit = λ (system : ℕ → ℕ → List ℕ). audit_of f publics c system indices proof in
     let Tested : Verdict → Type 0 =
     λ x. (system : ℕ → ℕ → List ℕ) × AreSystems f c system × IsTested (audit system) x in

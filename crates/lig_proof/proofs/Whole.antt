@@ -19,7 +19,8 @@ use Rattle.lig_proof.specs.ProofBytes.{opened_count}
 use Rattle.lig_proof.specs.ProofBytes.{head_bytes, hashes_bytes, openings_bytes, proof_bytes}
 use Rattle.lig_proof.specs.ProofBytes.{IsHash, AreValues, IsPath, IsProof}
 use Rattle.lig_proof.specs.declared.fault.ProofFault.{ProofFault}
-use Rattle.lig_proof.specs.Reading.{head_of, value_at, hash_at, openings_at, proof_of, refused}
+use Rattle.lig_proof.specs.Reading.{head_of, next_value, next_hash, next_openings, proof_of}
+use Rattle.lig_proof.specs.Reading.{refused}
 use Rattle.lig_proof.proofs.Takes.{IsBytes, bytes_after, front_bytes, bind_ok, or_else, required_ok}
 use Rattle.lig_proof.proofs.Takes.{repeated_takes, hash_takes, value_takes, openings_take}
 
@@ -88,15 +89,15 @@ proof_takes p bytes proof h e =
     → Result Proof ℕ = λ root polys o. required (length o.1 == 0) (end - length o.1) >>=
     λ _. Ok (made root polys o.0) in
     let from_polys : List ℕ → (List ℕ × List ℕ) → Result Proof ℕ =
-    λ root polys. openings_at p end opened_count polys.1 >>= last root polys.0 in
+    λ root polys. next_openings p end opened_count polys.1 >>= last root polys.0 in
     let from_root : (List ℕ × List ℕ) → Result Proof ℕ =
-    λ root. repeated (value_at end) (18 * p.l) root.1 >>= from_polys root.0 in
-    let head = bind_ok (head_of 1 bytes) (λ head. hash_at end head.1 >>= from_root) proof e in
-    let root = bind_ok (hash_at end head.0.1) from_root proof head.2 in
+    λ root. repeated (next_value end) (18 * p.l) root.1 >>= from_polys root.0 in
+    let head = bind_ok (head_of 1 bytes) (λ head. next_hash end head.1 >>= from_root) proof e in
+    let root = bind_ok (next_hash end head.0.1) from_root proof head.2 in
     let polys =
-    bind_ok (repeated (value_at end) (18 * p.l) root.0.1) (from_polys root.0.0) proof root.2 in
+    bind_ok (repeated (next_value end) (18 * p.l) root.0.1) (from_polys root.0.0) proof root.2 in
     let opened =
-    bind_ok (openings_at p end opened_count polys.0.1) (last root.0.0 polys.0.0) proof
+    bind_ok (next_openings p end opened_count polys.0.1) (last root.0.0 polys.0.0) proof
     polys.2 in
     let whole =
     bind_ok (required (length opened.0.1 == 0) (end - length opened.0.1))
@@ -104,7 +105,7 @@ proof_takes p bytes proof h e =
     let headed = head_takes 1 bytes head.0 h head.1 in
     let rooted = (hash_takes end).takes head.0.1 root.0.0 root.0.1 headed.1 root.1 in
     let valued =
-    repeated_takes (value_at end) (to_le_bytes w64) (λ value. value < P) (value_takes end)
+    repeated_takes (next_value end) (to_le_bytes w64) (λ value. value < P) (value_takes end)
     (18 * p.l) root.0.1 polys.0.0 polys.0.1 rooted.left polys.1 in
     let openings =
     openings_take p end opened_count polys.0.1 opened.0.0.0 opened.0.0.1 opened.0.1 valued.3
@@ -150,8 +151,8 @@ head_again version rest named =
     let room : leb 8 (length bytes) ≡ true = le-leb 8 (length bytes) (omega arith) in
     rw (room, named) refl
 
-value_again : (end : ℕ) → ReadsBack (value_at end) (to_le_bytes w64) (λ value. value < P)
-unfolding value_at
+value_again : (end : ℕ) → ReadsBack (next_value end) (to_le_bytes w64) (λ value. value < P)
+unfolding next_value
 value_again end = record {
   again = λ v rest fits.
       tested_again (λ n. ltb n P) (end - length (to_le_bytes w64 v ++ rest))
@@ -159,25 +160,25 @@ value_again end = record {
       ((u64_again end).again v rest (omega arith)) (lt-ltb v P fits);
 }
 
-pub hash_again : (end : ℕ) → ReadsBack (hash_at end) (λ hash. hash) IsHash
-unfolding hash_at
+pub hash_again : (end : ℕ) → ReadsBack (next_hash end) (λ hash. hash) IsHash
+unfolding next_hash
 hash_again end =
     record {
       again = λ hash rest fits. ap (λ r. or_short r end) (front_again hash rest 32 fits.count);
     }
 
 pub values_again : (end n : ℕ) (values rest : List ℕ) → AreValues n values
-    → repeated (value_at end) n (column_bytes values ++ rest) ≡ Ok (values, rest)
+    → repeated (next_value end) n (column_bytes values ++ rest) ≡ Ok (values, rest)
 values_again end n values rest fit =
-    ap (λ k. repeated (value_at end) k (column_bytes values ++ rest)) (sym fit.count)
-    ∙ repeated_again (value_at end) (to_le_bytes w64) (λ value. value < P)
+    ap (λ k. repeated (next_value end) k (column_bytes values ++ rest)) (sym fit.count)
+    ∙ repeated_again (next_value end) (to_le_bytes w64) (λ value. value < P)
     (value_again end) values rest (each_of (λ value. value < P) values fit.each)
 
 path_again : (end n : ℕ) (path : List (List ℕ)) (rest : List ℕ) → IsPath n path
-    → repeated (hash_at end) n (hashes_bytes path ++ rest) ≡ Ok (path, rest)
+    → repeated (next_hash end) n (hashes_bytes path ++ rest) ≡ Ok (path, rest)
 path_again end n path rest fit =
-    ap (λ k. repeated (hash_at end) k (hashes_bytes path ++ rest)) (sym fit.count)
-    ∙ repeated_again (hash_at end) (λ hash. hash) IsHash (hash_again end) path rest
+    ap (λ k. repeated (next_hash end) k (hashes_bytes path ++ rest)) (sym fit.count)
+    ∙ repeated_again (next_hash end) (λ hash. hash) IsHash (hash_again end) path rest
     (each_of IsHash path fit.each)
 
 three : (a b c d : List ℕ) → (a ++ (b ++ c)) ++ d ≡ a ++ (b ++ (c ++ d))
@@ -186,8 +187,8 @@ three a b c d = simp append_assoc
 openings_again : (p : Params) (end n : ℕ) (columns : List (List ℕ)) (paths : List (List (List ℕ)))
     (rest : List ℕ) → length columns ≡ n → length paths ≡ n
     → AllByRecursion (AreValues (p.rows + 6)) columns → AllByRecursion (IsPath p.depth) paths
-    → openings_at p end n (openings_bytes columns paths ++ rest) ≡ Ok ((columns, paths), rest)
-unfolding openings_at
+    → next_openings p end n (openings_bytes columns paths ++ rest) ≡ Ok ((columns, paths), rest)
+unfolding next_openings
 openings_again p end zero [] [] rest ec ep hc hp = refl
 openings_again p end zero [] (path ∷ paths) rest ec ep hc hp = absurd (omega arith)
 openings_again p end zero (column ∷ columns) paths rest ec ep hc hp = absurd (omega arith)
@@ -212,8 +213,8 @@ proof_again p proof fits =
     let head = head_again 1 (proof.root ++ values) refl in
     let root = (hash_again end).again proof.root values fits.root in
     let polys = values_again end (18 * p.l) proof.polys openings fits.polys in
-    let opened : openings_at p end opened_count openings ≡ Ok ((proof.columns, proof.paths), []) =
-    ap (openings_at p end opened_count) (sym (append-nil openings))
+    let opened : next_openings p end opened_count openings ≡ Ok ((proof.columns, proof.paths), []) =
+    ap (next_openings p end opened_count) (sym (append-nil openings))
     ∙ openings_again p end opened_count proof.columns proof.paths [] fits.opened
     fits.paths_opened fits.columns fits.paths in
     rw (head, root, polys, opened) refl

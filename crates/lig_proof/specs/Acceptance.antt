@@ -12,10 +12,10 @@ use Rattle.lig_proof.specs.declared.shared_proof.AnyProof.{AnyProof}
 use Rattle.lig_proof.specs.declared.shared_proof.AnyProof.TheVariants.{First, Second}
 use Rattle.lig_proof.specs.declared.verdict.Verdict.{Verdict}
 use Rattle.lig_proof.specs.declared.verdict.Verdict.TheVariants as verdicts
-use Rattle.lig_proof.specs.Transcript.{opened_columns}
+use Rattle.lig_proof.specs.Transcript.{queries}
 use Rattle.lig_proof.specs.SharedProof.{opened_once}
 use Rattle.lig_proof.specs.SharedReading.{any_proof_of}
-use Rattle.lig_proof.specs.Tests.{polynomials_of}
+use Rattle.lig_proof.specs.Sent.{polynomials_of}
 use Rattle.lig_proof.specs.Proving.{AreSystems, challenges_for}
 use Rattle.lig_proof.specs.Audit.{Audit, IsTested}
 
@@ -73,7 +73,7 @@ abbrev pub IsProofVerdict : List ℕ → File → List ℕ → AnyProof → Verd
 IsProofVerdict r1cs_bytes f publics proof verdict =
     let p = params_of f in
     let c = challenges_for r1cs_bytes f publics (root_in proof) in
-    let indices = indices_in p (opened_columns p c.first (polys_in proof)) proof in
+    let indices = indices_in p (queries p c.first (polys_in proof)) proof in
     let audit = λ (system : ℕ → ℕ → List ℕ). audit_of f publics c system indices proof in
     IsFirstFailure (ways_in proof) (Leads p indices proof)
     ((system : ℕ → ℕ → List ℕ) × AreSystems f c system × IsTested (audit system) verdict) verdict

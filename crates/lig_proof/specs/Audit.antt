@@ -11,7 +11,7 @@ use Rattle.lig_proof.specs.declared.verdict.Verdict.TheVariants as verdicts
 use Rattle.lig_proof.specs.Points.{message_point, code_point}
 use Rattle.lig_proof.specs.Columns.{row_value, proximity_mask_value, linear_mask_value}
 use Rattle.lig_proof.specs.Columns.{product_mask_value}
-use Rattle.lig_proof.specs.Tests.{Polynomials, alpha, r_numbers, rho}
+use Rattle.lig_proof.specs.Sent.{Polynomials, alpha, r_numbers, rho}
 
 -- what an auditor tests: the right sides of the system, the polynomials of its rows combined by r
 -- (by the repetition and the row), what a proof sent, and the columns that it opened, with their

@@ -6,7 +6,7 @@ pub mod Points
 pub mod Encoding
 pub mod Masks
 pub mod Columns
-pub mod Tests
+pub mod Sent
 pub mod Audit
 pub mod SharedProof
 pub mod Proving

@@ -14,11 +14,11 @@ use Rattle.lig_proof.specs.declared.version.Version.{Version}
 use Rattle.lig_proof.specs.declared.version.Version.TheVariants.{One, Two}
 use Rattle.lig_proof.specs.ProofBytes.{proof_bytes}
 use Rattle.lig_proof.specs.SharedProof.{opened_once, proof2_bytes}
-use Rattle.lig_proof.specs.Transcript.{first_key, challenges_of, opened_columns}
+use Rattle.lig_proof.specs.Transcript.{first_key, challenges_of, queries}
 use Rattle.lig_proof.specs.Encoding.{IsMaskedRow, InterpolateRows}
 use Rattle.lig_proof.specs.Masks.{row_mask, proximity_mask, linear_mask, product_mask}
 use Rattle.lig_proof.specs.Columns.{Encoded, column_at, leaves, commitment}
-use Rattle.lig_proof.specs.Tests.{r_numbers, in_order, sent_polynomials}
+use Rattle.lig_proof.specs.Sent.{r_numbers, in_order, sent_polynomials}
 
 -- the encoded matrix of the vectors, with the masks that the seed gives
 pub record IsEncoded (p : Params) (v : Vectors) (seed : List ℕ) (e : Encoded) : Type 0 where
@@ -75,7 +75,7 @@ pub record AreMade (version : Version) (r1cs_bytes : List ℕ) (f : File) (v : V
   pub systems : AreSystems f challenges system
   pub spelled : (let p = params_of f in
       let polys = in_order (sent_polynomials p challenges encoded system) in
-      bytes ≡ bytes_in version p encoded polys (opened_columns p challenges.first polys))
+      bytes ≡ bytes_in version p encoded polys (queries p challenges.first polys))
 
 -- in each version there is one such proof
 abbrev pub ProofsAreOne : Type 0

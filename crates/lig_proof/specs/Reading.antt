@@ -31,21 +31,21 @@ head_of version bytes = do
 
 -- A number of the field, in bytes that end at this place. A number of P or more is refused at its
 -- first byte.
-unfoldable pub value_at : ℕ → List ℕ → Result (ℕ × List ℕ) ℕ
-value_at end bytes =
+unfoldable pub next_value : ℕ → List ℕ → Result (ℕ × List ℕ) ℕ
+next_value end bytes =
     tested (λ n. nat_lt n P) (end - length bytes) (or_short (number_of w64 bytes) end)
 
-unfoldable pub hash_at : ℕ → List ℕ → Result (List ℕ × List ℕ) ℕ
-hash_at end bytes = or_short (front_of 32 bytes) end
+unfoldable pub next_hash : ℕ → List ℕ → Result (List ℕ × List ℕ) ℕ
+next_hash end bytes = or_short (front_of 32 bytes) end
 
 -- So many opened columns, each with its path behind it.
-unfoldable pub openings_at : Params → ℕ → ℕ → List ℕ
+unfoldable pub next_openings : Params → ℕ → ℕ → List ℕ
     → Result ((List (List ℕ) × List (List (List ℕ))) × List ℕ) ℕ
-openings_at p end zero bytes = Ok (([], []), bytes)
-openings_at p end (suc n) bytes = do
-  column ← repeated (value_at end) (p.rows + 6) bytes
-  path ← repeated (hash_at end) p.depth column.1
-  others ← openings_at p end n path.1
+next_openings p end zero bytes = Ok (([], []), bytes)
+next_openings p end (suc n) bytes = do
+  column ← repeated (next_value end) (p.rows + 6) bytes
+  path ← repeated (next_hash end) p.depth column.1
+  others ← next_openings p end n path.1
   Ok ((column.0 ∷ others.0.0, path.0 ∷ others.0.1), others.1)
 
 -- All of the bytes.
@@ -53,8 +53,8 @@ unfoldable pub proof_of : Params → List ℕ → Result Proof ℕ
 proof_of p bytes = do
   let end = length bytes
   head ← head_of 1 bytes
-  root ← hash_at end head.1
-  polys ← repeated (value_at end) (18 * p.l) root.1
-  openings ← openings_at p end opened_count polys.1
+  root ← next_hash end head.1
+  polys ← repeated (next_value end) (18 * p.l) root.1
+  openings ← next_openings p end opened_count polys.1
   whole ← required (length openings.1 == 0) (end - length openings.1)
   Ok (record { root = root.0; polys = polys.0; columns = openings.0.0; paths = openings.0.1 })

@@ -6,7 +6,7 @@ use Rattle.lig_merkle.specs.Merkle.{column_bytes}
 use Rattle.lig_merkle.specs.Shared.{is_known, shared_count}
 use Rattle.lig_proof.specs.declared.shared_proof.Proof2.{Proof2}
 use Rattle.lig_proof.specs.ProofBytes.{head_bytes, hashes_bytes, AreValues, IsHash}
-use Rattle.lig_proof.specs.Transcript.{first_key, opened_columns}
+use Rattle.lig_proof.specs.Transcript.{first_key, queries}
 
 -- the columns that were drawn, in order and each once
 abbrev pub opened_once : Params → List ℕ → List ℕ
@@ -15,7 +15,7 @@ opened_once p drawn = filter (is_known drawn) (range_with_len 0 (8 * p.l))
 -- those of a proof, by what stands before them
 abbrev pub opened_for : Params → List ℕ → List ℕ → List ℕ → List ℕ → List ℕ
 opened_for p r1cs_bytes publics root polys =
-    opened_once p (opened_columns p (first_key r1cs_bytes publics root) polys)
+    opened_once p (queries p (first_key r1cs_bytes publics root) polys)
 
 unfoldable pub proof2_bytes : Proof2 → List ℕ
 proof2_bytes proof =
@@ -27,7 +27,7 @@ proof2_bytes proof =
 pub record IsProof2 (p : Params) (opened : List ℕ) (proof : Proof2) : Type 0 where
   pub root : IsHash proof.root
   pub polys : AreValues (18 * p.l) proof.polys
-  pub opened_count : length proof.columns ≡ length opened
+  pub columns_count : length proof.columns ≡ length opened
   pub columns : AllByRecursion (AreValues (p.rows + 6)) proof.columns
   pub nodes_count : length proof.nodes ≡ shared_count p.depth opened
   pub nodes : AllByRecursion IsHash proof.nodes

@@ -8,15 +8,15 @@ use Rattle.lig_merkle.specs.Shared.{shared_count}
 use Rattle.lig_proof.specs.declared.shared_proof.Proof2.{Proof2}
 use Rattle.lig_proof.specs.declared.shared_proof.AnyProof.{AnyProof}
 use Rattle.lig_proof.specs.declared.shared_proof.AnyProof.TheVariants.{First, Second}
-use Rattle.lig_proof.specs.Reading.{version_at, head_of, value_at, hash_at, proof_of}
+use Rattle.lig_proof.specs.Reading.{version_at, head_of, next_value, next_hash, proof_of}
 use Rattle.lig_proof.specs.ProofBytes.{IsProof}
 use Rattle.lig_proof.specs.SharedProof.{IsProof2, opened_for}
 
 -- What stands behind the polynomials: the columns that are due and the shared nodes, up to the end.
 abbrev pub rest_of : Params → ℕ → List ℕ → List ℕ → List ℕ → List ℕ → Result Proof2 ℕ
 rest_of p end opened root polys bytes = do
-  columns ← repeated (repeated (value_at end) (p.rows + 6)) (length opened) bytes
-  nodes ← repeated (hash_at end) (shared_count p.depth opened) columns.1
+  columns ← repeated (repeated (next_value end) (p.rows + 6)) (length opened) bytes
+  nodes ← repeated (next_hash end) (shared_count p.depth opened) columns.1
   whole ← required (length nodes.1 == 0) (end - length nodes.1)
   Ok (record { root = root; polys = polys; columns = columns.0; nodes = nodes.0 })
 
@@ -25,8 +25,8 @@ unfoldable pub proof2_of : Params → List ℕ → List ℕ → List ℕ → Res
 proof2_of p r1cs_bytes publics bytes = do
   let end = length bytes
   head ← head_of 2 bytes
-  root ← hash_at end head.1
-  polys ← repeated (value_at end) (18 * p.l) root.1
+  root ← next_hash end head.1
+  polys ← repeated (next_value end) (18 * p.l) root.1
   let opened = opened_for p r1cs_bytes publics root.0 polys.0
   rest_of p end opened root.0 polys.0 polys.1
 

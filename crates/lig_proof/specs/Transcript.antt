@@ -44,7 +44,7 @@ abbrev pub second_key : List ℕ → List ℕ → List ℕ
 second_key first polys = sha256 (2 ∷ (first ++ column_bytes polys))
 
 -- the columns that are opened, one for each word; a column may come more than once
-abbrev pub opened_columns : Params → List ℕ → List ℕ → List ℕ
-opened_columns p first polys =
+abbrev pub queries : Params → List ℕ → List ℕ → List ℕ
+queries p first polys =
     let key = second_key first polys in
     map (λ q. key_word key q % (8 * p.l)) (range_with_len 0 opened_count)

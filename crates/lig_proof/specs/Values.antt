@@ -9,7 +9,7 @@ use Rattle.lig_layout.specs.Sizes.{IsParams}
 use Rattle.lig_proof.specs.declared.challenge.Challenges.{Challenges}
 use Rattle.lig_proof.specs.ProofBytes.{AreValues}
 use Rattle.lig_proof.specs.Columns.{Encoded}
-use Rattle.lig_proof.specs.Tests.{alpha, rho, proximity_test, linear_test, product_test}
+use Rattle.lig_proof.specs.Sent.{alpha, rho, proximity_test, linear_test, product_test}
 use Rattle.lig_proof.specs.Proving.{IsEncoded}
 
 -- how many coefficients the polynomials have

@@ -3,7 +3,7 @@
 ghost use Rattle.std.specs.Prelude.{◌≡◌, ◌<◌, ◌*◌, ℕ, length};
 ghost use Rattle.iden_files.specs.File.{InLimits};
 ghost use Rattle.lig_layout.specs.System.{equation_count};
-ghost use Rattle.lig_proof.specs.Tests.{r_numbers};
+ghost use Rattle.lig_proof.specs.Sent.{r_numbers};
 
 use crate::challenge::Challenges;
 use gold_field::Gold;

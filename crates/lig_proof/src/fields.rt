@@ -2,7 +2,7 @@
 
 ghost use Rattle.std.specs.Prelude.{◌≡◌, length};
 ghost use Rattle.binary_format.specs.Reading.{Reads, repeated};
-ghost use Rattle.lig_proof.specs.Reading.{refused, head_of, value_at, hash_at};
+ghost use Rattle.lig_proof.specs.Reading.{refused, head_of, next_value, next_hash};
 
 use crate::fault::ProofFault;
 use binary_format::Reader;
@@ -35,10 +35,10 @@ pub fn read_head(fields: &mut Reader<'_>, version: u32) -> Result<(), ProofFault
 }
 
 /// The next number of the field.
-#[tactic(auto, unfolding(crate::specs::Reading::value_at))]
+#[tactic(auto, unfolding(crate::specs::Reading::next_value))]
 pub fn next_value(fields: &mut Reader<'_>) -> Result<Gold, ProofFault>
     ensures read { Reads refused (λ v. v) fields.new.rest.now result
-        (value_at fields.old.end fields.old.rest.now) }
+        (next_value fields.old.end fields.old.rest.now) }
     ensures end { fields.new.end ≡ fields.old.end }
 {
     let offset = fields.offset();
@@ -52,10 +52,10 @@ pub fn next_value(fields: &mut Reader<'_>) -> Result<Gold, ProofFault>
 }
 
 /// The next hash.
-#[tactic(auto, unfolding(crate::specs::Reading::hash_at))]
+#[tactic(auto, unfolding(crate::specs::Reading::next_hash))]
 pub fn next_hash(fields: &mut Reader<'_>) -> Result<Hash, ProofFault>
     ensures read { Reads refused (λ h. h) fields.new.rest.now result
-        (hash_at fields.old.end fields.old.rest.now) }
+        (next_hash fields.old.end fields.old.rest.now) }
     ensures end { fields.new.end ≡ fields.old.end }
 {
     let Some(bytes) = fields.bytes(32) else {
@@ -73,7 +73,7 @@ pub fn next_values(
     count: u32,
 ) -> Result<Vec<Gold>, ProofFault>
     ensures read { Reads refused (λ v. v.items) fields.new.rest.now result
-        (repeated (value_at fields.old.end) count fields.old.rest.now) }
+        (repeated (next_value fields.old.end) count fields.old.rest.now) }
     ensures end { fields.new.end ≡ fields.old.end }
 {
     let mut values = Vec::with_capacity(alloc, (count as usize).min(fields.rest.len() / 8))?;
@@ -91,7 +91,7 @@ pub fn next_hashes(
     count: u32,
 ) -> Result<Vec<Hash>, ProofFault>
     ensures read { Reads refused (λ v. v.items) fields.new.rest.now result
-        (repeated (hash_at fields.old.end) count fields.old.rest.now) }
+        (repeated (next_hash fields.old.end) count fields.old.rest.now) }
     ensures end { fields.new.end ≡ fields.old.end }
 {
     let mut hashes = Vec::with_capacity(alloc, (count as usize).min(fields.rest.len() / 32))?;

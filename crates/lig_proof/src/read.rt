@@ -5,7 +5,7 @@ ghost use Rattle.binary_format.specs.Reading.{Gives, Reads};
 ghost use Rattle.lig_layout.specs.Sizes.{IsParams};
 ghost use Rattle.lig_proof.specs.declared.proof.Proof.{Proof};
 ghost use Rattle.lig_proof.specs.ProofBytes.{IsProof, proof_bytes};
-ghost use Rattle.lig_proof.specs.Reading.{refused, proof_of, openings_at};
+ghost use Rattle.lig_proof.specs.Reading.{refused, proof_of, next_openings};
 
 use crate::challenge::OPENED;
 use crate::fault::ProofFault;
@@ -65,7 +65,7 @@ fn next_openings(
 ) -> Result<(Vec<Items<Gold>>, Vec<Items<Hash>>), ProofFault>
     requires { IsParams params.now }
     ensures read { Reads refused (λ x. (x.0.items, x.1.items)) fields.new.rest.now result
-        (openings_at params.now fields.old.end count fields.old.rest.now) }
+        (next_openings params.now fields.old.end count fields.old.rest.now) }
     ensures end { fields.new.end ≡ fields.old.end }
 {
     let mut columns = Vec::with_capacity(alloc, count as usize)?;

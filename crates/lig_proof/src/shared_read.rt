@@ -4,7 +4,7 @@ ghost use Rattle.std.specs.Prelude.{◌≡◌, ◌+◌, ◌*◌, ◌<◌, ◌≤
 ghost use Rattle.binary_format.specs.Reading.{Gives, Reads, repeated};
 ghost use Rattle.lig_layout.specs.Sizes.{IsParams};
 ghost use Rattle.lig_merkle.specs.Shared.{AreOpened};
-ghost use Rattle.lig_proof.specs.Reading.{refused, value_at};
+ghost use Rattle.lig_proof.specs.Reading.{refused, next_value};
 ghost use Rattle.lig_proof.specs.SharedProof.{IsProof2, opened_once, opened_for, proof2_bytes};
 ghost use Rattle.lig_proof.specs.SharedReading.{proof2_of, rest_of};
 ghost use Rattle.lig_proof.specs.declared.shared_proof.Proof2.{Proof2};
@@ -144,7 +144,7 @@ fn next_columns(
     count: u32,
 ) -> Result<Vec<Items<Gold>>, ProofFault>
     requires { IsParams params.now }
-    ensures read { let column = repeated (value_at fields.old.end) (params.now.rows + 6) in
+    ensures read { let column = repeated (next_value fields.old.end) (params.now.rows + 6) in
         Reads refused (λ v. v.items) fields.new.rest.now result
         (repeated column count fields.old.rest.now) }
     ensures end { fields.new.end ≡ fields.old.end }

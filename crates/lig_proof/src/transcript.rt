@@ -2,7 +2,7 @@
 
 ghost use Rattle.std.specs.Prelude.{◌≡◌, ◌<◌, ◌*◌, ◌^◌, All, IfOk, length, vec_len};
 ghost use Rattle.lig_layout.specs.Sizes.{IsParams};
-ghost use Rattle.lig_proof.specs.Transcript.{first_key, second_key, challenges_of, opened_columns};
+ghost use Rattle.lig_proof.specs.Transcript.{first_key, second_key, challenges_of, queries};
 
 use crate::challenge::{Challenges, OPENED};
 use crate::drawing::{draw, next_column};
@@ -63,7 +63,7 @@ pub fn queries(
     polys: &[Gold],
 ) -> Result<Vec<u32>, AllocError>
     requires { IsParams params.now }
-    ensures columns { IfOk result (λ v. v.items ≡ opened_columns params.now first.now polys.now) }
+    ensures columns { IfOk result (λ v. v.items ≡ queries params.now first.now polys.now) }
     ensures count { IfOk result (λ v. vec_len v ≡ 96) }
     ensures below { IfOk result (λ v. All (λ column. column < 8 * params.now.l) v.items) }
 {

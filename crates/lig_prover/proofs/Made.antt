@@ -27,8 +27,8 @@ use Rattle.lig_proof.specs.SharedProof.{opened_once, proof2_bytes}
 use Rattle.lig_proof.specs.Columns.{polynomials, column_at, leaves, commitment}
 use Rattle.lig_proof.specs.Points.{code_point}
 use Rattle.lig_proof.specs.Proving.{IsEncoded, AreMade, bytes_in}
-use Rattle.lig_proof.specs.Tests.{in_order, sent_polynomials}
-use Rattle.lig_proof.specs.Transcript.{first_key, challenges_of, opened_columns}
+use Rattle.lig_proof.specs.Sent.{in_order, sent_polynomials}
+use Rattle.lig_proof.specs.Transcript.{first_key, challenges_of, queries}
 use Rattle.lig_proof.specs.Values.{HasDegrees}
 use Rattle.lig_prover.specs.Matrix.{AreCodewords, AreSystemsOf, encoded_by, column_in}
 use Rattle.lig_prover.specs.Spelling.{spelled_by}
@@ -179,7 +179,7 @@ pub record IsMade (p : Params) (version : Version) (r1cs_bytes : List ℕ) (f : 
   pub systems : AreSystemsOf p f c system
   pub spelled : (let e = encoded_by p polys in
       let all = in_order (sent_polynomials p c e system) in
-      bytes ≡ bytes_in version p e all (opened_columns p c.first all))
+      bytes ≡ bytes_in version p e all (queries p c.first all))
 
 pub made_for : (p : Params) (version : Version) (r1cs_bytes : List ℕ) (f : File) (v : Vectors)
     (seed bytes : List ℕ) (polys : List (List ℕ)) (c : Challenges) (system : ℕ → ℕ → List ℕ)

@@ -23,7 +23,7 @@ use Rattle.lig_layout.specs.Sizes.{IsParams}
 use Rattle.lig_proof.specs.declared.challenge.Challenges.{Challenges}
 use Rattle.lig_proof.specs.Points.{code_point}
 use Rattle.lig_proof.specs.ProofBytes.{AreValues}
-use Rattle.lig_proof.specs.Tests.{rho, linear_test, product_test}
+use Rattle.lig_proof.specs.Sent.{rho, linear_test, product_test}
 use Rattle.lig_proof.proofs.Interpolants.{width_is}
 use Rattle.lig_proof.proofs.TestValues.{linear_test_has_values, product_test_has_values}
 use Rattle.lig_prover.specs.Matrix.{AreCodewords, encoded_by, entry_of, linear_value, product_value}

@@ -10,7 +10,7 @@ use Rattle.lig_proof.specs.declared.challenge.Challenges.{Challenges}
 use Rattle.lig_proof.specs.Columns.{Encoded}
 use Rattle.lig_proof.specs.Encoding.{InterpolateRows}
 use Rattle.lig_proof.specs.Masks.{proximity_mask, linear_mask, product_mask}
-use Rattle.lig_proof.specs.Tests.{rho, r_numbers, linear_test}
+use Rattle.lig_proof.specs.Sent.{rho, r_numbers, linear_test}
 use Rattle.lig_proof.specs.Values.{HasDegrees}
 use Rattle.lig_prover.specs.Transform.{values_at}
 

@@ -6,7 +6,7 @@ ghost use Rattle.lig_layout.specs.Sizes.{IsParams};
 ghost use Rattle.lig_merkle.specs.Merkle.{leaf_hash};
 ghost use Rattle.lig_prover.specs.Matrix.{column_in};
 
-use crate::transform::number_at;
+use crate::transform::number_in;
 use gold_field::Gold;
 use items::Items;
 use lig_layout::Params;
@@ -21,7 +21,7 @@ pub fn column(alloc: Global, codewords: &[Items<Gold>], at: usize) -> Result<Vec
 {
     let mut values = Vec::with_capacity(alloc, codewords.len())?;
     for codeword in codewords {
-        values.push(number_at(codeword.as_slice(), at))?;
+        values.push(number_in(codeword.as_slice(), at))?;
     }
     Ok(values)
 }

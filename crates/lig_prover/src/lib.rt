@@ -9,10 +9,10 @@ mod columns;
 mod fault;
 mod masks;
 mod opening;
+mod polynomials;
 mod proving;
 mod rows;
 mod sent;
-mod tests;
 mod transform;
 
 pub use fault::ProveFault;

@@ -8,7 +8,7 @@ ghost use Rattle.lig_proof.specs.Masks.{mask_numbers, row_mask, proximity_mask, 
 ghost use Rattle.lig_proof.specs.Masks.{product_mask};
 ghost use Rattle.lig_prover.specs.Matrix.{test_masks};
 
-use crate::transform::{masked, number_at};
+use crate::transform::{masked, number_in};
 use gold_field::Gold;
 use items::Items;
 use lig_layout::Params;
@@ -71,8 +71,8 @@ fn linear_mask(
     let free = 3 * params.l - 1;
     let from = (params.rows + 4) * params.l + repetition * free;
     let others = mask_numbers(alloc, seed, from, free)?;
-    let first = number_at(&others, l - 1);
-    let second = number_at(&others, 2 * l - 1);
+    let first = number_in(&others, l - 1);
+    let second = number_in(&others, 2 * l - 1);
     let mut mask = Vec::with_capacity(alloc, 3 * l)?;
     mask.push(opposite(first, second))?;
     mask.extend_from_slice(&others)?;

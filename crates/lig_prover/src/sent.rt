@@ -4,10 +4,10 @@ ghost use Rattle.std.specs.Prelude.{◌≡◌, ℕ, ◌*◌, List, IfOk, length}
 ghost use Rattle.iden_files.specs.File.{InLimits};
 ghost use Rattle.lig_layout.specs.Sizes.{IsParams, params_of};
 ghost use Rattle.lig_layout.specs.System.{equation_count};
-ghost use Rattle.lig_proof.specs.Tests.{proximity_test, in_order, sent_polynomials};
+ghost use Rattle.lig_proof.specs.Sent.{proximity_test, in_order, sent_polynomials};
 ghost use Rattle.lig_prover.specs.Matrix.{AreCodewords, AreSystemsOf, encoded_by};
 
-use crate::tests::{proximity_test, linear_test, product_test};
+use crate::polynomials::{proximity_test, linear_test, product_test};
 use gold_field::Gold;
 use iden_files::R1cs;
 use items::Items;

@@ -20,7 +20,7 @@ use std::alloc::{AllocError, Global};
 const INVERSE_OF_SEVEN: u128 = 2635249152773512046;
 
 /// The number at a place, and 0 behind the last.
-pub fn number_at(values: &[Gold], at: usize) -> Gold
+pub fn number_in(values: &[Gold], at: usize) -> Gold
     ensures { result ≡ slice_index values.now at }
 {
     match values.get(at) {
@@ -88,7 +88,7 @@ fn masked_at(l: usize, base: &[Gold], mask: &[Gold], i: usize) -> Gold
         result ≡ (slice_index base.now i + above) % P }
 {
     let shifted = shifted_at(l, mask, i);
-    number_at(base, i).add(shifted.sub(number_at(mask, i)))
+    number_in(base, i).add(shifted.sub(number_in(mask, i)))
 }
 
 // A coefficient of `X^l` times the polynomial.
@@ -98,6 +98,6 @@ fn shifted_at(l: usize, coefs: &[Gold], i: usize) -> Gold
     if i < l {
         Gold::ZERO
     } else {
-        number_at(coefs, i - l)
+        number_in(coefs, i - l)
     }
 }

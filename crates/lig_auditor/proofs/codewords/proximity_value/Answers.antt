@@ -2,7 +2,7 @@ use Rattle.std.proofs.Common.{◌+◌, ◌*◌, ◌%◌, ◌<◌, ◌≡◌, ℕ
 use Rattle.gold_field.specs.declared.gold.TheConstants.{P}
 use Rattle.gold_ntt.specs.Polynomial.{sum_to}
 use Rattle.lig_proof.specs.Columns.{row_value, proximity_mask_value}
-use Rattle.lig_proof.specs.Tests.{alpha}
+use Rattle.lig_proof.specs.Sent.{alpha}
 use Rattle.lig_auditor.proofs.Adding.{read, in_part, none_yet, next_product, on_top}
 use Rattle.lig_auditor.proofs.codewords.proximity_value.Goals as goal
 

@@ -3,7 +3,7 @@ use Rattle.gold_field.specs.declared.gold.TheConstants.{P}
 use Rattle.gold_ntt.specs.Polynomial.{sum_to}
 use Rattle.lig_proof.specs.Audit.{excess}
 use Rattle.lig_proof.specs.Columns.{product_mask_value}
-use Rattle.lig_proof.specs.Tests.{rho}
+use Rattle.lig_proof.specs.Sent.{rho}
 use Rattle.lig_auditor.proofs.Adding.{read, in_part, none_yet, next_reduced, on_top}
 use Rattle.lig_auditor.proofs.products.product_value.Goals as goal
 

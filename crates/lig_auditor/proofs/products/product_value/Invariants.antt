@@ -2,7 +2,7 @@ use Rattle.std.proofs.Common.{◌≡◌, ◌*◌, ◌%◌}
 use Rattle.gold_field.specs.declared.gold.TheConstants.{P}
 use Rattle.gold_ntt.specs.Polynomial.{sum_to}
 use Rattle.lig_proof.specs.Audit.{excess}
-use Rattle.lig_proof.specs.Tests.{rho}
+use Rattle.lig_proof.specs.Sent.{rho}
 use Rattle.lig_auditor.proofs.products.product_value.Given as goal
 
 abbrev pub invariant-loop-k : goal.invariant-loop-k

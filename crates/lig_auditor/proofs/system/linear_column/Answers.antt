@@ -1,7 +1,7 @@
 use Rattle.std.proofs.Common.{◌≡◌, length, get_or}
 use Rattle.gold_ntt.specs.Polynomial.{eval_at}
 use Rattle.lig_proof.specs.Points.{code_point}
-use Rattle.lig_proof.specs.Tests.{polynomials_of}
+use Rattle.lig_proof.specs.Sent.{polynomials_of}
 use Rattle.lig_auditor.specs.Opened.{system_value}
 use Rattle.lig_auditor.proofs.Matching.{in_both}
 use Rattle.lig_auditor.proofs.system.linear_column.Goals as goal

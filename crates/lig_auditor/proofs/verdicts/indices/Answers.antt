@@ -3,7 +3,7 @@ use Rattle.lig_merkle.specs.Shared.{AreOpened}
 use Rattle.lig_proof.specs.Acceptance.{indices_in, polys_in, root_in}
 use Rattle.lig_proof.specs.SharedProof.{opened_once}
 use Rattle.lig_proof.specs.SharedReading.{IsAny}
-use Rattle.lig_proof.specs.Transcript.{first_key, opened_columns}
+use Rattle.lig_proof.specs.Transcript.{first_key, queries}
 use Rattle.lig_auditor.specs.Ways.{HasWays}
 use Rattle.lig_auditor.proofs.Concluding.{lifted, lifted_two, second_due, second_ways}
 use Rattle.lig_auditor.proofs.verdicts.indices.Goals as goal
@@ -15,10 +15,10 @@ returns-in-Second-clause-value c =
     let proof = c.args.proof.now in
     let drawn = c.deref.result.now in
     let are = c.deref.ensures.value ∙ c.in_ok-drawn.ensures.columns
-    ∙ ap (opened_columns p first) c.polys.ensures in
+    ∙ ap (queries p first) c.polys.ensures in
     lifted (λ (v : Vec ℕ Global). v.items ≡ opened_once p drawn)
     (λ (v : Vec ℕ Global). v.items
-    ≡ indices_in p (opened_columns p first (polys_in proof)) proof)
+    ≡ indices_in p (queries p first (polys_in proof)) proof)
     c.opened_once.result
     (λ v once. second_due p first drawn v.items proof c.in-Second.field-0 c.in-Second.is are once)
     c.opened_once.ensures.once
@@ -30,7 +30,7 @@ returns-in-Second-clause-ways c =
     let proof = c.args.proof.now in
     let drawn = c.deref.result.now in
     let are = c.deref.ensures.value ∙ c.in_ok-drawn.ensures.columns
-    ∙ ap (opened_columns p first) c.polys.ensures in
+    ∙ ap (queries p first) c.polys.ensures in
     lifted_two (λ (v : Vec ℕ Global). v.items ≡ opened_once p drawn)
     (λ (v : Vec ℕ Global). AreOpened p.depth v.items)
     (λ (v : Vec ℕ Global). (r1cs_bytes publics : List ℕ)

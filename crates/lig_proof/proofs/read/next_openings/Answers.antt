@@ -1,6 +1,6 @@
 use Rattle.std.proofs.Common.{◌∙◌}
 use Rattle.std.proofs.lemmas.Result.{err_from_is_err_and}
-use Rattle.lig_proof.specs.Reading.{openings_at}
+use Rattle.lig_proof.specs.Reading.{next_openings}
 use Rattle.lig_proof.proofs.Loops.{column_fails, path_fails, opening_read, all_opened}
 use Rattle.lig_proof.proofs.read.next_openings.Goals as goal
 
@@ -13,7 +13,7 @@ returns-in_err-column-clause-read c =
     rw (q.1, q.2)
     (column_fails c.args.params.now end c.args.count c.loop.counter c.loop.columns.items
     c.loop.paths.items c.loop.fields.rest.now
-    (openings_at c.args.params.now end c.args.count c.args.fields.now.rest.now)
+    (next_openings c.args.params.now end c.args.count c.args.fields.now.rest.now)
     c.loop.invariant.so_far c.in_err-column.field-0.0 c.loop-test.true read)
 
 pub returns-in_err-path-clause-read : goal.returns-in_err-path-clause-read
@@ -27,7 +27,7 @@ returns-in_err-path-clause-read c =
     rw (q.1, q.2)
     (path_fails c.args.params.now end c.args.count c.loop.counter c.loop.columns.items
     c.loop.paths.items c.loop.fields.rest.now
-    (openings_at c.args.params.now end c.args.count c.args.fields.now.rest.now)
+    (next_openings c.args.params.now end c.args.count c.args.fields.now.rest.now)
     c.loop.invariant.so_far c.in_err-path.field-0.0 c.in_ok-column.column.items
     c.next_values.new.fields.rest.now c.loop-test.true first second)
 
@@ -47,7 +47,7 @@ loop-preserved c =
       )
           (opening_read c.args.params.now end c.args.count c.loop.counter c.loop.columns.items
           c.loop.paths.items c.loop.fields.rest.now
-          (openings_at c.args.params.now end c.args.count c.args.fields.now.rest.now) inv.so_far
+          (next_openings c.args.params.now end c.args.count c.args.fields.now.rest.now) inv.so_far
           c.in_ok-column.column.items c.in_ok-path.path.items c.next_values.new.fields.rest.now
           c.next_hashes.new.fields.rest.now c.loop-test.true first second);
     }
@@ -57,5 +57,5 @@ returns-clause-read c =
     let end = c.args.fields.now.end in
     all_opened c.args.params.now end c.args.count c.loop.counter c.loop.columns.items
     c.loop.paths.items c.loop.fields.rest.now
-    (openings_at c.args.params.now end c.args.count c.args.fields.now.rest.now)
+    (next_openings c.args.params.now end c.args.count c.args.fields.now.rest.now)
     c.loop.invariant.so_far c.loop-test.false

@@ -2,7 +2,7 @@ use Rattle.std.proofs.Common.{◌+◌, ◌∙◌}
 use Rattle.std.proofs.lemmas.Result.{err_from_is_err_and}
 use Rattle.binary_format.specs.Reading.{repeated}
 use Rattle.binary_format.proofs.Loop.{goes_on}
-use Rattle.lig_proof.specs.Reading.{value_at}
+use Rattle.lig_proof.specs.Reading.{next_value}
 use Rattle.lig_proof.proofs.Loops.{field_fails}
 use Rattle.lig_proof.proofs.shared_read.next_columns.Goals as goal
 
@@ -10,7 +10,7 @@ pub returns-in_err-column-clause-read : goal.returns-in_err-column-clause-read
 returns-in_err-column-clause-read c =
     let p = err_from_is_err_and c.from_residual-in_err-column.result
     c.from_residual-in_err-column.ensures.1 in
-    let field = repeated (value_at c.args.fields.now.end) (c.args.params.now.rows + 6) in
+    let field = repeated (next_value c.args.fields.now.end) (c.args.params.now.rows + 6) in
     let read = rw c.loop.invariant.ends at c.in_err-column.ensures.read in
     rw (p.1, p.2)
     (field_fails field c.in_err-column.field-0.0 c.loop.columns.items c.args.count
@@ -20,7 +20,7 @@ returns-in_err-column-clause-read c =
 
 pub loop-preserved : goal.loop-preserved
 loop-preserved c =
-    let field = repeated (value_at c.args.fields.now.end) (c.args.params.now.rows + 6) in
+    let field = repeated (next_value c.args.fields.now.end) (c.args.params.now.rows + 6) in
     let inv = c.loop.invariant in
     let read = rw inv.ends at c.in_ok-column.ensures.read in
     record {

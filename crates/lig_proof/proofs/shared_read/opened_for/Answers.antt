@@ -1,15 +1,15 @@
 use Rattle.std.proofs.Common.{◌≡◌, List, ℕ, ap, ◌∙◌}
 use Rattle.lig_layout.specs.declared.params.Params.{Params}
 use Rattle.lig_proof.specs.SharedProof.{opened_once, opened_for}
-use Rattle.lig_proof.specs.Transcript.{first_key, opened_columns}
+use Rattle.lig_proof.specs.Transcript.{first_key, queries}
 use Rattle.lig_proof.proofs.shared_read.opened_for.Goals as goal
 
 due : (p : Params) (r1cs_bytes publics root polys first drawn once : List ℕ)
     → first ≡ first_key r1cs_bytes publics root
-    → drawn ≡ opened_columns p first polys → once ≡ opened_once p drawn
+    → drawn ≡ queries p first polys → once ≡ opened_once p drawn
     → once ≡ opened_for p r1cs_bytes publics root polys
 due p r1cs_bytes publics root polys first drawn once a b e =
-    e ∙ ap (opened_once p) (b ∙ ap (λ key. opened_columns p key polys) a)
+    e ∙ ap (opened_once p) (b ∙ ap (λ key. queries p key polys) a)
 
 pub returns-clause-value : goal.returns-clause-value
 returns-clause-value c =

@@ -2,7 +2,7 @@ use Rattle.std.proofs.Common.{◌≡◌, ℕ, ◌*◌, List, length, Result, Ok,
 use Rattle.binary_format.specs.Reading.{Gives, repeated}
 use Rattle.lig_layout.specs.declared.params.Params.{Params}
 use Rattle.lig_proof.specs.declared.shared_proof.Proof2.{Proof2}
-use Rattle.lig_proof.specs.Reading.{refused, head_of, value_at, hash_at}
+use Rattle.lig_proof.specs.Reading.{refused, head_of, next_value, next_hash}
 use Rattle.lig_proof.specs.SharedProof.{opened_for}
 use Rattle.lig_proof.specs.SharedReading.{proof2_of, rest_of}
 use Rattle.lig_proof.proofs.shared_read.proof2_in.Goals as goal
@@ -11,15 +11,15 @@ use Rattle.lig_proof.proofs.shared_read.proof2_in.Goals as goal
 reached : (p : Params) (r1cs_bytes publics bytes root polys opened r0 r1 r2 : List ℕ)
     (e1 e2 e3 : ℕ) (x : Unit {0})
     → e1 ≡ length bytes → e2 ≡ length bytes → e3 ≡ length bytes
-    → head_of 2 bytes ≡ Ok (x, r0) → hash_at e1 r0 ≡ Ok (root, r1)
-    → repeated (value_at e2) (18 * p.l) r1 ≡ Ok (polys, r2)
+    → head_of 2 bytes ≡ Ok (x, r0) → next_hash e1 r0 ≡ Ok (root, r1)
+    → repeated (next_value e2) (18 * p.l) r1 ≡ Ok (polys, r2)
     → opened ≡ opened_for p r1cs_bytes publics root polys
     → rest_of p e3 opened root polys r2 ≡ proof2_of p r1cs_bytes publics bytes
 unfolding proof2_of
 reached p r1cs_bytes publics bytes root polys opened r0 r1 r2 e1 e2 e3 x is1 is2 is3 head at_root
     at_polys are =
-    let Root : ℕ → Type 0 = λ e. hash_at e r0 ≡ Ok (root, r1) in
-    let Polys : ℕ → Type 0 = λ e. repeated (value_at e) (18 * p.l) r1 ≡ Ok (polys, r2) in
+    let Root : ℕ → Type 0 = λ e. next_hash e r0 ≡ Ok (root, r1) in
+    let Polys : ℕ → Type 0 = λ e. repeated (next_value e) (18 * p.l) r1 ≡ Ok (polys, r2) in
     let a = subst Root is1 at_root in
     let b = subst Polys is2 at_polys in
     (λ i. rest_of p (is3 i) (are i) root polys r2) ∙ rw (head, a, b) refl

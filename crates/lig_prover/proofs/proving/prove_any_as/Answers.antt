@@ -6,7 +6,7 @@ use Rattle.lig_layout.specs.Laws.{publics_of}
 use Rattle.lig_merkle.specs.Merkle.{leaf_hash, root_at}
 use Rattle.lig_proof.specs.Columns.{commitment}
 use Rattle.lig_proof.specs.Proving.{AreMade, bytes_in}
-use Rattle.lig_proof.specs.Transcript.{first_key, challenges_of, opened_columns}
+use Rattle.lig_proof.specs.Transcript.{first_key, challenges_of, queries}
 use Rattle.lig_prover.specs.Matrix.{column_in, encoded_by}
 use Rattle.lig_prover.specs.Spelling.{spelled_by}
 use Rattle.lig_prover.proofs.Made.{made_for, leaves_same, spelled_same}
@@ -49,7 +49,7 @@ returns g c =
     let equations = c.equation_count-equations.ensures in
     let sent = c.in_ok-polys.ensures in
     let columns = c.in_ok-drawn.ensures.columns
-    ∙ ap (opened_columns p challenges.first) (c.deref-3.ensures.value ∙ sent.2) in
+    ∙ ap (queries p challenges.first) (c.deref-3.ensures.value ∙ sent.2) in
     IfOk-then c.proof_in.result _ (λ bytes. AreMade version r1cs_bytes f v seed bytes.items)
     c.proof_in.ensures
     (λ bytes made. made_for p version r1cs_bytes f v seed bytes.items polys challenges sent.0

@@ -4,7 +4,7 @@ use Rattle.lig_layout.specs.declared.params.Params.{Params}
 use Rattle.lig_layout.specs.System.{combined, left_sides, equation_count}
 use Rattle.lig_proof.specs.declared.challenge.Challenges.{Challenges}
 use Rattle.lig_proof.specs.Encoding.{InterpolateRows}
-use Rattle.lig_proof.specs.Tests.{r_numbers}
+use Rattle.lig_proof.specs.Sent.{r_numbers}
 use Rattle.lig_prover.specs.Matrix.{AreSystemsOf}
 use Rattle.lig_prover.proofs.sent.sent.Goals as goal
 

@@ -1,11 +1,11 @@
 use Rattle.std.proofs.Common.{◌*◌, length, ap, ◌∙◌, arith}
 use Rattle.std.proofs.lemmas.List.{take_all}
 use Rattle.std.proofs.lemmas.List.FromFn.{length-map-range_with_len}
-use Rattle.lig_proof.specs.Tests.{product_test}
+use Rattle.lig_proof.specs.Sent.{product_test}
 use Rattle.lig_proof.proofs.Interpolants.{made_values}
 use Rattle.lig_prover.specs.Matrix.{encoded_by, product_value}
 use Rattle.lig_prover.proofs.Points.{product_are}
-use Rattle.lig_prover.proofs.tests.product_test.Goals as goal
+use Rattle.lig_prover.proofs.polynomials.product_test.Goals as goal
 
 pub coefficients_of-requires-clause-each : goal.coefficients_of-requires-clause-each
 coefficients_of-requires-clause-each g c =

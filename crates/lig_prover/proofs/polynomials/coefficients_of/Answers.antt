@@ -3,7 +3,7 @@ use Rattle.lig_proof.specs.ProofBytes.{AreValues}
 use Rattle.lig_proof.proofs.Interpolants.{width_is}
 use Rattle.lig_prover.proofs.Coset.{written_back}
 use Rattle.lig_prover.proofs.Points.{half_points}
-use Rattle.lig_prover.proofs.tests.coefficients_of.Goals as goal
+use Rattle.lig_prover.proofs.polynomials.coefficients_of.Goals as goal
 
 pub interpolate-requires : goal.interpolate-requires
 interpolate-requires c =

@@ -11,14 +11,14 @@ ghost use Rattle.lig_layout.specs.Layout.{row_at};
 ghost use Rattle.lig_layout.specs.System.{combined, left_sides, equation_count};
 ghost use Rattle.lig_proof.specs.Encoding.{Interpolates, InterpolateRows};
 ghost use Rattle.lig_proof.specs.ProofBytes.{AreValues};
-ghost use Rattle.lig_proof.specs.Tests.{alpha, r_numbers, proximity_test, linear_test};
-ghost use Rattle.lig_proof.specs.Tests.{product_test};
+ghost use Rattle.lig_proof.specs.Sent.{alpha, r_numbers, proximity_test, linear_test};
+ghost use Rattle.lig_proof.specs.Sent.{product_test};
 ghost use Rattle.lig_prover.specs.Matrix.{AreCodewords, IsLinearTest, encoded_by, entry_of};
 ghost use Rattle.lig_prover.specs.Matrix.{linear_value, product_value};
 ghost use Rattle.lig_prover.specs.Transform.{values_at};
 
 use crate::rows::evaluated;
-use crate::transform::{interpolate, number_at};
+use crate::transform::{interpolate, number_in};
 use gold_field::Gold;
 use iden_files::R1cs;
 use items::Items;
@@ -32,7 +32,7 @@ fn entry(rows: &[Items<Gold>], k: usize, i: usize) -> Gold
     ensures { result ≡ entry_of rows.now k i }
 {
     match rows.get(k) {
-        Some(row) => number_at(row.as_slice(), i),
+        Some(row) => number_in(row.as_slice(), i),
         None => Gold::ZERO,
     }
 }
@@ -81,7 +81,7 @@ fn proximity_coefficient(
     let rows = params.rows as usize;
     let mut sum = Gold::ZERO;
     for k in 0..rows {
-        let number = number_at(challenges.alpha.as_slice(), t * rows + k);
+        let number = number_in(challenges.alpha.as_slice(), t * rows + k);
         sum = sum.add(number.mul(entry(polynomials, k, i)));
     }
     entry(polynomials, rows + t, i).add(sum)
@@ -232,7 +232,7 @@ fn product_value(
     let first = params.wire_rows as usize;
     let mut sum = Gold::ZERO;
     for k in 0..rows {
-        let number = number_at(challenges.rho.as_slice(), t * rows + k);
+        let number = number_in(challenges.rho.as_slice(), t * rows + k);
         let x = entry(codewords, first + k, i);
         let y = entry(codewords, first + rows + k, i);
         let z = entry(codewords, first + 2 * rows + k, i);

@@ -1,9 +1,9 @@
 use Rattle.std.proofs.Common.{◌≡◌, ◌+◌, ◌-◌, ◌*◌, ◌%◌, ℕ}
 use Rattle.gold_field.specs.declared.gold.TheConstants.{P}
 use Rattle.gold_ntt.specs.Polynomial.{sum_to}
-use Rattle.lig_proof.specs.Tests.{rho}
+use Rattle.lig_proof.specs.Sent.{rho}
 use Rattle.lig_prover.specs.Matrix.{entry_of}
-use Rattle.lig_prover.proofs.tests.product_value.Given as goal
+use Rattle.lig_prover.proofs.polynomials.product_value.Given as goal
 
 abbrev pub invariant-loop-k : goal.invariant-loop-k
 invariant-loop-k l =

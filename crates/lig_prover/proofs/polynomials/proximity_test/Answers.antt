@@ -4,9 +4,9 @@ use Rattle.std.proofs.lemmas.Slice.Zip.{AllZip-map}
 use Rattle.rayon.proofs.ListFacts.{IfOk-then}
 use Rattle.gold_field.specs.declared.gold.TheConstants.{P}
 use Rattle.gold_ntt.specs.Polynomial.{sum_to}
-use Rattle.lig_proof.specs.Tests.{alpha}
+use Rattle.lig_proof.specs.Sent.{alpha}
 use Rattle.lig_prover.specs.Matrix.{entry_of}
-use Rattle.lig_prover.proofs.tests.proximity_test.Goals as goal
+use Rattle.lig_prover.proofs.polynomials.proximity_test.Goals as goal
 
 pub returns : goal.returns
 returns g c =

@@ -2,10 +2,10 @@ use Rattle.std.proofs.Common.{◌+◌, ◌-◌, ◌*◌, ◌%◌, ℕ, List, get
 use Rattle.gold_field.specs.declared.gold.TheConstants.{P}
 use Rattle.lig_layout.specs.declared.params.Params.{Params}
 use Rattle.lig_proof.specs.declared.challenge.Challenges.{Challenges}
-use Rattle.lig_proof.specs.Tests.{rho}
+use Rattle.lig_proof.specs.Sent.{rho}
 use Rattle.lig_prover.specs.Matrix.{entry_of}
 use Rattle.lig_prover.proofs.Adding.{nothing_added, one_added, all_added, excess}
-use Rattle.lig_prover.proofs.tests.product_value.Goals as goal
+use Rattle.lig_prover.proofs.polynomials.product_value.Goals as goal
 
 -- what row k adds
 abbrev term_of : Params → Challenges → List (List ℕ) → ℕ → ℕ → ℕ → ℕ
@@ -24,11 +24,11 @@ loop-k-preserved c =
     let k = c.loop-k.k in
     let p = c.args.params.now in
     let place = c.args.t * p.constraint_rows + k in
-    let number = c.number_at-number.ensures ∙ ap (λ xs. get_or xs place 0) c.as_slice.ensures in
+    let number = c.number_in-number.ensures ∙ ap (λ xs. get_or xs place 0) c.as_slice.ensures in
     let x = c.entry-x.result in
     let y = c.entry-y.result in
     let z = c.entry-z.result in
-    let made = excess c.number_at-number.result x y z c.mul.result c.sub.result
+    let made = excess c.number_in-number.result x y z c.mul.result c.sub.result
     c.mul-in-loop-k.result c.mul.ensures c.sub.ensures c.mul-in-loop-k.ensures in
     let form = λ (n x y z : ℕ). n * (x * y + (P - z)) % P in
     one_added k c.loop-k.sum c.mul-in-loop-k.result c.add-sum.result

@@ -7,13 +7,13 @@ use Rattle.lig_layout.specs.System.{combined, combined_at, left_sides, equation_
 use Rattle.gold_field.specs.declared.gold.TheConstants.{P}
 use Rattle.lig_proof.specs.Encoding.{InterpolateRows}
 use Rattle.lig_proof.specs.ProofBytes.{AreValues}
-use Rattle.lig_proof.specs.Tests.{linear_test}
+use Rattle.lig_proof.specs.Sent.{linear_test}
 use Rattle.lig_proof.proofs.Interpolants.{made_values}
 use Rattle.lig_prover.specs.Matrix.{encoded_by, linear_value}
 use Rattle.lig_prover.specs.Transform.{values_at}
 use Rattle.lig_prover.proofs.Points.{half_points, linear_are, widened, widened_front}
 use Rattle.lig_prover.proofs.Points.{widened_values, within_both}
-use Rattle.lig_prover.proofs.tests.linear_test.Goals as goal
+use Rattle.lig_prover.proofs.polynomials.linear_test.Goals as goal
 
 pub combine-requires-clause-numbers : goal.combine-requires-clause-numbers
 combine-requires-clause-numbers g c =
