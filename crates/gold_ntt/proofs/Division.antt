@@ -124,7 +124,7 @@ division_value n f q r x is =
     (sym (mod-mod w P))
 
 -- at the roots of order n, f has the values of the remainder
-root_value : (e : ℕ) (f q r : List ℕ) (j : ℕ) → e ≤ 32 → IsDivision (2 ^ e) f q r
+pub root_value : (e : ℕ) (f q r : List ℕ) (j : ℕ) → e ≤ 32 → IsDivision (2 ^ e) f q r
     → eval_at f (root_of e ^ j % P) ≡ eval_at r (root_of e ^ j % P)
 root_value e f q r j l is =
     let n : ℕ = 2 ^ e in

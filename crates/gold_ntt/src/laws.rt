@@ -1,5 +1,4 @@
-//! Laws of polynomials and their values, for proofs that cite a call: each function does nothing,
-//! and its contract is the law.
+//! Laws of polynomials and their values: each function does nothing, and its contract is the law.
 
 ghost use Rattle.std.specs.Prelude.{◌≡◌, ◌≢◌, ℕ, ◌+◌, ◌*◌, ◌%◌, ◌^◌, ◌<◌, ◌≤◌, ◌==◌, if◌then◌else◌};
 ghost use Rattle.std.specs.Prelude.{List, length, slice_index};

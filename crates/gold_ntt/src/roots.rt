@@ -8,10 +8,16 @@ use gold_field::Gold;
 pub const ROOT: u64 = 1753635133440165772;
 
 /// The root of unity of order `2 ^ e`.
-#[tactic(auto, using(crate::proofs::RootLaws::square_turn), unfolding(crate::specs::Transform::root_of))]
+#[tactic(
+    auto,
+    using(crate::proofs::RootLaws::square_turn),
+    unfolding(crate::specs::Transform::root_of)
+)]
 pub fn root(e: u32) -> Gold
     requires { e ≤ 32 }
     ensures value { result ≡ root_of e }
+    // Of a variable: the checker would compute the closed power. So the root is pinned, whatever
+    // `ROOT` is.
     ensures base { (b : ℕ) → b ≡ 7 → result ≡ b ^ ((2 ^ 32 - 1) * 2 ^ (32 - e)) % P }
     ensures one { result ^ (2 ^ e) % P ≡ 1 }
     ensures half { 0 < e → result ^ (2 ^ (e - 1)) % P ≡ P - 1 }

@@ -29,7 +29,8 @@ use Rattle.lig_proof.specs.Proving.{AreSystems, challenges_for}
 use Rattle.lig_proof.specs.Audit.{Audit, Proximity, LinearSum, LinearColumn, QuadZero, QuadColumn}
 use Rattle.lig_proof.specs.Audit.{IsTested}
 use Rattle.lig_proof.specs.Acceptance.{IsFirstFailure, IsProofVerdict, IsReadVerdict, IsVerdict}
-use Rattle.lig_proof.specs.Acceptance.{public_count, indices_in, root_in, polys_in, columns_in}
+use Rattle.lig_layout.specs.System.{public_count}
+use Rattle.lig_proof.specs.Acceptance.{indices_in, root_in, polys_in, columns_in}
 use Rattle.lig_proof.specs.Acceptance.{ways_in, Leads}
 use Rattle.lig_merkle.specs.Merkle.{leaf_hash}
 use Rattle.lig_merkle.specs.Shared.{AreOpened, shared_count, root_of_many}

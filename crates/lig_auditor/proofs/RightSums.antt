@@ -11,7 +11,7 @@ use Rattle.gold_ntt.specs.Polynomial.{sum_to, eval_at}
 use Rattle.iden_files.specs.File.{File}
 use Rattle.lig_layout.specs.System.{right_sides, equation_count}
 use Rattle.lig_layout.specs.Sizes.{IsParams}
-use Rattle.lig_proof.specs.Acceptance.{public_count}
+use Rattle.lig_layout.specs.System.{public_count}
 use Rattle.lig_proof.specs.Points.{message_point, width_log}
 use Rattle.lig_proof.proofs.Interpolants.{width_is}
 use Rattle.lig_proof.proofs.PointSums.{sum_parts, sum_at_points}

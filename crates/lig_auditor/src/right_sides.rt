@@ -4,8 +4,7 @@ ghost use Rattle.std.specs.Prelude.{◌≡◌, ◌<◌, ◌+◌, ◌*◌, ◌%�
 ghost use Rattle.gold_field.specs.declared.gold.TheConstants.{P};
 ghost use Rattle.gold_ntt.specs.Polynomial.{sum_to};
 ghost use Rattle.iden_files.specs.File.{InLimits};
-ghost use Rattle.lig_layout.specs.System.{equation_count, right_sides};
-ghost use Rattle.lig_proof.specs.Acceptance.{public_count};
+ghost use Rattle.lig_layout.specs.System.{equation_count, public_count, right_sides};
 ghost use Rattle.lig_proof.specs.Audit.{LinearSum};
 ghost use Rattle.lig_auditor.specs.Opened.{IsOpening, audit_in, no_system};
 

@@ -3,8 +3,7 @@
 ghost use Rattle.std.specs.Prelude.{◌≡◌, ◌*◌, ℕ, List, IfOk, length};
 ghost use Rattle.iden_files.specs.File.{InLimits};
 ghost use Rattle.lig_layout.specs.Sizes.{params_of};
-ghost use Rattle.lig_layout.specs.System.{equation_count, right_sides};
-ghost use Rattle.lig_proof.specs.Acceptance.{public_count};
+ghost use Rattle.lig_layout.specs.System.{equation_count, public_count, right_sides};
 ghost use Rattle.lig_proof.specs.Audit.{IsTested};
 ghost use Rattle.lig_proof.specs.Proving.{AreSystems};
 ghost use Rattle.lig_auditor.specs.Opened.{IsOpening, audit_in};

@@ -3,8 +3,9 @@
 ghost use Rattle.std.specs.Prelude.{◌≡◌, ◌<◌, ◌+◌, ◌*◌, ◌^◌, ℕ, List, IfOk, length};
 ghost use Rattle.iden_files.specs.File.{InLimits};
 ghost use Rattle.lig_layout.specs.Sizes.{IsParams, params_of};
+ghost use Rattle.lig_layout.specs.System.{public_count};
 ghost use Rattle.lig_merkle.specs.Shared.{AreOpened};
-ghost use Rattle.lig_proof.specs.Acceptance.{IsVerdict, IsProofVerdict, public_count};
+ghost use Rattle.lig_proof.specs.Acceptance.{IsVerdict, IsProofVerdict};
 ghost use Rattle.lig_proof.specs.Acceptance.{indices_in, polys_in, root_in};
 ghost use Rattle.lig_proof.specs.SharedReading.{IsAny};
 ghost use Rattle.lig_proof.specs.Transcript.{first_key, queries};

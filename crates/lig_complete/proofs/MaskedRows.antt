@@ -2,20 +2,13 @@
 use Rattle.std.proofs.Common.{◌≡◌, ℕ, zero, suc, ◌+◌, ◌-◌, ◌*◌, ◌%◌, ◌^◌, ◌<◌, ◌≤◌, List, []}
 use Rattle.std.proofs.Common.{length, get_or, cond, refl, sym, ap, subst, ◌∙◌, arith, zero-add}
 use Rattle.std.proofs.Common.{⊎_elim, lit<}
-use Rattle.std.proofs.Math.Nat.{mod-mod}
 use Rattle.std.proofs.lemmas.Bool.{cases_lt, le-ltb}
-use Rattle.std.proofs.lemmas.Nat.{mod_below, pow-mod, mul-mod_first}
+use Rattle.std.proofs.lemmas.Nat.{mod_below}
 use Rattle.std.proofs.lemmas.List.{get_or_past}
 use Rattle.std.proofs.lemmas.List.FromFn.{length-map-range_with_len, get_or-map-range_with_len}
 use Rattle.gold_field.specs.declared.gold.TheConstants.{P}
-use Rattle.gold_field.proofs.FieldLaws.{sum_cancel}
-use Rattle.gold_field.proofs.Period.{one_pow}
-use Rattle.gold_field.proofs.PowerSteps.{pow_pow}
-use Rattle.gold_ntt.specs.Polynomial.{poly, eval_at, shifted_at, IsDivision}
-use Rattle.gold_ntt.specs.Transform.{root_of}
-use Rattle.gold_ntt.proofs.Division.{division_value, division_zero}
-use Rattle.gold_ntt.proofs.RootLaws.{root_one}
-use Rattle.gold_ntt.proofs.Values.{plus_same}
+use Rattle.gold_ntt.specs.Polynomial.{eval_at, shifted_at, IsDivision}
+use Rattle.gold_ntt.proofs.Division.{root_value, division_zero}
 use Rattle.rand_chacha.specs.ChaCha.{key_of}
 use Rattle.lig_layout.specs.declared.params.Params.{Params}
 use Rattle.lig_layout.specs.Sizes.{IsParams}
@@ -64,31 +57,6 @@ masked_division l n base mask small fits low =
           ∙ ap (λ (y : ℕ). (0 + y) % P) base_none))
           (cases_lt k n);
     }
-
--- at the roots of order n, f has the values of the remainder
-root_value : (e : ℕ) (f q r : List ℕ) (j : ℕ) → e ≤ 32 → IsDivision (2 ^ e) f q r
-    → eval_at f (root_of e ^ j % P) ≡ eval_at r (root_of e ^ j % P)
-root_value e f q r j small is =
-    let n : ℕ = 2 ^ e in
-    let w : ℕ = root_of e in
-    let x : ℕ = w ^ j % P in
-    let turned : j * n ≡ n * j = omega arith in
-    let unit : (x ^ n) % P ≡ 1 =
-    pow-mod (w ^ j) n P
-    ∙ ap (λ (y : ℕ). y % P) (pow_pow w j n ∙ ap (λ (y : ℕ). w ^ y) turned ∙ sym (pow_pow w n j))
-    ∙ sym (pow-mod (w ^ n) j P) ∙ ap (λ (y : ℕ). (y ^ j) % P) (root_one e small)
-    ∙ ap (λ (y : ℕ). y % P) (one_pow j) in
-    let g : ℕ = eval_at q x in
-    let same : 1 * g ≡ g = omega arith in
-    let order : g + eval_at f x ≡ eval_at f x + g = omega arith in
-    let both : (g + eval_at f x) % P ≡ (g + eval_at r x) % P =
-    ap (λ (y : ℕ). y % P) order ∙ division_value n f q r x is
-    ∙ plus_same P (x ^ n * g) g (eval_at r x) (eval_at r x)
-    (sym (mul-mod_first (x ^ n) g P) ∙ ap (λ (y : ℕ). (y * g) % P) unit
-    ∙ ap (λ (y : ℕ). y % P) same) refl in
-    sym (mod-mod (poly (length f) (λ i. get_or f i 0) x) P)
-    ∙ sum_cancel P g (eval_at f x) (eval_at r x) (lit< tt) both
-    ∙ mod-mod (poly (length r) (λ i. get_or r i 0) x) P
 
 -- a masked row has the row's values
 pub masked_row_at_message : (p : Params) (row mask masked_row : List ℕ) (j : ℕ) → IsParams p

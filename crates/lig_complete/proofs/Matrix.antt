@@ -10,6 +10,7 @@ use Rattle.std.proofs.lemmas.List.{get_or-drop}
 use Rattle.lig_layout.specs.declared.params.Params.{Params}
 use Rattle.lig_layout.specs.declared.matrix.Vectors.{Vectors}
 use Rattle.lig_layout.specs.Layout.{padded, message, row_at}
+use Rattle.lig_layout.proofs.Solving.{length-padded}
 use Rattle.lig_complete.proofs.Sizes.{Fits}
 
 zeros_at : (n k : ℕ) → get_or (replicate {A = ℕ} n 0) k 0 ≡ 0
@@ -26,14 +27,6 @@ padded_at n xs k =
     (λ high. get_or-append_right xs zeros k 0 high ∙ zeros_at (n - length xs) (k - length xs)
     ∙ sym (get_or_past xs k 0 high))
     (cases_lt k (length xs))
-
-length-padded : (n : ℕ) (xs : List ℕ) → length xs ≤ n → length (padded n xs) ≡ n
-length-padded n xs fits =
-    omega (
-      arith,
-      length-append xs (replicate (n - length xs) 0),
-      length-replicate {A = ℕ} (n - length xs) 0,
-    )
 
 -- within padded values, with more behind
 within : (n : ℕ) (xs ys : List ℕ) (k : ℕ) → length xs ≤ n → k < n

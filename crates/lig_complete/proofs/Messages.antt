@@ -17,7 +17,7 @@ use Rattle.lig_layout.specs.declared.side.Side.TheVariants.{A, B, C}
 use Rattle.lig_layout.specs.Sides.{form_of}
 use Rattle.lig_layout.specs.Sizes.{IsParams, params_of}
 use Rattle.lig_layout.specs.Layout.{message, vectors_of, row_at}
-use Rattle.lig_layout.specs.System.{combined, left_sides, right_sides, equation_count}
+use Rattle.lig_layout.specs.System.{combined, left_sides, public_count, right_sides, equation_count}
 use Rattle.lig_layout.specs.Laws.{publics_of}
 use Rattle.lig_proof.specs.declared.challenge.Challenges.{Challenges}
 use Rattle.lig_proof.specs.Points.{width_log, message_point}
@@ -94,10 +94,10 @@ all_numbers w low i = ⊎_elim (λ inside. low i 0 inside) (λ past. let none = 
     in omega arith) (cases_lt i (length w))
 
 pub length-publics : (f : File) (w : List ℕ) → IsFile f → length w ≡ f.wires
-    → length (publics_of f w) ≡ f.outputs + f.public_inputs
+    → length (publics_of f w) ≡ public_count f
 length-publics f w file count =
     let numbered = file.numbered in
-    length-take-le (f.outputs + f.public_inputs) (drop 1 w) (omega (arith, length-drop 1 w))
+    length-take-le (public_count f) (drop 1 w) (omega (arith, length-drop 1 w))
 
 module _ (f : File) (w seed : List ℕ) (c : Challenges) (e : Encoded) (system : ℕ → ℕ → List ℕ)
     (file : IsFile f) (limits : InLimits f) (witness : IsWitness f w)

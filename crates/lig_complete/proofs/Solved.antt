@@ -22,11 +22,12 @@ use Rattle.lig_layout.specs.Sizes.{params_of}
 use Rattle.lig_layout.specs.Width.{width_exponent}
 use Rattle.lig_layout.specs.Layout.{message, vectors_of, x_start, y_start, z_start}
 use Rattle.lig_layout.specs.System.{combined, differences, wire_forms, known_wires, left_sides}
-use Rattle.lig_layout.specs.System.{right_sides, equation_count}
+use Rattle.lig_layout.specs.System.{public_count, right_sides, equation_count}
 use Rattle.lig_layout.specs.Laws.{inner_product, combined_values, publics_of}
 use Rattle.lig_layout.proofs.Products.{linear}
 use Rattle.lig_layout.proofs.Solving.{solves}
 use Rattle.lig_layout.proofs.Wired.{side_below, ceil_room}
+use Rattle.lig_complete.proofs.Hashes.{all_append}
 use Rattle.lig_complete.proofs.Sizes.{values_fit}
 use Rattle.lig_complete.proofs.Matrix.{length-message}
 
@@ -48,11 +49,6 @@ combined_product values [] forms = refl
 combined_product values (n ∷ r) [] = refl
 combined_product values (n ∷ r) (form ∷ forms) =
     ap (λ (s : ℕ). n * value_at (slice_index values) form + s) (combined_product values r forms)
-
-all_append : {X : Type 0} (F : X → Type 0) (xs ys : List X) → AllByRecursion F xs
-    → AllByRecursion F ys → AllByRecursion F (xs ++ ys)
-all_append F [] ys h k = k
-all_append F (x ∷ xs) ys h k = (h.0, all_append F xs ys h.1 k)
 
 differences_below : (n m place : ℕ) (side : Side) (ks : List Constraint) → n ≤ m
     → All (ConstraintBelow n) ks → place + length ks ≤ m
@@ -103,7 +99,7 @@ left_below p f file wires sides rows =
     (wires_below m 0 (known_wires f) (omega arith))))
 
 pub length-right_sides : (f : File) (publics : List ℕ)
-    → length publics ≡ f.outputs + f.public_inputs → length (right_sides f publics)
+    → length publics ≡ public_count f → length (right_sides f publics)
     ≡ equation_count f
 length-right_sides f publics count =
     let zeros = replicate {A = ℕ} (3 * length f.constraints) 0 in

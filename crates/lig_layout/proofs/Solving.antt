@@ -23,7 +23,7 @@ use Rattle.lig_layout.specs.Laws.{VectorsSolve, publics_of}
 use Rattle.lig_layout.proofs.Wired.{ceil_room, side_below}
 use Rattle.lig_layout.proofs.Products.{exact}
 
-length-padded : (n : ℕ) (xs : List ℕ) → length xs ≤ n → length (padded n xs) ≡ n
+pub length-padded : (n : ℕ) (xs : List ℕ) → length xs ≤ n → length (padded n xs) ≡ n
 length-padded n xs h =
     omega (
       arith,

@@ -8,7 +8,7 @@ use Rattle.gold_field.specs.Form.{SignalsBelow, value_at}
 use Rattle.iden_files.specs.File.{File, IsFile, InLimits}
 use Rattle.lig_layout.specs.Sizes.{params_of}
 use Rattle.lig_layout.specs.Layout.{vectors_of, message}
-use Rattle.lig_layout.specs.System.{combined, left_sides, right_sides}
+use Rattle.lig_layout.specs.System.{combined, left_sides, public_count, right_sides}
 
 -- the sum of the products of two lists, place by place
 abbrev pub inner_product : List ℕ → List ℕ → ℕ
@@ -32,7 +32,7 @@ CombiningIsLinear = (values r : List ℕ) (forms : List (List Term))
 
 -- the public values among those of the wires
 abbrev pub publics_of : File → List ℕ → List ℕ
-publics_of f w = take (f.outputs + f.public_inputs) (drop 1 w)
+publics_of f w = take (public_count f) (drop 1 w)
 
 -- for values of the wires with 1 at wire 0, the vectors made of them solve the system
 abbrev pub VectorsSolve : Type 0

@@ -22,9 +22,13 @@ abbrev pub wire_forms : ℕ → ℕ → List (List Term)
 wire_forms wire zero = []
 wire_forms wire (suc n) = (record { signal = wire; coef = 1 } ∷ []) ∷ wire_forms (wire + 1) n
 
+-- how many public values a file has
+abbrev pub public_count : File → ℕ
+public_count f = f.outputs + f.public_inputs
+
 -- wire 0 and the public wires
 abbrev pub known_wires : File → ℕ
-known_wires f = 1 + (f.outputs + f.public_inputs)
+known_wires f = 1 + public_count f
 
 -- the left sides: A w - x, B w - y and C w - z for each constraint, and then wire 0 and the public
 -- wires

@@ -110,7 +110,7 @@ fn put_level(
     Ok(())
 }
 
-// The leaves in their places, with nothing below them yet.
+// The leaves in their places; the places of the inner nodes are 0 as yet.
 fn placed(alloc: Global, leaves: &[Hash]) -> Result<Vec<Hash>, AllocError>
     ensures length { IfOk result (λ nodes. length nodes.items ≡ 2 * length leaves.now) }
     ensures leaves { IfOk result (λ nodes. drop (length leaves.now) nodes.items ≡ leaves.now) }
@@ -122,7 +122,7 @@ fn placed(alloc: Global, leaves: &[Hash]) -> Result<Vec<Hash>, AllocError>
     Ok(nodes)
 }
 
-// Hashes each place below `count` from the two below it, the last first.
+// Hashes each inner node, the last first, from its two children.
 fn join(nodes: &mut [Hash], count: usize)
     requires { length nodes.old ≡ 2 * count }
     ensures length { length nodes.new ≡ 2 * count }

@@ -1,6 +1,6 @@
 -- A relation, vectors and a seed have one proof in each version.
-use Rattle.std.proofs.Common.{◌≡◌, ℕ, zero, suc, ◌+◌, ◌-◌, ◌*◌, ◌%◌, ◌<◌, List, [], ◌∷◌, ◌++◌, map}
-use Rattle.std.proofs.Common.{get_or, refl, sym, ap, subst, ◌∙◌, arith}
+use Rattle.std.proofs.Common.{◌≡◌, ℕ, ◌+◌, ◌-◌, ◌*◌, ◌%◌, ◌<◌, List, [], ◌∷◌, ◌++◌, map, get_or}
+use Rattle.std.proofs.Common.{sym, ap, subst, ◌∙◌, arith}
 use Rattle.std.specs.List.{range_with_len}
 use Rattle.gold_field.specs.declared.gold.TheConstants.{P}
 use Rattle.gold_ntt.specs.Polynomial.{sum_to, eval_at, product_at}
@@ -25,15 +25,8 @@ use Rattle.lig_proof.specs.Columns.{Encoded, polynomials, commitment}
 use Rattle.lig_proof.specs.Sent.{alpha, rho, r_numbers, in_order, proximity_test, linear_test}
 use Rattle.lig_proof.specs.Sent.{product_test, sent_polynomials}
 use Rattle.lig_proof.specs.Proving.{IsEncoded, AreSystems, challenges_for, bytes_in, ProofsAreOne}
+use Rattle.lig_proof.proofs.Collected.{range_same}
 use Rattle.lig_proof.proofs.Interpolants.{masked_rows_are_one, polynomials_are_one}
-
--- lists of what two functions give, which agree from a up to below a + n
-range_same : {X : Type 0} (f g : ℕ → X) (a n : ℕ) → ((k : ℕ) → k < a + n → f k ≡ g k)
-    → map f (range_with_len a n) ≡ map g (range_with_len a n)
-range_same f g a zero same = refl
-range_same f g a (suc n) same =
-    ap (λ x. x ∷ map f (range_with_len (a + 1) n)) (same a (omega arith))
-    ∙ ap (λ xs. g a ∷ xs) (range_same f g (a + 1) n (λ k l. same k (omega arith)))
 
 -- the same polynomials, as far as they count
 pub record AreSame (p : Params) (a b : Encoded) : Type 0 where

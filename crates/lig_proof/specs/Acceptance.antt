@@ -1,10 +1,10 @@
 -- The verdict on bytes that are offered as a proof.
-use Rattle.std.specs.Prelude.{◌≡◌, ◌≢◌, ℕ, ◌+◌, ◌<◌, List, [], length, map, slice_index}
-use Rattle.std.specs.Prelude.{slice_index_or, Result, Ok, Err}
+use Rattle.std.specs.Prelude.{◌≡◌, ◌≢◌, ℕ, ◌<◌, List, [], length, map, slice_index, slice_index_or}
+use Rattle.std.specs.Prelude.{Result, Ok, Err}
 use Rattle.iden_files.specs.File.{File}
 use Rattle.lig_layout.specs.declared.params.Params.{Params}
 use Rattle.lig_layout.specs.Sizes.{params_of, IsParams}
-use Rattle.lig_layout.specs.System.{right_sides}
+use Rattle.lig_layout.specs.System.{public_count, right_sides}
 use Rattle.lig_merkle.specs.Merkle.{leaf_hash, root_of}
 use Rattle.lig_merkle.specs.Shared.{root_of_many}
 use Rattle.lig_proof.specs.declared.challenge.Challenges.{Challenges}
@@ -82,10 +82,6 @@ abbrev pub IsReadVerdict : List ℕ → File → List ℕ → Result AnyProof �
 IsReadVerdict r1cs_bytes f publics (Err offset) verdict = verdict ≡ verdicts.Malformed offset
 IsReadVerdict r1cs_bytes f publics (Ok proof) verdict =
     IsProofVerdict r1cs_bytes f publics proof verdict
-
--- how many public values a file has
-abbrev pub public_count : File → ℕ
-public_count f = f.outputs + f.public_inputs
 
 -- the verdict on bytes: that the number of public values is wrong, or that the bytes are no proof,
 -- or the verdict on the proof that they spell

@@ -1,5 +1,6 @@
 use Rattle.std.proofs.Common.{◌≡◌, length, ap, sym, ◌∙◌, arith}
-use Rattle.lig_proof.specs.Acceptance.{IsProofVerdict, IsVerdict, public_count}
+use Rattle.lig_layout.specs.System.{public_count}
+use Rattle.lig_proof.specs.Acceptance.{IsProofVerdict, IsVerdict}
 use Rattle.lig_proof.specs.SharedReading.{any_proof_of}
 use Rattle.lig_auditor.proofs.Concluding.{lifted, as_verdict}
 use Rattle.lig_auditor.proofs.verdicts.audit.Goals as goal
