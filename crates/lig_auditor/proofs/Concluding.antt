@@ -20,7 +20,7 @@ use Rattle.lig_proof.specs.declared.verdict.Verdict.TheVariants.{LinearSum as No
 use Rattle.lig_proof.specs.declared.verdict.Verdict.TheVariants.{LinearColumn as NotLinear}
 use Rattle.lig_proof.specs.declared.verdict.Verdict.TheVariants.{QuadZero as NotZero}
 use Rattle.lig_proof.specs.declared.verdict.Verdict.TheVariants.{QuadColumn as NotProduct}
-use Rattle.lig_proof.specs.ProofBytes.{AreValues, IsProof}
+use Rattle.lig_proof.specs.ProofBytes.{opened_count, AreValues, IsProof}
 use Rattle.lig_proof.specs.Transcript.{first_key, challenges_of, queries}
 use Rattle.lig_proof.specs.SharedProof.{IsProof2, opened_once, opened_for}
 use Rattle.lig_proof.specs.SharedReading.{IsAny, any_proof_of}
@@ -222,7 +222,7 @@ ways_count p indices (Second proof) h = h.0
 
 -- the ways of the columns that were drawn
 pub drawn_ways : (p : Params) (r1cs_bytes publics drawn : List ℕ) (proof : Proof)
-    → length drawn ≡ 96 → IsProof p proof → HasWays p drawn (First proof)
+    → length drawn ≡ opened_count → IsProof p proof → HasWays p drawn (First proof)
 drawn_ways p r1cs_bytes publics drawn proof count h =
     (count ∙ sym h.opened, h.paths_opened ∙ sym h.opened, h.opened)
 

@@ -4,12 +4,13 @@ use Rattle.lig_layout.specs.declared.params.Params.{Params}
 use Rattle.lig_merkle.specs.Shared.{AreOpened, shared_count}
 use Rattle.lig_proof.specs.declared.shared_proof.AnyProof.{AnyProof}
 use Rattle.lig_proof.specs.declared.shared_proof.AnyProof.TheVariants.{First, Second}
+use Rattle.lig_proof.specs.ProofBytes.{opened_count}
 use Rattle.lig_proof.specs.Acceptance.{ways_in, Leads}
 
 -- as many indices, and as many paths or nodes, as the columns need
 abbrev pub HasWays : Params → List ℕ → AnyProof → Type 0
 HasWays p indices (First proof) = (length indices ≡ length proof.columns)
-    × (length proof.paths ≡ length proof.columns) × (length proof.columns ≡ 96)
+    × (length proof.paths ≡ length proof.columns) × (length proof.columns ≡ opened_count)
 HasWays p indices (Second proof) = (length indices ≡ length proof.columns)
     × (length proof.nodes ≡ shared_count p.depth indices) × AreOpened p.depth indices
 

@@ -3,7 +3,8 @@ use Rattle.std.specs.Prelude.{ℕ, zero, suc, ◌+◌, ◌*◌, ◌%◌, ◌^◌
 use Rattle.rand_chacha.specs.ChaCha.{word_at}
 use Rattle.gold_field.specs.declared.gold.TheConstants.{P}
 
--- the number of the field that the two words from this place on make, the low one first
+-- the number of the field that the two words from this place on make, the low one first. 10 double
+-- rounds are those of ChaCha20.
 abbrev pub number_at : List ℕ → ℕ → ℕ → ℕ
 number_at key stream place =
     (word_at 10 key stream place + word_at 10 key stream (place + 1) * 2 ^ 32) % P

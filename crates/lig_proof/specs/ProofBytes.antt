@@ -44,7 +44,8 @@ pub record IsPath (depth : ℕ) (path : List (List ℕ)) : Type 0 where
   pub count : length path ≡ depth
   pub each : AllByRecursion IsHash path
 
--- a proof for a matrix of these sizes
+-- a proof for a matrix of these sizes: 2 * (2 + 3 + 4) * l coefficients of the six polynomials, and
+-- columns with a value for each row and each of the six masks of the tests
 pub record IsProof (p : Params) (proof : Proof) : Type 0 where
   pub root : IsHash proof.root
   pub polys : AreValues (18 * p.l) proof.polys

@@ -23,7 +23,8 @@ proof2_bytes proof =
     head_bytes 2 ++ (proof.root ++ (column_bytes proof.polys
     ++ (columns ++ hashes_bytes proof.nodes)))
 
--- a proof for a matrix of these sizes that opens these columns
+-- a proof for a matrix of these sizes that opens these columns, as many coefficients and values as
+-- in one of version 1
 pub record IsProof2 (p : Params) (opened : List ℕ) (proof : Proof2) : Type 0 where
   pub root : IsHash proof.root
   pub polys : AreValues (18 * p.l) proof.polys

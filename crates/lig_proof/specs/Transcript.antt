@@ -10,7 +10,7 @@ use Rattle.lig_proof.specs.Drawing.{numbers_of}
 use Rattle.lig_proof.specs.declared.challenge.Challenges.{Challenges}
 use Rattle.lig_proof.specs.ProofBytes.{opened_count}
 
--- a word of the ChaCha20 key stream of a key of 32 bytes, stream 0
+-- a word of the ChaCha20 key stream of a key of 32 bytes, stream 0: ChaCha20 has 10 double rounds
 abbrev pub key_word : List ℕ → ℕ → ℕ
 key_word key place = word_at 10 (key_of key) 0 place
 

@@ -20,7 +20,7 @@ fn next_number(words: &mut ChaCha20Rng) -> Gold
     Gold::from_wide(u128::from(low) + (u128::from(high) << 32))
 }
 
-/// The next word, modulo a number of columns.
+/// The next word of ChaCha20, which has 10 double rounds, modulo a number of columns.
 pub fn next_column(words: &mut ChaCha20Rng, columns: u32) -> u32
     requires some { 0 < columns }
     requires left { words.old.word_pos + 1 < 2 ^ 68 }

@@ -41,6 +41,7 @@ fn proof_in(alloc: Global, params: &Params, bytes: &[u8]) -> Result<Proof, Proof
     let mut fields = Reader::new(bytes);
     read_head(&mut fields, 1)?;
     let root = next_hash(&mut fields)?;
+    // In each of two repetitions 2 * l, 3 * l and 4 * l coefficients.
     let polys = next_values(alloc, &mut fields, 18 * params.l)?;
     let (columns, paths) = next_openings(alloc, &mut fields, params, OPENED)?;
     if !fields.is_empty() {
@@ -71,6 +72,7 @@ fn next_openings(
     let mut columns = Vec::with_capacity(alloc, count as usize)?;
     let mut paths = Vec::with_capacity(alloc, count as usize)?;
     for _ in 0..count {
+        // A value for each row, and for each of six masks.
         let column = next_values(alloc, fields, params.rows + 6)?;
         let path = next_hashes(alloc, fields, params.depth)?;
         columns.push(Items::of(column))?;

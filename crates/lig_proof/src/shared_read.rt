@@ -4,6 +4,7 @@ ghost use Rattle.std.specs.Prelude.{◌≡◌, ◌+◌, ◌*◌, ◌<◌, ◌≤
 ghost use Rattle.binary_format.specs.Reading.{Gives, Reads, repeated};
 ghost use Rattle.lig_layout.specs.Sizes.{IsParams};
 ghost use Rattle.lig_merkle.specs.Shared.{AreOpened};
+ghost use Rattle.lig_proof.specs.ProofBytes.{opened_count};
 ghost use Rattle.lig_proof.specs.Reading.{refused, next_value};
 ghost use Rattle.lig_proof.specs.SharedProof.{IsProof2, opened_once, opened_for, proof2_bytes};
 ghost use Rattle.lig_proof.specs.SharedReading.{proof2_of, rest_of};
@@ -63,6 +64,7 @@ fn proof2_in(
     let mut fields = Reader::new(bytes);
     read_head(&mut fields, 2)?;
     let root = next_hash(&mut fields)?;
+    // In each of two repetitions 2 * l, 3 * l and 4 * l coefficients.
     let polys = next_values(alloc, &mut fields, 18 * params.l)?;
     let opened = opened_for(alloc, params, r1cs_bytes, publics, &root, &polys)?;
     rest_in(alloc, &mut fields, params, root, polys, &opened)
@@ -79,7 +81,7 @@ fn rest_in(
 ) -> Result<Proof2, ProofFault>
     requires params { IsParams params.now }
     requires opened { AreOpened params.now.depth opened.now }
-    requires few { length opened.now ≤ 96 }
+    requires few { length opened.now ≤ opened_count }
     ensures { Gives refused (λ x. x) result
         (rest_of params.now fields.old.end opened.now root polys.items fields.old.rest.now) }
 {
@@ -113,7 +115,7 @@ fn opened_for(
     ensures value { IfOk result (λ v. v.items
         ≡ opened_for params.now r1cs_bytes.now publics.now root.now polys.now) }
     ensures opened { IfOk result (λ v. AreOpened params.now.depth v.items) }
-    ensures few { IfOk result (λ v. vec_len v ≤ 96) }
+    ensures few { IfOk result (λ v. vec_len v ≤ opened_count) }
 {
     let first = first_key(r1cs_bytes, publics, root);
     let drawn = queries(alloc, params, &first, polys)?;
@@ -151,6 +153,7 @@ fn next_columns(
 {
     let mut columns = Vec::with_capacity(alloc, count as usize)?;
     for _ in 0..count {
+        // A value for each row, and for each of six masks.
         let column = next_values(alloc, fields, params.rows + 6)?;
         columns.push(Items::of(column))?;
     }

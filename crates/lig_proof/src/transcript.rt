@@ -2,6 +2,7 @@
 
 ghost use Rattle.std.specs.Prelude.{◌≡◌, ◌<◌, ◌*◌, ◌^◌, All, IfOk, length, vec_len};
 ghost use Rattle.lig_layout.specs.Sizes.{IsParams};
+ghost use Rattle.lig_proof.specs.ProofBytes.{opened_count};
 ghost use Rattle.lig_proof.specs.Transcript.{first_key, second_key, challenges_of, queries};
 
 use crate::challenge::{Challenges, OPENED};
@@ -64,7 +65,7 @@ pub fn queries(
 ) -> Result<Vec<u32>, AllocError>
     requires { IsParams params.now }
     ensures columns { IfOk result (λ v. v.items ≡ queries params.now first.now polys.now) }
-    ensures count { IfOk result (λ v. vec_len v ≡ 96) }
+    ensures count { IfOk result (λ v. vec_len v ≡ opened_count) }
     ensures below { IfOk result (λ v. All (λ column. column < 8 * params.now.l) v.items) }
 {
     let mut words = ChaCha20Rng::from_seed(second_key(first, polys));
