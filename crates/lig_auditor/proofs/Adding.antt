@@ -1,14 +1,13 @@
--- Sums of the field, term by term.
-use Rattle.std.proofs.Common.{◌≡◌, ℕ, zero, suc, ◌+◌, ◌*◌, ◌%◌, ◌<◌, List, length, get_or, refl}
-use Rattle.std.proofs.Common.{sym, ap, ◌∙◌, arith}
-use Rattle.std.proofs.Math.Nat.{mod-add-mod, add-mod-mod, mod-mod, zero-mod}
+-- Sums of products of values that were read.
+use Rattle.std.proofs.Common.{◌≡◌, ℕ, zero, suc, ◌+◌, ◌*◌, ◌%◌, ◌<◌, List, length, get_or, sym, ap}
+use Rattle.std.proofs.Common.{◌∙◌, arith}
+use Rattle.std.proofs.Math.Nat.{add-mod-mod}
 use Rattle.std.proofs.lemmas.Nat.{mul-mod_second}
 use Rattle.std.proofs.lemmas.Grind.{get_or_default_zero}
 use Rattle.gold_field.specs.declared.gold.TheConstants.{P}
 use Rattle.gold_field.proofs.FieldLaws.{product_of_rests}
 use Rattle.gold_ntt.specs.Polynomial.{sum_to}
-use Rattle.gold_ntt.proofs.Sums.{sum_to-zero, sum_to-suc}
-use Rattle.gold_ntt.proofs.Values.{plus_same}
+use Rattle.lig_proof.proofs.Adding.{one_added}
 
 -- a value that was read
 pub read : (xs ys : List ℕ) (i r : ℕ) → xs ≡ ys → i < length ys → r ≡ get_or xs i r
@@ -22,23 +21,12 @@ in_part zero n k low within = omega arith
 in_part (suc zero) n k low within = omega arith
 in_part (suc (suc t)) n k low within = absurd (omega arith)
 
-pub none_yet : (f : ℕ → ℕ) → 0 ≡ sum_to 0 f % P
-none_yet f = sym (ap (λ (y : ℕ). y % P) (sum_to-zero f) ∙ zero-mod P)
-
-last_term : (f : ℕ → ℕ) (k : ℕ) → sum_to (k + 1) f ≡ sum_to k f + f k
-last_term f k =
-    let more : k + 1 ≡ suc k = omega arith in ap (λ (y : ℕ). sum_to y f) more ∙ sum_to-suc k f
-
 -- the next term, a product
 pub next_product : (f : ℕ → ℕ) (k s a b t r : ℕ) → s ≡ sum_to k f % P → t ≡ (a * b) % P
     → f k ≡ a * b → r ≡ (s + t) % P
     → r ≡ sum_to (k + 1) f % P
 next_product f k s a b t r so_far product is sum =
-    let term : t % P ≡ f k % P =
-    ap (λ (y : ℕ). y % P) product ∙ mod-mod (a * b) P ∙ ap (λ (y : ℕ). y % P) (sym is) in
-    sum ∙ ap (λ (y : ℕ). (y + t) % P) so_far ∙ mod-add-mod (sum_to k f) P t
-    ∙ plus_same P (sum_to k f) (sum_to k f) t (f k) refl term
-    ∙ ap (λ (y : ℕ). y % P) (sym (last_term f k))
+    one_added k s t r f so_far (product ∙ ap (λ (y : ℕ). y % P) (sym is)) sum
 
 -- the same where a factor is reduced
 pub next_reduced : (f : ℕ → ℕ) (k s a b v t r : ℕ) → s ≡ sum_to k f % P → v ≡ b % P

@@ -2,14 +2,12 @@
 use Rattle.std.specs.Prelude.{◌≡◌, ℕ, ◌+◌, ◌*◌, ◌%◌, ◌<◌, List, [], length, All, slice_index}
 use Rattle.std.specs.Prelude.{slice_index_or}
 use Rattle.gold_field.specs.declared.gold.TheConstants.{P}
-use Rattle.gold_ntt.specs.Polynomial.{sum_to, eval_at}
+use Rattle.gold_ntt.specs.Polynomial.{eval_at}
 use Rattle.lig_layout.specs.declared.params.Params.{Params}
 use Rattle.lig_layout.specs.Sizes.{IsParams}
 use Rattle.lig_proof.specs.Points.{code_point}
-use Rattle.lig_proof.specs.Columns.{row_value, proximity_mask_value, linear_mask_value}
-use Rattle.lig_proof.specs.Columns.{product_mask_value}
 use Rattle.lig_proof.specs.Sent.{alpha, rho, polynomials_of}
-use Rattle.lig_proof.specs.Audit.{Audit, excess}
+use Rattle.lig_proof.specs.Audit.{Audit, proximity_value, system_value, product_value}
 use Rattle.lig_auditor.specs.declared.opening.Opening.{Opening}
 
 -- as many challenges, coefficients and values as the sizes say
@@ -33,6 +31,7 @@ audit_in o right_sides system = record {
   columns = o.columns.now;
 }
 
+-- no rows: for the tests that don't look at the system
 abbrev pub no_system : ℕ → ℕ → List ℕ
 no_system t k = []
 
@@ -52,42 +51,29 @@ abbrev pub Agrees : Opening → List ℕ → (ℕ → ℕ) → Type 0
 Agrees o polynomial f = (q : ℕ) → q < length o.columns.now
     → eval_at polynomial (code_point o.params.now (slice_index o.indices.now q)) ≡ f q
 
--- what a column says of the polynomials of the tests
-abbrev pub proximity_value : Opening → ℕ → List ℕ → ℕ
-proximity_value o t column =
-    let p = o.params.now in
-    (proximity_mask_value p column t
-    + sum_to p.rows (λ k. alpha p o.challenges.now t k * row_value column k)) % P
-
-abbrev pub product_value : Opening → ℕ → List ℕ → ℕ
-product_value o t column =
-    (product_mask_value o.params.now column t + sum_to o.params.now.constraint_rows
-    (λ k. rho o.params.now o.challenges.now t k * excess o.params.now column k)) % P
-
--- at column q, by the first rows of the system
-abbrev pub system_value : Opening → (ℕ → List ℕ) → ℕ → ℕ → ℕ → ℕ
-system_value o system t rows q =
-    let column = slice_index_or o.columns.now q [] in
-    let x = code_point o.params.now (slice_index o.indices.now q) in
-    (linear_mask_value o.params.now column t
-    + sum_to rows (λ k. eval_at (system k) x * row_value column k)) % P
-
 -- the rows of a system, from their list
 abbrev pub rows_in : List (List ℕ) → ℕ → List ℕ
 rows_in rows k = slice_index_or rows k []
 
+-- an opened column, and the point at which it was encoded
+abbrev pub column_of : Opening → ℕ → List ℕ
+column_of o q = slice_index_or o.columns.now q []
+
+abbrev pub point_of : Opening → ℕ → ℕ
+point_of o q = code_point o.params.now (slice_index o.indices.now q)
+
 -- what was sent for a repetition has the values of the columns
 abbrev pub ProximityAgrees : Opening → ℕ → Type 0
 ProximityAgrees o t = Agrees o ((polynomials_of o.params.now o.polys.now).proximity t)
-    (λ q. proximity_value o t (slice_index_or o.columns.now q []))
+    (λ q. proximity_value o.params.now o.challenges.now t (column_of o q))
 
 abbrev pub ProductsAgree : Opening → ℕ → Type 0
 ProductsAgree o t = Agrees o ((polynomials_of o.params.now o.polys.now).product t)
-    (λ q. product_value o t (slice_index_or o.columns.now q []))
+    (λ q. product_value o.params.now o.challenges.now t (column_of o q))
 
 abbrev pub RowsAgree : Opening → (ℕ → List ℕ) → ℕ → Type 0
-RowsAgree o system t = Agrees o ((polynomials_of o.params.now o.polys.now).linear t)
-    (λ q. system_value o system t o.params.now.rows q)
+RowsAgree o rows t = Agrees o ((polynomials_of o.params.now o.polys.now).linear t)
+    (λ q. system_value o.params.now rows t (point_of o q) (column_of o q))
 
 -- coefficient k of the remainder by X ^ l - 1 of a polynomial of 4 * l coefficients
 abbrev pub folded : ℕ → List ℕ → ℕ → ℕ

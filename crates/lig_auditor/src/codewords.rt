@@ -2,9 +2,9 @@
 
 ghost use Rattle.std.specs.Prelude.{◌≡◌, ◌<◌, ◌+◌, ◌↔◌, [], IfOk, IsTrue, length};
 ghost use Rattle.std.specs.Prelude.{slice_index_or};
-ghost use Rattle.lig_proof.specs.Audit.{Proximity};
+ghost use Rattle.lig_proof.specs.Audit.{Proximity, proximity_value};
 ghost use Rattle.lig_auditor.specs.Opened.{IsOpening, ArePoints, ProximityAgrees, audit_in};
-ghost use Rattle.lig_auditor.specs.Opened.{no_system, proximity_value};
+ghost use Rattle.lig_auditor.specs.Opened.{column_of, no_system};
 
 use crate::agreement::{agrees, both};
 use crate::opening::{Opening, proximity_polynomial, column};
@@ -49,8 +49,8 @@ fn proximity_agrees<R: Threads + Sync>(
         polynomial,
         |q: usize| -> Result<Gold, AllocError>
             requires { IsOpening opening.now × (t < 2) × (q < length opening.now.columns.now) }
-            ensures { IfOk result (λ value. value ≡ proximity_value opening.entry.now t
-                (slice_index_or opening.entry.now.columns.now q [])) }
+            ensures { IfOk result (λ value. value ≡ proximity_value opening.entry.now.params.now
+                opening.entry.now.challenges.now t (column_of opening.entry.now q)) }
         { Ok(proximity_value(opening, t, column(opening, q))) },
     )
 }
@@ -60,7 +60,8 @@ fn proximity_value(opening: &Opening<'_>, t: usize, column: &[Gold]) -> Gold
     requires opening { IsOpening opening.now }
     requires repetition { t < 2 }
     requires column { length column.now ≡ opening.now.params.now.rows + 6 }
-    ensures { result ≡ proximity_value opening.now t column.now }
+    ensures { result
+        ≡ proximity_value opening.now.params.now opening.now.challenges.now t column.now }
 {
     let rows = opening.params.rows as usize;
     let alpha = opening.challenges.alpha.as_slice();

@@ -4,9 +4,9 @@ ghost use Rattle.std.specs.Prelude.{◌≡◌, ◌<◌, ◌+◌, ◌-◌, ◌*�
 ghost use Rattle.std.specs.Prelude.{length, slice_index, slice_index_or};
 ghost use Rattle.gold_field.specs.declared.gold.TheConstants.{P};
 ghost use Rattle.lig_layout.specs.Sizes.{IsParams};
-ghost use Rattle.lig_proof.specs.Audit.{QuadZero, QuadColumn, excess};
+ghost use Rattle.lig_proof.specs.Audit.{QuadZero, QuadColumn, excess, product_value};
 ghost use Rattle.lig_auditor.specs.Opened.{IsOpening, ArePoints, ProductsAgree, audit_in};
-ghost use Rattle.lig_auditor.specs.Opened.{no_system, product_value, folded};
+ghost use Rattle.lig_auditor.specs.Opened.{column_of, no_system, folded};
 
 use crate::agreement::{agrees, both};
 use crate::opening::{Opening, column, product_polynomial};
@@ -83,8 +83,8 @@ fn products_agree<R: Threads + Sync>(
         polynomial,
         |q: usize| -> Result<Gold, AllocError>
             requires { IsOpening opening.now × (t < 2) × (q < length opening.now.columns.now) }
-            ensures { IfOk result (λ value. value ≡ product_value opening.entry.now t
-                (slice_index_or opening.entry.now.columns.now q [])) }
+            ensures { IfOk result (λ value. value ≡ product_value opening.entry.now.params.now
+                opening.entry.now.challenges.now t (column_of opening.entry.now q)) }
         { Ok(product_value(opening, t, column(opening, q))) },
     )
 }
@@ -94,7 +94,8 @@ fn product_value(opening: &Opening<'_>, t: usize, column: &[Gold]) -> Gold
     requires opening { IsOpening opening.now }
     requires repetition { t < 2 }
     requires column { length column.now ≡ opening.now.params.now.rows + 6 }
-    ensures { result ≡ product_value opening.now t column.now }
+    ensures { result
+        ≡ product_value opening.now.params.now opening.now.challenges.now t column.now }
 {
     let rows = opening.params.constraint_rows as usize;
     let rho = opening.challenges.rho.as_slice();

@@ -6,9 +6,9 @@ ghost use Rattle.iden_files.specs.File.{InLimits};
 ghost use Rattle.lig_layout.specs.Sizes.{params_of};
 ghost use Rattle.lig_layout.specs.System.{equation_count};
 ghost use Rattle.lig_proof.specs.Proving.{AreSystems};
-ghost use Rattle.lig_proof.specs.Audit.{LinearColumn};
+ghost use Rattle.lig_proof.specs.Audit.{LinearColumn, system_value};
 ghost use Rattle.lig_auditor.specs.Opened.{IsOpening, ArePoints, RowsAgree, audit_in, rows_in};
-ghost use Rattle.lig_auditor.specs.Opened.{system_value};
+ghost use Rattle.lig_auditor.specs.Opened.{column_of, point_of};
 
 use crate::agreement::{agrees, both};
 use crate::opening::{Opening, column, linear_polynomial};
@@ -120,8 +120,9 @@ fn rows_agree<R: Threads + Sync>(
                 × ArePoints opening.now.params.now opening.now.indices.now points.now
                 × (length rows.now ≡ opening.now.params.now.rows)
                 × (t < 2) × (q < length opening.now.columns.now) }
-            ensures { IfOk result (λ value. value ≡ system_value opening.entry.now
-                (rows_in rows.entry.now) t opening.entry.now.params.now.rows q) }
+            ensures { IfOk result (λ value. value ≡ system_value opening.entry.now.params.now
+                (rows_in rows.entry.now) t (point_of opening.entry.now q)
+                (column_of opening.entry.now q)) }
         { Ok(system_value(opening, points, rows, t, q)) },
     )
 }
@@ -139,8 +140,8 @@ fn system_value(
     requires rows { length rows.now ≡ opening.now.params.now.rows }
     requires repetition { t < 2 }
     requires column { q < length opening.now.columns.now }
-    ensures { result
-        ≡ system_value opening.now (rows_in rows.now) t opening.now.params.now.rows q }
+    ensures { result ≡ system_value opening.now.params.now (rows_in rows.now) t
+        (point_of opening.now q) (column_of opening.now q) }
 {
     let column = column(opening, q);
     let point = points[q];

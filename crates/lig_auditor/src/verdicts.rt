@@ -54,6 +54,7 @@ fn public_count(file: &R1cs) -> usize
     ensures value { result ≡ public_count file.now }
     ensures few { result < 2 ^ 32 }
 {
+    // Its contract says that the public wires are wires.
     let _constraints = file.constraints();
     (file.outputs + file.public_inputs) as usize
 }

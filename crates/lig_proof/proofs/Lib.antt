@@ -1,3 +1,4 @@
+pub mod Adding
 pub mod AnyWhole
 pub mod Collected
 pub mod Draws

@@ -11,20 +11,17 @@ use Rattle.lig_layout.specs.Sizes.{params_of, IsParams}
 use Rattle.lig_layout.specs.Layout.{message, row_at}
 use Rattle.lig_layout.specs.Laws.{publics_of}
 use Rattle.lig_layout.specs.System.{combined, left_sides, equation_count}
-use Rattle.lig_merkle.specs.Merkle.{leaf_hash, root_at, path_at}
-use Rattle.lig_merkle.specs.Shared.{shared_nodes}
+use Rattle.lig_merkle.specs.Merkle.{leaf_hash, root_at}
 use Rattle.lig_proof.specs.declared.challenge.Challenges.{Challenges}
 use Rattle.lig_proof.specs.declared.version.Version.{Version}
-use Rattle.lig_proof.specs.declared.version.Version.TheVariants.{One, Two}
-use Rattle.lig_proof.specs.ProofBytes.{proof_bytes}
-use Rattle.lig_proof.specs.SharedProof.{opened_once, proof2_bytes}
 use Rattle.lig_proof.specs.Transcript.{queries}
 use Rattle.lig_proof.specs.Points.{code_point}
 use Rattle.lig_proof.specs.Masks.{row_mask}
 use Rattle.lig_proof.specs.Columns.{Encoded, polynomials, commitment}
 use Rattle.lig_proof.specs.Sent.{alpha, rho, r_numbers, in_order, proximity_test, linear_test}
 use Rattle.lig_proof.specs.Sent.{product_test, sent_polynomials}
-use Rattle.lig_proof.specs.Proving.{IsEncoded, AreSystems, challenges_for, bytes_in, ProofsAreOne}
+use Rattle.lig_proof.specs.Proving.{IsEncoded, AreSystems, challenges_for, proof_spelling}
+use Rattle.lig_proof.specs.Proving.{bytes_in, ProofsAreOne}
 use Rattle.lig_proof.proofs.Collected.{range_same}
 use Rattle.lig_proof.proofs.Interpolants.{masked_rows_are_one, polynomials_are_one}
 
@@ -152,29 +149,11 @@ commitment_same p a b same =
 -- the bytes are a function of the columns
 bytes_same : (version : Version) (p : Params) (a b : Encoded) (polys drawn : List ℕ) → AreSame p a b
     → bytes_in version p a polys drawn ≡ bytes_in version p b polys drawn
-bytes_same One p a b polys drawn same =
+bytes_same version p a b polys drawn same =
     ap (λ (all : List (List ℕ)).
     let column = λ (i : ℕ). map (λ polynomial. eval_at polynomial (code_point p i)) all in
     let tree = map (λ i. leaf_hash (column i)) (range_with_len 0 (8 * p.l)) in
-    proof_bytes
-    (record {
-      root = root_at p.depth tree;
-      polys = polys;
-      columns = map column drawn;
-      paths = map (path_at p.depth tree) drawn;
-    })) (polynomials_same p a b same)
-bytes_same Two p a b polys drawn same =
-    ap (λ (all : List (List ℕ)).
-    let column = λ (i : ℕ). map (λ polynomial. eval_at polynomial (code_point p i)) all in
-    let tree = map (λ i. leaf_hash (column i)) (range_with_len 0 (8 * p.l)) in
-    let opened = opened_once p drawn in
-    proof2_bytes
-    (record {
-      root = root_at p.depth tree;
-      polys = polys;
-      columns = map column opened;
-      nodes = shared_nodes p.depth (λ i. get_or tree i []) opened;
-    })) (polynomials_same p a b same)
+    proof_spelling version p column tree polys drawn) (polynomials_same p a b same)
 
 pub proofs_are_one : ProofsAreOne
 proofs_are_one version r1cs_bytes f v seed xs ys h first second =

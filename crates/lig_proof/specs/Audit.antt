@@ -30,11 +30,17 @@ abbrev pub AtColumns : Audit → (ℕ → ℕ → List ℕ → Type 0) → Type 
 AtColumns a Holds = (t q : ℕ) → t < 2 → q < length a.columns
     → Holds t (code_point a.params (slice_index a.opened q)) (slice_index_or a.columns q [])
 
--- the rows are codewords: what was sent for them has the values of the columns, combined by alpha
+-- what a column says of the polynomial that tests proximity: its mask, and its rows combined by
+-- alpha
+abbrev pub proximity_value : Params → Challenges → ℕ → List ℕ → ℕ
+proximity_value p c t column =
+    (proximity_mask_value p column t
+    + sum_to p.rows (λ k. alpha p c t k * row_value column k)) % P
+
+-- the rows are codewords: what was sent for them has the values of the columns
 abbrev pub Proximity : Audit → Type 0
-Proximity a = AtColumns a (λ t x column. eval_at (a.sent.proximity t) x
-    ≡ (proximity_mask_value a.params column t
-    + sum_to a.params.rows (λ k. alpha a.params a.challenges t k * row_value column k)) % P)
+Proximity a = AtColumns a (λ t x column.
+    eval_at (a.sent.proximity t) x ≡ proximity_value a.params a.challenges t column)
 
 -- the linear system: the values at the message points sum to the right sides, combined by r
 abbrev pub LinearSum : Audit → Type 0
@@ -44,11 +50,17 @@ LinearSum a = (t : ℕ) → t < 2
     sum_to a.params.l (λ j. eval_at (a.sent.linear t) (message_point a.params j)) % P
     ≡ sum_to equations (λ e. slice_index r e * slice_index a.right_sides e) % P)
 
--- and what was sent for it has the values of the columns, combined by the system
+-- what a column at x says of the polynomial for the linear system: its mask, and its rows combined
+-- by the values at x of the system's rows
+abbrev pub system_value : Params → (ℕ → List ℕ) → ℕ → ℕ → List ℕ → ℕ
+system_value p rows t x column =
+    (linear_mask_value p column t
+    + sum_to p.rows (λ k. eval_at (rows k) x * row_value column k)) % P
+
+-- and what was sent for it has the values of the columns
 abbrev pub LinearColumn : Audit → Type 0
-LinearColumn a = AtColumns a (λ t x column. eval_at (a.sent.linear t) x
-    ≡ (linear_mask_value a.params column t
-    + sum_to a.params.rows (λ k. eval_at (a.system t k) x * row_value column k)) % P)
+LinearColumn a = AtColumns a (λ t x column.
+    eval_at (a.sent.linear t) x ≡ system_value a.params (a.system t) t x column)
 
 -- the products: the values at the message points are 0
 abbrev pub QuadZero : Audit → Type 0
@@ -63,11 +75,16 @@ excess p column k =
     let z = row_value column (p.wire_rows + 2 * p.constraint_rows + k) in
     x * y + (P - z)
 
--- and what was sent for them has the values of the columns, combined by rho
+-- what a column says of the polynomial for the products: its mask, and these combined by rho
+abbrev pub product_value : Params → Challenges → ℕ → List ℕ → ℕ
+product_value p c t column =
+    (product_mask_value p column t
+    + sum_to p.constraint_rows (λ k. rho p c t k * excess p column k)) % P
+
+-- and what was sent for them has the values of the columns
 abbrev pub QuadColumn : Audit → Type 0
-QuadColumn a = AtColumns a (λ t x column. eval_at (a.sent.product t) x
-    ≡ (product_mask_value a.params column t + sum_to a.params.constraint_rows
-    (λ k. rho a.params a.challenges t k * excess a.params column k)) % P)
+QuadColumn a = AtColumns a (λ t x column.
+    eval_at (a.sent.product t) x ≡ product_value a.params a.challenges t column)
 
 -- the verdict on what leads to the root: the first of these tests that fails
 abbrev pub IsTested : Audit → Verdict → Type 0

@@ -7,7 +7,7 @@ use Rattle.lig_layout.specs.Sizes.{params_of, IsParams}
 use Rattle.lig_layout.specs.Layout.{message, row_at}
 use Rattle.lig_layout.specs.Laws.{publics_of}
 use Rattle.lig_layout.specs.System.{combined, left_sides, equation_count}
-use Rattle.lig_merkle.specs.Merkle.{path_at}
+use Rattle.lig_merkle.specs.Merkle.{path_at, root_at}
 use Rattle.lig_merkle.specs.Shared.{shared_nodes}
 use Rattle.lig_proof.specs.declared.challenge.Challenges.{Challenges}
 use Rattle.lig_proof.specs.declared.version.Version.{Version}
@@ -39,29 +39,29 @@ abbrev pub challenges_for : List ℕ → File → List ℕ → List ℕ → Chal
 challenges_for r1cs_bytes f publics root =
     challenges_of (params_of f) (equation_count f) (first_key r1cs_bytes publics root)
 
--- the proof that opens these columns, each with its path
-abbrev pub first_proof_bytes : Params → Encoded → List ℕ → List ℕ → List ℕ
-first_proof_bytes p e polys drawn = proof_bytes (record {
-  root = commitment p e;
+-- the bytes of a proof, by its columns, the leaves of the tree over them, the coefficients of the
+-- six polynomials and the indices that were drawn. Version 1 has each of these columns with its
+-- path; version 2 has each once, and the nodes that they share.
+abbrev pub proof_spelling : Version → Params → (ℕ → List ℕ) → List (List ℕ) → List ℕ → List ℕ
+    → List ℕ
+proof_spelling One p column hashes polys drawn = proof_bytes (record {
+  root = root_at p.depth hashes;
   polys = polys;
-  columns = map (column_at p e) drawn;
-  paths = map (path_at p.depth (leaves p e)) drawn;
+  columns = map column drawn;
+  paths = map (path_at p.depth hashes) drawn;
 })
-
--- and the one with shared nodes
-abbrev pub second_proof_bytes : Params → Encoded → List ℕ → List ℕ → List ℕ
-second_proof_bytes p e polys drawn =
+proof_spelling Two p column hashes polys drawn =
     let opened = opened_once p drawn in
     proof2_bytes (record {
-      root = commitment p e;
+      root = root_at p.depth hashes;
       polys = polys;
-      columns = map (column_at p e) opened;
-      nodes = shared_nodes p.depth (λ i. slice_index_or (leaves p e) i []) opened;
+      columns = map column opened;
+      nodes = shared_nodes p.depth (λ i. slice_index_or hashes i []) opened;
     })
 
+-- those of the proof for an encoded matrix
 abbrev pub bytes_in : Version → Params → Encoded → List ℕ → List ℕ → List ℕ
-bytes_in One = first_proof_bytes
-bytes_in Two = second_proof_bytes
+bytes_in version p e = proof_spelling version p (column_at p e) (leaves p e)
 
 -- the bytes of a proof, as a prover makes them
 pub record AreMade (version : Version) (r1cs_bytes : List ℕ) (f : File) (v : Vectors)

@@ -1,6 +1,6 @@
 -- The matrix that the rows and the masks make.
-use Rattle.std.proofs.Common.{◌≡◌, ℕ, zero, suc, ◌+◌, ◌-◌, ◌*◌, ◌<◌, ◌≤◌, List, [], ◌++◌, length}
-use Rattle.std.proofs.Common.{get_or, sym, ap, subst, ◌∙◌, arith}
+use Rattle.std.proofs.Common.{◌≡◌, ℕ, zero, suc, ◌+◌, ◌-◌, ◌*◌, ◌<◌, List, [], ◌++◌, length, get_or}
+use Rattle.std.proofs.Common.{sym, ap, subst, ◌∙◌, arith}
 use Rattle.std.specs.List.{AllZip, range_with_len}
 use Rattle.std.proofs.lemmas.List.{get_or_append_left, get_or-append-add, length-append}
 use Rattle.lig_layout.specs.declared.params.Params.{Params}
@@ -10,16 +10,9 @@ use Rattle.lig_layout.specs.Layout.{message, padded, row_at}
 use Rattle.lig_proof.specs.Encoding.{IsMaskedRow}
 use Rattle.lig_proof.specs.Masks.{row_mask, proximity_mask, linear_mask, product_mask}
 use Rattle.lig_proof.specs.Proving.{IsEncoded}
-use Rattle.lig_prover.specs.Matrix.{encoded_by, test_masks}
+use Rattle.lig_prover.specs.Matrix.{FitRows, encoded_by, test_masks}
 use Rattle.lig_layout.proofs.Solving.{length-padded}
 use Rattle.lig_proof.proofs.Collected.{at_first, placed_length}
-
--- the vectors fit their rows
-pub record FitRows (p : Params) (v : Vectors) : Type 0 where
-  pub w : length v.w ≤ p.wire_rows * p.l
-  pub x : length v.x ≤ p.constraint_rows * p.l
-  pub y : length v.y ≤ p.constraint_rows * p.l
-  pub z : length v.z ≤ p.constraint_rows * p.l
 
 pub length-message : (p : Params) (v : Vectors) → IsParams p → FitRows p v
     → length (message p v) ≡ p.rows * p.l

@@ -26,12 +26,11 @@ use Rattle.lig_proof.specs.ProofBytes.{proof_bytes}
 use Rattle.lig_proof.specs.SharedProof.{opened_once, proof2_bytes}
 use Rattle.lig_proof.specs.Columns.{polynomials, column_at, leaves, commitment}
 use Rattle.lig_proof.specs.Points.{code_point}
-use Rattle.lig_proof.specs.Proving.{IsEncoded, AreMade, bytes_in}
+use Rattle.lig_proof.specs.Proving.{IsEncoded, AreSystems, AreMade, bytes_in, proof_spelling}
 use Rattle.lig_proof.specs.Sent.{in_order, sent_polynomials}
 use Rattle.lig_proof.specs.Transcript.{first_key, challenges_of, queries}
 use Rattle.lig_proof.specs.Values.{HasDegrees}
-use Rattle.lig_prover.specs.Matrix.{AreCodewords, AreSystemsOf, encoded_by, column_in}
-use Rattle.lig_prover.specs.Spelling.{spelled_by}
+use Rattle.lig_prover.specs.Matrix.{AreCodewords, encoded_by, column_in}
 use Rattle.lig_prover.specs.Transform.{values_at}
 use Rattle.lig_proof.proofs.Collected.{range_same}
 use Rattle.lig_prover.proofs.Coset.{get_or-values_at}
@@ -149,7 +148,7 @@ pub spelled_same : (version : Version) (p : Params) (polys codewords hashes : Li
     (all drawn : List ℕ)
     → IsParams p → AreCodewords p polys codewords → hashes ≡ leaves p (encoded_by p polys)
     → All (λ i. i < 8 * p.l) drawn
-    → spelled_by version p hashes codewords all drawn
+    → proof_spelling version p (column_in codewords) hashes all drawn
     ≡ bytes_in version p (encoded_by p polys) all drawn
 spelled_same One p polys codewords hashes all drawn h are is low = λ i. proof_bytes (record {
   root = root_at p.depth (is i);
@@ -176,7 +175,7 @@ pub record IsMade (p : Params) (version : Version) (r1cs_bytes : List ℕ) (f : 
   pub rows : IsEncoded p v seed (encoded_by p polys)
   pub challenges_drawn : (let root = commitment p (encoded_by p polys) in
       c ≡ challenges_of p (equation_count f) (first_key r1cs_bytes (publics_of f v.w) root))
-  pub systems : AreSystemsOf p f c system
+  pub systems : AreSystems f c system
   pub spelled : (let e = encoded_by p polys in
       let all = in_order (sent_polynomials p c e system) in
       bytes ≡ bytes_in version p e all (queries p c.first all))

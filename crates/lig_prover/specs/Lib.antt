@@ -1,5 +1,4 @@
 pub mod Transform
 pub mod Matrix
 pub mod Refusing
-pub mod Spelling
 pub mod Proves

@@ -1,10 +1,11 @@
 -- The encoded matrix in two lists: its polynomials in the order of a column, and their codewords.
-use Rattle.std.specs.Prelude.{◌≡◌, ℕ, ◌+◌, ◌-◌, ◌*◌, ◌%◌, ◌<◌, List, [], ◌∷◌, length, map}
+use Rattle.std.specs.Prelude.{◌≡◌, ◌≤◌, ℕ, ◌+◌, ◌-◌, ◌*◌, ◌%◌, List, [], ◌∷◌, length, map}
 use Rattle.std.specs.Prelude.{slice_index, slice_index_or}
 use Rattle.gold_field.specs.declared.gold.TheConstants.{P}
 use Rattle.gold_ntt.specs.Polynomial.{sum_to}
 use Rattle.iden_files.specs.File.{File}
 use Rattle.lig_layout.specs.declared.params.Params.{Params}
+use Rattle.lig_layout.specs.declared.matrix.Vectors.{Vectors}
 use Rattle.lig_layout.specs.System.{combined, left_sides, equation_count}
 use Rattle.lig_proof.specs.declared.challenge.Challenges.{Challenges}
 use Rattle.lig_proof.specs.Columns.{Encoded}
@@ -13,6 +14,13 @@ use Rattle.lig_proof.specs.Masks.{proximity_mask, linear_mask, product_mask}
 use Rattle.lig_proof.specs.Sent.{rho, r_numbers, linear_test}
 use Rattle.lig_proof.specs.Values.{HasDegrees}
 use Rattle.lig_prover.specs.Transform.{values_at}
+
+-- the values of the vectors fit in the rows that they have
+pub record FitRows (p : Params) (v : Vectors) : Type 0 where
+  pub w : length v.w ≤ p.wire_rows * p.l
+  pub x : length v.x ≤ p.constraint_rows * p.l
+  pub y : length v.y ≤ p.constraint_rows * p.l
+  pub z : length v.z ≤ p.constraint_rows * p.l
 
 -- value i of row k
 abbrev pub entry_of : List (List ℕ) → ℕ → ℕ → ℕ
@@ -65,9 +73,3 @@ IsLinearTest p f c polynomials t values =
     (system : ℕ → List ℕ)
     × InterpolateRows p (combined (p.rows * p.l) numbers (left_sides p f)) system
     × (values ≡ linear_test p (encoded_by p polynomials) system t)
-
--- and those of both repetitions
-abbrev pub AreSystemsOf : Params → File → Challenges → (ℕ → ℕ → List ℕ) → Type 0
-AreSystemsOf p f c system = (t : ℕ) → t < 2
-    → (let numbers = r_numbers (equation_count f) c t in
-    InterpolateRows p (combined (p.rows * p.l) numbers (left_sides p f)) (system t))

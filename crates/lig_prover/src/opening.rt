@@ -4,8 +4,9 @@ ghost use Rattle.std.specs.Prelude.{◌≡◌, ◌<◌, ◌*◌, All, IfOk, leng
 ghost use Rattle.lig_layout.specs.Sizes.{IsParams};
 ghost use Rattle.lig_merkle.specs.Merkle.{path_at};
 ghost use Rattle.lig_proof.specs.declared.version.Version.TheVariants.{One, Two};
+ghost use Rattle.lig_proof.specs.ProofBytes.{opened_count};
+ghost use Rattle.lig_proof.specs.Proving.{proof_spelling};
 ghost use Rattle.lig_prover.specs.Matrix.{column_in};
-ghost use Rattle.lig_prover.specs.Spelling.{spelled_by};
 
 use crate::columns::column;
 use gold_field::Gold;
@@ -28,10 +29,11 @@ pub fn proof_in(
     requires params { IsParams params.now }
     requires depth { tree.now.depth ≡ params.now.depth }
     requires leaves { length tree.now.hashes ≡ 8 * params.now.l }
-    requires count { length drawn.now ≡ 96 }
+    requires count { length drawn.now ≡ opened_count }
     requires below { All (λ i. i < 8 * params.now.l) drawn.now }
     ensures { IfOk result (λ v. v.items
-        ≡ spelled_by version params.now tree.now.hashes codewords.now polys.items drawn.now) }
+        ≡ proof_spelling version params.now (column_in codewords.now) tree.now.hashes polys.items
+        drawn.now) }
 {
     match version {
         Version::One => first_proof(alloc, params, tree, codewords, polys, drawn),
@@ -50,10 +52,11 @@ fn first_proof(
 ) -> Result<Vec<u8>, AllocError>
     requires depth { tree.now.depth ≡ params.now.depth }
     requires leaves { length tree.now.hashes ≡ 8 * params.now.l }
-    requires count { length drawn.now ≡ 96 }
+    requires count { length drawn.now ≡ opened_count }
     requires below { All (λ i. i < 8 * params.now.l) drawn.now }
     ensures { IfOk result (λ v. v.items
-        ≡ spelled_by One params.now tree.now.hashes codewords.now polys.items drawn.now) }
+        ≡ proof_spelling One params.now (column_in codewords.now) tree.now.hashes polys.items
+        drawn.now) }
 {
     let columns = columns(alloc, codewords, drawn)?;
     let paths = paths(alloc, tree, drawn)?;
@@ -80,7 +83,8 @@ fn second_proof(
     requires some { 0 < length drawn.now }
     requires below { All (λ i. i < 8 * params.now.l) drawn.now }
     ensures { IfOk result (λ v. v.items
-        ≡ spelled_by Two params.now tree.now.hashes codewords.now polys.items drawn.now) }
+        ≡ proof_spelling Two params.now (column_in codewords.now) tree.now.hashes polys.items
+        drawn.now) }
 {
     let opened = opened_once(alloc, params, drawn)?;
     let columns = columns(alloc, codewords, &opened)?;

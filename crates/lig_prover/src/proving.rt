@@ -161,6 +161,7 @@ fn publics_of<'a>(file: &R1cs, w: &'a [Gold]) -> &'a [Gold]
     requires { length w.now ≡ file.now.wires }
     ensures { result.now ≡ publics_of file.now w.now }
 {
+    // Its contract says that the public wires are wires.
     let _constraints = file.constraints();
     let (_, from) = w.split_at(1);
     let (known, _) = from.split_at(file.outputs as usize + file.public_inputs as usize);

@@ -8,7 +8,7 @@ ghost use Rattle.lig_layout.specs.Layout.{message, padded, row_at};
 ghost use Rattle.lig_proof.specs.Encoding.{IsMaskedRow};
 ghost use Rattle.lig_proof.specs.Masks.{row_mask};
 ghost use Rattle.lig_proof.specs.Proving.{IsEncoded};
-ghost use Rattle.lig_prover.specs.Matrix.{encoded_by};
+ghost use Rattle.lig_prover.specs.Matrix.{FitRows, encoded_by};
 ghost use Rattle.lig_prover.specs.Transform.{values_at};
 
 use crate::masks::{put_test_masks, row_mask};
@@ -24,10 +24,7 @@ use std::thread::Threads;
 /// The rows of the matrix one after another.
 fn message(alloc: Global, params: &Params, vectors: &Vectors) -> Result<Vec<Gold>, AllocError>
     requires params { IsParams params.now }
-    requires w { length vectors.now.w ≤ params.now.wire_rows * params.now.l }
-    requires x { length vectors.now.x ≤ params.now.constraint_rows * params.now.l }
-    requires y { length vectors.now.y ≤ params.now.constraint_rows * params.now.l }
-    requires z { length vectors.now.z ≤ params.now.constraint_rows * params.now.l }
+    requires fit { FitRows params.now vectors.now }
     ensures { IfOk result (λ v. v.items ≡ message params.now vectors.now) }
 {
     let l = params.l as usize;
@@ -62,10 +59,7 @@ pub fn polynomials<R: Threads + Sync>(
     seed: &Hash,
 ) -> Result<Vec<Items<Gold>>, AllocError>
     requires params { IsParams params.now }
-    requires w { length vectors.now.w ≤ params.now.wire_rows * params.now.l }
-    requires x { length vectors.now.x ≤ params.now.constraint_rows * params.now.l }
-    requires y { length vectors.now.y ≤ params.now.constraint_rows * params.now.l }
-    requires z { length vectors.now.z ≤ params.now.constraint_rows * params.now.l }
+    requires fit { FitRows params.now vectors.now }
     ensures count { IfOk result (λ v. length v.items ≡ params.now.rows + 6) }
     ensures encoded { IfOk result (λ v. IsEncoded params.now vectors.now seed.now
         (encoded_by params.now v.items)) }

@@ -4,8 +4,9 @@ ghost use Rattle.std.specs.Prelude.{◌≡◌, ℕ, ◌*◌, List, IfOk, length}
 ghost use Rattle.iden_files.specs.File.{InLimits};
 ghost use Rattle.lig_layout.specs.Sizes.{IsParams, params_of};
 ghost use Rattle.lig_layout.specs.System.{equation_count};
+ghost use Rattle.lig_proof.specs.Proving.{AreSystems};
 ghost use Rattle.lig_proof.specs.Sent.{proximity_test, in_order, sent_polynomials};
-ghost use Rattle.lig_prover.specs.Matrix.{AreCodewords, AreSystemsOf, encoded_by};
+ghost use Rattle.lig_prover.specs.Matrix.{AreCodewords, encoded_by};
 
 use crate::polynomials::{proximity_test, linear_test, product_test};
 use gold_field::Gold;
@@ -32,7 +33,7 @@ pub fn sent<R: Threads + Sync>(
     requires numbers { length challenges.now.r ≡ 2 * equation_count file.now }
     requires codewords { AreCodewords params.now polynomials.items codewords.now }
     ensures { IfOk result (λ v. (system : ℕ → ℕ → List ℕ)
-        × AreSystemsOf params.now file.now challenges.now system
+        × AreSystems file.now challenges.now system
         × (v.items ≡ in_order (sent_polynomials params.now challenges.now
         (encoded_by params.now polynomials.items) system))) }
 {
@@ -50,7 +51,8 @@ pub fn sent<R: Threads + Sync>(
     Ok(all)
 }
 
-// The polynomials of the rows aren't needed after this.
+// The polynomials that test that the rows are codewords, of both repetitions. Those of the rows are
+// given up here.
 fn proximity_tests<R: Threads + Sync>(
     rt: &R,
     alloc: Global,

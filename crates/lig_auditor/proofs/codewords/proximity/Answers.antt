@@ -1,8 +1,8 @@
-use Rattle.std.proofs.Common.{◌≡◌, [], length, get_or}
+use Rattle.std.proofs.Common.{◌≡◌, length}
 use Rattle.gold_ntt.specs.Polynomial.{eval_at}
-use Rattle.lig_proof.specs.Points.{code_point}
 use Rattle.lig_proof.specs.Sent.{polynomials_of}
-use Rattle.lig_auditor.specs.Opened.{proximity_value}
+use Rattle.lig_proof.specs.Audit.{proximity_value}
+use Rattle.lig_auditor.specs.Opened.{column_of, point_of}
 use Rattle.lig_auditor.proofs.Matching.{in_both}
 use Rattle.lig_auditor.proofs.codewords.proximity.Goals as goal
 
@@ -12,7 +12,6 @@ returns g c =
     let p = o.params.now in
     in_both (length o.columns.now)
     (λ t q. eval_at ((polynomials_of p o.polys.now).proximity t)
-    (code_point p (get_or o.indices.now q 0))
-    ≡ proximity_value o t (get_or o.columns.now q []))
+    (point_of o q) ≡ proximity_value p o.challenges.now t (column_of o q))
     c.in_ok-first.first c.in_ok-second.second c.both.result c.in_ok-first.ensures
     c.in_ok-second.ensures c.both.ensures

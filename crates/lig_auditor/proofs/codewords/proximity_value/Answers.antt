@@ -3,12 +3,14 @@ use Rattle.gold_field.specs.declared.gold.TheConstants.{P}
 use Rattle.gold_ntt.specs.Polynomial.{sum_to}
 use Rattle.lig_proof.specs.Columns.{row_value, proximity_mask_value}
 use Rattle.lig_proof.specs.Sent.{alpha}
-use Rattle.lig_auditor.proofs.Adding.{read, in_part, none_yet, next_product, on_top}
+use Rattle.lig_proof.proofs.Adding.{nothing_added}
+use Rattle.lig_auditor.proofs.Adding.{read, in_part, next_product, on_top}
 use Rattle.lig_auditor.proofs.codewords.proximity_value.Goals as goal
 
 pub loop-k-init : goal.loop-k-init
 loop-k-init c =
-    none_yet (λ i. alpha c.args.opening.now.params.now c.args.opening.now.challenges.now c.args.t i
+    nothing_added (λ i.
+    alpha c.args.opening.now.params.now c.args.opening.now.challenges.now c.args.t i
     * row_value c.args.column.now i)
 
 pub loop-k-preserved : goal.loop-k-preserved

@@ -4,12 +4,14 @@ use Rattle.gold_ntt.specs.Polynomial.{sum_to}
 use Rattle.lig_proof.specs.Audit.{excess}
 use Rattle.lig_proof.specs.Columns.{product_mask_value}
 use Rattle.lig_proof.specs.Sent.{rho}
-use Rattle.lig_auditor.proofs.Adding.{read, in_part, none_yet, next_reduced, on_top}
+use Rattle.lig_proof.proofs.Adding.{nothing_added}
+use Rattle.lig_auditor.proofs.Adding.{read, in_part, next_reduced, on_top}
 use Rattle.lig_auditor.proofs.products.product_value.Goals as goal
 
 pub loop-k-init : goal.loop-k-init
 loop-k-init c =
-    none_yet (λ i. rho c.args.opening.now.params.now c.args.opening.now.challenges.now c.args.t i
+    nothing_added (λ i.
+    rho c.args.opening.now.params.now c.args.opening.now.challenges.now c.args.t i
     * excess c.args.opening.now.params.now c.args.column.now i)
 
 pub loop-k-preserved : goal.loop-k-preserved

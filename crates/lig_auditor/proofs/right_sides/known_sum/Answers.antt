@@ -1,11 +1,13 @@
 use Rattle.std.proofs.Common.{◌≡◌, ℕ, ◌+◌, ◌*◌, ◌%◌, ◌<◌, length, get_or, refl, ap, ◌∙◌, sym, arith}
 use Rattle.gold_field.specs.declared.gold.TheConstants.{P}
 use Rattle.gold_ntt.specs.Polynomial.{sum_to}
-use Rattle.lig_auditor.proofs.Adding.{read, none_yet, next_product, on_top}
+use Rattle.lig_proof.proofs.Adding.{nothing_added}
+use Rattle.lig_auditor.proofs.Adding.{read, next_product, on_top}
 use Rattle.lig_auditor.proofs.right_sides.known_sum.Goals as goal
 
 pub loop-k-init : goal.loop-k-init
-loop-k-init c = none_yet (λ i. get_or c.args.numbers.now (1 + i) 0 * get_or c.args.publics.now i 0)
+loop-k-init c =
+    nothing_added (λ i. get_or c.args.numbers.now (1 + i) 0 * get_or c.args.publics.now i 0)
 
 pub loop-k-preserved : goal.loop-k-preserved
 loop-k-preserved c =

@@ -6,14 +6,15 @@ use Rattle.gold_ntt.specs.Polynomial.{sum_to, eval_at}
 use Rattle.lig_proof.specs.Columns.{row_value, linear_mask_value}
 use Rattle.lig_proof.specs.Points.{code_point}
 use Rattle.lig_auditor.specs.Opened.{rows_in}
-use Rattle.lig_auditor.proofs.Adding.{read, none_yet, next_product, on_top}
+use Rattle.lig_proof.proofs.Adding.{nothing_added}
+use Rattle.lig_auditor.proofs.Adding.{read, next_product, on_top}
 use Rattle.lig_auditor.proofs.system.system_value.Goals as goal
 
 pub loop-k-init : goal.loop-k-init
 loop-k-init c =
     let o = c.args.opening.now in
     let x = code_point o.params.now (get_or o.indices.now c.args.q 0) in
-    none_yet (λ k. eval_at (rows_in c.args.rows.now k) x
+    nothing_added (λ k. eval_at (rows_in c.args.rows.now k) x
     * row_value (get_or o.columns.now c.args.q []) k)
 
 pub loop-k-preserved : goal.loop-k-preserved

@@ -1,7 +1,7 @@
 use Rattle.std.proofs.Common.{◌+◌, ◌*◌, ◌%◌, ℕ, ap, ◌∙◌}
 use Rattle.gold_field.specs.declared.gold.TheConstants.{P}
 use Rattle.lig_prover.specs.Matrix.{entry_of}
-use Rattle.lig_prover.proofs.Adding.{nothing_added, one_added, all_added}
+use Rattle.lig_proof.proofs.Adding.{nothing_added, one_added, all_added}
 use Rattle.lig_prover.proofs.polynomials.linear_value.Goals as goal
 
 pub loop-k-init : goal.loop-k-init

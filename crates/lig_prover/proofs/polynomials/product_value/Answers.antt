@@ -4,7 +4,8 @@ use Rattle.lig_layout.specs.declared.params.Params.{Params}
 use Rattle.lig_proof.specs.declared.challenge.Challenges.{Challenges}
 use Rattle.lig_proof.specs.Sent.{rho}
 use Rattle.lig_prover.specs.Matrix.{entry_of}
-use Rattle.lig_prover.proofs.Adding.{nothing_added, one_added, all_added, excess}
+use Rattle.lig_proof.proofs.Adding.{nothing_added, one_added, all_added}
+use Rattle.lig_prover.proofs.Adding.{excess}
 use Rattle.lig_prover.proofs.polynomials.product_value.Goals as goal
 
 -- what row k adds

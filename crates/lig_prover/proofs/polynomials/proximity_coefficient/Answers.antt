@@ -2,7 +2,7 @@ use Rattle.std.proofs.Common.{◌+◌, ◌*◌, ◌%◌, ℕ, get_or, ap, ◌∙
 use Rattle.gold_field.specs.declared.gold.TheConstants.{P}
 use Rattle.lig_proof.specs.Sent.{alpha}
 use Rattle.lig_prover.specs.Matrix.{entry_of}
-use Rattle.lig_prover.proofs.Adding.{nothing_added, one_added, all_added}
+use Rattle.lig_proof.proofs.Adding.{nothing_added, one_added, all_added}
 use Rattle.lig_prover.proofs.polynomials.proximity_coefficient.Goals as goal
 
 pub loop-k-init : goal.loop-k-init

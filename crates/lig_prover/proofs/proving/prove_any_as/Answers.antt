@@ -5,10 +5,9 @@ use Rattle.rayon.proofs.ListFacts.{IfOk-then}
 use Rattle.lig_layout.specs.Laws.{publics_of}
 use Rattle.lig_merkle.specs.Merkle.{leaf_hash, root_at}
 use Rattle.lig_proof.specs.Columns.{commitment}
-use Rattle.lig_proof.specs.Proving.{AreMade, bytes_in}
+use Rattle.lig_proof.specs.Proving.{AreMade, bytes_in, proof_spelling}
 use Rattle.lig_proof.specs.Transcript.{first_key, challenges_of, queries}
 use Rattle.lig_prover.specs.Matrix.{column_in, encoded_by}
-use Rattle.lig_prover.specs.Spelling.{spelled_by}
 use Rattle.lig_prover.proofs.Made.{made_for, leaves_same, spelled_same}
 use Rattle.lig_prover.proofs.proving.prove_any_as.Goals as goal
 
@@ -59,8 +58,8 @@ returns g c =
       challenges_drawn = c.in_ok-challenges.ensures.value ∙ (λ i. challenges_of p (equations i)
           (first_key r1cs_bytes (publics i) (root i)));
       systems = sent.1;
-      spelled = made ∙ (λ i. spelled_by version p tree (c.deref-4.ensures.value i) all
-          (c.deref-5.ensures.value i))
+      spelled = made ∙ (λ i. proof_spelling version p (column_in (c.deref-4.ensures.value i)) tree
+          all (c.deref-5.ensures.value i))
           ∙ spelled_same version p polys codewords tree all drawn h are hashes
           c.in_ok-drawn.ensures.below
           ∙ (λ i. bytes_in version p e (sent.2 i) (columns i));

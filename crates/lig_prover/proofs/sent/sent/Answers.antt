@@ -1,11 +1,13 @@
-use Rattle.std.proofs.Common.{◌≡◌, ℕ, zero, suc, ◌*◌, List, ◌++◌, ◌∙◌, arith, append_assoc}
+use Rattle.std.proofs.Common.{◌≡◌, ℕ, zero, suc, ◌*◌, List, ◌++◌, ◌∙◌, subst, arith}
+use Rattle.std.proofs.Common.{append_assoc}
 use Rattle.iden_files.specs.File.{File}
 use Rattle.lig_layout.specs.declared.params.Params.{Params}
+use Rattle.lig_layout.specs.Sizes.{params_of}
 use Rattle.lig_layout.specs.System.{combined, left_sides, equation_count}
 use Rattle.lig_proof.specs.declared.challenge.Challenges.{Challenges}
 use Rattle.lig_proof.specs.Encoding.{InterpolateRows}
+use Rattle.lig_proof.specs.Proving.{AreSystems}
 use Rattle.lig_proof.specs.Sent.{r_numbers}
-use Rattle.lig_prover.specs.Matrix.{AreSystemsOf}
 use Rattle.lig_prover.proofs.sent.sent.Goals as goal
 
 -- the system of one repetition
@@ -18,12 +20,12 @@ InterpolatesAt p f c t system =
     InterpolateRows p (combined (p.rows * p.l) (r_numbers (equation_count f) c t) (left_sides p f))
     system
 
-both : (p : Params) (f : File) (c : Challenges) (first second : ℕ → List ℕ)
+both : (p : Params) (f : File) (c : Challenges) (first second : ℕ → List ℕ) → p ≡ params_of f
     → InterpolatesAt p f c 0 first → InterpolatesAt p f c 1 second
-    → AreSystemsOf p f c (either first second)
-both p f c first second a b zero l = a
-both p f c first second a b (suc zero) l = b
-both p f c first second a b (suc (suc t)) l = absurd (omega arith)
+    → AreSystems f c (either first second)
+both p f c first second is a b zero l = subst (λ q. InterpolatesAt q f c 0 first) is a
+both p f c first second is a b (suc zero) l = subst (λ q. InterpolatesAt q f c 1 second) is b
+both p f c first second is a b (suc (suc t)) l = absurd (omega arith)
 
 joined : (a b c d e f : List ℕ)
     → ((((a ++ b) ++ c) ++ d) ++ e) ++ f ≡ a ++ (b ++ (c ++ (d ++ (e ++ f))))
@@ -63,7 +65,7 @@ returns g c =
     c.in_ok-extend_from_slice-3.ensures.items
     c.in_ok-extend_from_slice-4.ensures.items c.in_ok-extend_from_slice-5.ensures.items in (
       either first.0 second.0,
-      both p f challenges first.0 second.0 first.1 second.1,
+      both p f challenges first.0 second.0 c.requires.file first.1 second.1,
       all ∙ joined proximity_0 linear_0 product_0 proximity_1 linear_1 product_1
           ∙ (λ i. c.in_ok-proximity_0.ensures.first i
           ++ (first.2 i ++ (product_is i ++ (c.in_ok-proximity_0.ensures.second i
