@@ -4,3 +4,4 @@ pub mod FieldLoop
 pub mod Append
 pub mod ReadAgain
 pub mod MeaningLaws
+pub mod LimitLaws

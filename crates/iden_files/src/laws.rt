@@ -16,6 +16,11 @@ pub fn spelled_file_is_read()
     ensures { (f : File) → IsWhole f → InLimits f → r1cs_of (r1cs_bytes f) ≡ Ok f }
 {}
 
+/// A file that is read is within the limits.
+pub fn read_files_are_in_limits()
+    ensures { (bytes : List ℕ) (f : File) → r1cs_of bytes ≡ Ok f → InLimits f }
+{}
+
 /// The spelling of values means those values.
 pub fn spelled_values_are_read()
     ensures { (values : List ℕ) → length values ≤ most_wires → All (λ v. v < P) values →
