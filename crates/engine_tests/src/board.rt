@@ -4,7 +4,9 @@ ghost use Rattle.flow_core.specs.Net.{reads_of, succs_of};
 ghost use Rattle.flow_core.specs.Flow.{Gives, Refuses, answer_of, HasValue};
 ghost use Rattle.flow_core.specs.Events.{hold};
 ghost use Rattle.engine_tests.specs.Examples.{chain, pair};
-ghost use Rattle.flow_board.specs.Seats.{first_seat, after_step};
+ghost use Rattle.flow_board.specs.Shows.{cell_at};
+ghost use Rattle.flow_board.specs.Views.{after_step};
+ghost use Rattle.flow_board.specs.Seats.{first_seat, place_of, with_view};
 
 use crate::checks::same;
 use flow_board::{Answers, Board, Words, WorkSeat};
@@ -70,11 +72,12 @@ fn chain_board<'g>(
 
 /// Reads a cell of a strand that was just taken.
 fn read_taken<A: Answers>(board: &Board<'_, A>, seat: &mut WorkSeat, strand: u32, cell: u32) -> Gold
-    requires own { seat.old.place ≡ board.now }
-    requires held { seat.old.holding ≡ Some (hold strand 0 0) }
+    requires own { place_of seat.old ≡ board.now }
+    requires held { seat.old.view.holding ≡ Some (hold strand 0 0) }
     requires reads { IsIn cell (reads_of board.now.flow.net strand) }
     ensures read { HasValue board.now.flow cell result }
-    ensures seat { seat.new ≡ after_step seat.old }
+    ensures seat { seat.new ≡ with_view seat.old
+        (after_step seat.old.view (cell_at cell) (result + 1)) }
 {
     board.read(seat, cell)
 }
@@ -89,13 +92,13 @@ fn hand_over<A: Answers>(
     value: Gold,
 ) -> Option<u32>
     requires net { board.now.flow.net ≡ graph.now }
-    requires own { seat.old.place ≡ board.now }
-    requires held { seat.old.holding ≡ Some (hold strand 1 0) }
+    requires own { place_of seat.old ≡ board.now }
+    requires held { seat.old.view.holding ≡ Some (hold strand 1 0) }
     requires near { strand < board.now.flow.net.strands }
     requires gives { answer_of board.now.flow strand ≡ Gives (value ∷ []) }
-    ensures own { seat.new.place ≡ board.now }
-    ensures free { seat.new.holding ≡ None }
-    ensures share { seat.new.share ≡ seat.old.share }
+    ensures own { place_of seat.new ≡ board.now }
+    ensures free { seat.new.view.holding ≡ None }
+    ensures share { seat.new.view.share ≡ seat.old.view.share }
 {
     let count = graph.succs_of(strand).len();
     let mut ready = None;
@@ -119,15 +122,15 @@ fn work<A: Answers>(
     value: Gold,
 ) -> Option<(Gold, Option<u32>)>
     requires net { board.now.flow.net ≡ graph.now }
-    requires own { seat.old.place ≡ board.now }
-    requires free { seat.old.holding ≡ None }
+    requires own { place_of seat.old ≡ board.now }
+    requires free { seat.old.view.holding ≡ None }
     requires two { board.now.flow.net.strands ≡ 2 }
     requires near { strand < 2 }
     requires reads { IsIn strand (reads_of board.now.flow.net strand) }
     requires gives { answer_of board.now.flow strand ≡ Gives (value ∷ []) }
-    ensures own { seat.new.place ≡ board.now }
-    ensures free { IfSome result (λ _. seat.new.holding ≡ None) }
-    ensures share { seat.new.share ≡ seat.old.share }
+    ensures own { place_of seat.new ≡ board.now }
+    ensures free { IfSome result (λ _. seat.new.view.holding ≡ None) }
+    ensures share { seat.new.view.share ≡ seat.old.view.share }
 {
     if board.take(seat, 1 - strand) {
         return None;
@@ -151,26 +154,26 @@ fn in_a_thread(
     value: Gold,
 ) -> Option<(Gold, Option<u32>)>
     requires net { board.now.flow.net ≡ graph.now }
-    requires own { seat.old.place ≡ board.now }
-    requires free { seat.old.holding ≡ None }
+    requires own { place_of seat.old ≡ board.now }
+    requires free { seat.old.view.holding ≡ None }
     requires two { board.now.flow.net.strands ≡ 2 }
     requires near { strand < 2 }
     requires reads { IsIn strand (reads_of board.now.flow.net strand) }
     requires gives { answer_of board.now.flow strand ≡ Gives (value ∷ []) }
-    ensures own { seat.new.place ≡ board.now }
-    ensures free { IfSome result (λ _. seat.new.holding ≡ None) }
-    ensures share { seat.new.share ≡ seat.old.share }
+    ensures own { place_of seat.new ≡ board.now }
+    ensures free { IfSome result (λ _. seat.new.view.holding ≡ None) }
+    ensures share { seat.new.view.share ≡ seat.old.view.share }
 {
     let (ran, ()) = join_mut(
         rt,
         &mut || -> Option<(Gold, Option<u32>)>
-            requires { (board.now.flow.net ≡ graph.now) × (seat.now.place ≡ board.now)
-                × (seat.now.holding ≡ None) × (board.now.flow.net.strands ≡ 2) × (strand < 2)
+            requires { (board.now.flow.net ≡ graph.now) × (place_of seat.now ≡ board.now)
+                × (seat.now.view.holding ≡ None) × (board.now.flow.net.strands ≡ 2) × (strand < 2)
                 × IsIn strand (reads_of board.now.flow.net strand)
                 × (answer_of board.now.flow strand ≡ Gives (value ∷ [])) }
-            ensures { (seat.exit.now.place ≡ board.entry.now)
-                × IfSome result (λ _. seat.exit.now.holding ≡ None)
-                × (seat.exit.now.share ≡ seat.entry.now.share) }
+            ensures { (place_of seat.exit.now ≡ board.entry.now)
+                × IfSome result (λ _. seat.exit.now.view.holding ≡ None)
+                × (seat.exit.now.view.share ≡ seat.entry.now.view.share) }
         { work(board, graph, seat, strand, value) },
         &mut || (),
     );
@@ -193,16 +196,16 @@ fn in_turn<R: Threads + Abort>(
     requires reads { graph.now.reads ≡ (0 ∷ []) ∷ (1 ∷ []) ∷ [] }
     requires first { first ≡ 33 }
     requires second { second ≡ 34 }
-    requires own { seats.0.place ≡ board.now }
-    requires own_b { seats.1.place ≡ board.now }
-    requires free { seats.0.holding ≡ None }
-    requires free_b { seats.1.holding ≡ None }
-    ensures own { result.0.place ≡ board.now }
-    ensures own_b { result.1.place ≡ board.now }
-    ensures free { result.0.holding ≡ None }
-    ensures free_b { result.1.holding ≡ None }
-    ensures share { result.0.share ≡ seats.0.share }
-    ensures share_b { result.1.share ≡ seats.1.share }
+    requires own { place_of seats.0 ≡ board.now }
+    requires own_b { place_of seats.1 ≡ board.now }
+    requires free { seats.0.view.holding ≡ None }
+    requires free_b { seats.1.view.holding ≡ None }
+    ensures own { place_of result.0 ≡ board.now }
+    ensures own_b { place_of result.1 ≡ board.now }
+    ensures free { result.0.view.holding ≡ None }
+    ensures free_b { result.1.view.holding ≡ None }
+    ensures share { result.0.view.share ≡ seats.0.view.share }
+    ensures share_b { result.1.view.share ≡ seats.1.view.share }
 {
     let (mut a, mut b) = seats;
     let ran_a = in_a_thread(rt, board, graph, &mut a, 0, first);
@@ -234,11 +237,11 @@ fn closed<A: Answers + Drop>(
     seats: (WorkSeat, WorkSeat),
     least: Option<u32>,
 ) -> Words
-    requires own { seats.0.place ≡ board }
-    requires own_b { seats.1.place ≡ board }
-    requires free { seats.0.holding ≡ None }
-    requires free_b { seats.1.holding ≡ None }
-    requires whole { seats.0.share + seats.1.share ≡ 65 }
+    requires own { place_of seats.0 ≡ board }
+    requires own_b { place_of seats.1 ≡ board }
+    requires free { seats.0.view.holding ≡ None }
+    requires free_b { seats.1.view.holding ≡ None }
+    requires whole { seats.0.view.share + seats.1.view.share ≡ 65 }
     ensures cells { result.cells ≡ board.entry.flow.net.cells }
     ensures strands { result.strands ≡ board.entry.flow.net.strands }
 {
@@ -310,13 +313,13 @@ fn take_and_publish<A: Answers>(
     strand: u32,
     value: Gold,
 )
-    requires own { seat.old.place ≡ board.now }
-    requires free { seat.old.holding ≡ None }
+    requires own { place_of seat.old ≡ board.now }
+    requires free { seat.old.view.holding ≡ None }
     requires near { strand < board.now.flow.net.strands }
     requires gives { answer_of board.now.flow strand ≡ Gives (value ∷ []) }
-    ensures own { seat.new.place ≡ board.now }
-    ensures held { seat.new.holding ≡ Some (hold strand 1 0) }
-    ensures share { seat.new.share ≡ seat.old.share }
+    ensures own { place_of seat.new ≡ board.now }
+    ensures held { seat.new.view.holding ≡ Some (hold strand 1 0) }
+    ensures share { seat.new.view.share ≡ seat.old.view.share }
 {
     let taken = board.take(seat, strand);
     assert!(rt; taken);
@@ -330,13 +333,13 @@ fn take_and_refuse<A: Answers>(
     seat: &mut WorkSeat,
     strand: u32,
 )
-    requires own { seat.old.place ≡ board.now }
-    requires free { seat.old.holding ≡ None }
+    requires own { place_of seat.old ≡ board.now }
+    requires free { seat.old.view.holding ≡ None }
     requires near { strand < board.now.flow.net.strands }
     requires refuses { answer_of board.now.flow strand ≡ Refuses }
-    ensures own { seat.new.place ≡ board.now }
-    ensures free { seat.new.holding ≡ None }
-    ensures share { seat.new.share ≡ seat.old.share }
+    ensures own { place_of seat.new ≡ board.now }
+    ensures free { seat.new.view.holding ≡ None }
+    ensures share { seat.new.view.share ≡ seat.old.view.share }
 {
     let taken = board.take(seat, strand);
     assert!(rt; taken);

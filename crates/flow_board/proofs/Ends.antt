@@ -16,7 +16,8 @@ use Rattle.flow_core.specs.Events.{hold, opening}
 use Rattle.flow_core.proofs.Keeps.{opens, waits_at_first}
 use Rattle.flow_board.specs.declared.view.View.{View}
 use Rattle.flow_board.specs.Shows.{cell_word, Shows}
-use Rattle.flow_board.specs.Rule.{first, spent, done_mark, refused_mark, HasNumbers, SeatFits}
+use Rattle.flow_board.specs.Views.{first, spent}
+use Rattle.flow_board.specs.Rule.{done_mark, refused_mark, HasNumbers, SeatFits}
 use Rattle.flow_board.specs.Rule.{Ruled}
 use Rattle.flow_board.specs.Closed.{Closes, closing, IsClosing}
 use Rattle.flow_board.proofs.Views.{terms_le}

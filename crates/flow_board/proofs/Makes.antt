@@ -9,7 +9,8 @@ use Rattle.flow_core.specs.Net.{Net, IsNet}
 use Rattle.flow_core.specs.Flow.{Flow, IsFlow}
 use Rattle.flow_core.specs.Events.{opening}
 use Rattle.flow_board.specs.Shows.{Shows}
-use Rattle.flow_board.specs.Rule.{first, HasNumbers, Ruled}
+use Rattle.flow_board.specs.Views.{first}
+use Rattle.flow_board.specs.Rule.{HasNumbers, Ruled}
 use Rattle.flow_board.specs.Seats.{Stands}
 use Rattle.flow_board.proofs.Ends.{begins}
 

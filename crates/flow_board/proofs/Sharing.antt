@@ -9,7 +9,8 @@ use Rattle.flow_core.specs.Counts.{times}
 use Rattle.flow_core.specs.Flow.{Flow}
 use Rattle.flow_core.specs.Events.{hold}
 use Rattle.flow_board.specs.declared.view.View.{View}
-use Rattle.flow_board.specs.Rule.{left, right, both, spent, SeatFits, Ruled}
+use Rattle.flow_board.specs.Views.{after_split, cut_from, joined_with, spent}
+use Rattle.flow_board.specs.Rule.{SeatFits, Ruled}
 use Rattle.flow_board.specs.Events.{Shown, SeatSteps}
 use Rattle.flow_board.proofs.Views.{total-append, total-set, times-append}
 use Rattle.flow_board.proofs.Moved.{Board}
@@ -29,10 +30,10 @@ pub cuts : (f : Flow) (id : ℕ) (v : View) → v.holding ≡ None → 2 ≤ v.s
       words = t.words;
       homes = t.homes;
       views =
-          set t.views id (left v) ++ right v ∷ [];
+          set t.views id (after_split v) ++ cut_from v ∷ [];
     } r.core
-cuts f id v free many t r at = let o = r.seats id v at in let n = set t.views id (left v) in
-    let next : Ruled f record { words = t.words; homes = t.homes; views = n ++ right v ∷ [] } =
+cuts f id v free many t r at = let o = r.seats id v at in let n = set t.views id (after_split v) in
+    let next : Ruled f record { words = t.words; homes = t.homes; views = n ++ cut_from v ∷ [] } =
     record {
       core = r.core;
       narrow = r.narrow;
@@ -49,28 +50,28 @@ cuts f id v free many t r at = let o = r.seats id v at in let n = set t.views id
             held = λ h e'. absurd (none_some h (sym free ∙ e'));
             seen = λ _. o.seen (omega arith);
           })
-          (λ x. r.seats j u x.1) (at_set t.views id j (left v) u there))
+          (λ x. r.seats j u x.1) (at_set t.views id j (after_split v) u there))
           (λ is. let P : View → Type 0 = SeatFits f r.core j in subst P is record {
             joined = λ z. absurd (omega arith);
             same_flow = λ _. o.same_flow (omega arith);
             held = λ h e'. absurd (none_some h e');
             seen = λ _. o.seen (omega arith);
-          }) (at_snoc n (right v) u j e);
+          }) (at_snoc n (cut_from v) u j e);
       holder = λ k j a b e. let x = r.holder k j a b e in
           let ne = holder_else t id k j a b v x.0 at free x.1 x.2 in
-          (x.0, at_longer n (right v ∷ []) j x.0 (set_else t.views id j (left v) ne ∙ x.1), x.2);
+          (x.0, at_longer n (cut_from v ∷ []) j x.0 (set_else t.views id j (after_split v) ne ∙ x.1), x.2);
       done_is = λ k. let g : View → ℕ = λ u. times k u.done in
-          let m = total-set g t.views id v (left v) at in
-          let a = total-append g n (right v ∷ []) in let d = r.done_is k in omega arith;
+          let m = total-set g t.views id v (after_split v) at in
+          let a = total-append g n (cut_from v ∷ []) in let d = r.done_is k in omega arith;
       refused_is = λ k. let g : View → ℕ = λ u. times k u.refused in
-          let m = total-set g t.views id v (left v) at in
-          let a = total-append g n (right v ∷ []) in let d = r.refused_is k in omega arith;
-      shares = let g : View → ℕ = λ u. u.share in let m = total-set g t.views id v (left v) at in
-          let a = total-append g n (right v ∷ []) in let d = r.shares in omega arith;
+          let m = total-set g t.views id v (after_split v) at in
+          let a = total-append g n (cut_from v ∷ []) in let d = r.refused_is k in omega arith;
+      shares = let g : View → ℕ = λ u. u.share in let m = total-set g t.views id v (after_split v) at in
+          let a = total-append g n (cut_from v ∷ []) in let d = r.shares in omega arith;
     } in (next, refl)
 
 pub splits : (f : Flow) (id : ℕ) (v : View) → v.holding ≡ None → 2 ≤ v.share
-    → Splits (Ruled f) id v (left v) (right v)
+    → Splits (Ruled f) id v (after_split v) (cut_from v)
 splits f id v free many t r at = (cuts f id v free many t r at).0
 
 pub takes_in : (f : Flow) (id other : ℕ) (v w : View) → v.holding ≡ None → w.holding ≡ None
@@ -81,11 +82,11 @@ pub takes_in : (f : Flow) (id other : ℕ) (v w : View) → v.holding ≡ None �
       words = t.words;
       homes = t.homes;
       views =
-          set (set t.views id (both v w)) other spent;
+          set (set t.views id (joined_with v w)) other spent;
     } r.core
 takes_in f id other v w free free' live live' t r at apart there' = let o = r.seats id v at in
-    let n = set t.views id (both v w) in
-    let there : get_elem? n other ≡ some w = set_else t.views id other (both v w) apart ∙ there' in
+    let n = set t.views id (joined_with v w) in
+    let there : get_elem? n other ≡ some w = set_else t.views id other (joined_with v w) apart ∙ there' in
     let o' = r.seats other w there' in
     let next : Ruled f record { words = t.words; homes = t.homes; views = set n other spent } =
     record {
@@ -111,29 +112,29 @@ takes_in f id other v w free free' live live' t r at apart there' = let o = r.se
             held = λ h e'. absurd (none_some h (sym free ∙ e'));
             seen = λ _. let a = o.seen live in let b = o'.seen live' in omega arith;
           })
-          (λ y. r.seats j u y.1) (at_set t.views id j (both v w) u x.1))
+          (λ y. r.seats j u y.1) (at_set t.views id j (joined_with v w) u x.1))
           (at_set n other j spent u e);
       holder = λ k j a b e. let x = r.holder k j a b e in
           let ne = holder_else t id k j a b v x.0 at free x.1 x.2 in
           let ne' = holder_else t other k j a b w x.0 there' free' x.1 x.2 in
-          (x.0, set_else n other j spent ne' ∙ set_else t.views id j (both v w) ne ∙ x.1, x.2);
+          (x.0, set_else n other j spent ne' ∙ set_else t.views id j (joined_with v w) ne ∙ x.1, x.2);
       done_is = λ k. let g : View → ℕ = λ u. times k u.done in
-          let m = total-set g t.views id v (both v w) at in
+          let m = total-set g t.views id v (joined_with v w) at in
           let m' = total-set g n other w spent there in let a = times-append k v.done w.done in
           let d = r.done_is k in omega arith;
       refused_is = λ k. let g : View → ℕ = λ u. times k u.refused in
-          let m = total-set g t.views id v (both v w) at in
+          let m = total-set g t.views id v (joined_with v w) at in
           let m' = total-set g n other w spent there in
           let a = times-append k v.refused w.refused in let d = r.refused_is k in omega arith;
-      shares = let g : View → ℕ = λ u. u.share in let m = total-set g t.views id v (both v w) at in
+      shares = let g : View → ℕ = λ u. u.share in let m = total-set g t.views id v (joined_with v w) at in
           let m' = total-set g n other w spent there in let d = r.shares in omega arith;
     } in (next, refl)
 
 pub joins : (f : Flow) (id other : ℕ) (v w : View) → v.holding ≡ None → w.holding ≡ None
-    → 0 < v.share → 0 < w.share → Joins (Ruled f) id v other w (both v w) spent
+    → 0 < v.share → 0 < w.share → Joins (Ruled f) id v other w (joined_with v w) spent
 joins f id other v w free free' live live' t r at apart there =
     let there' : get_elem? t.views other ≡ some w =
-    sym (set_else t.views id other (both v w) apart) ∙ there in
+    sym (set_else t.views id other (joined_with v w) apart) ∙ there in
     (takes_in f id other v w free free' live live' t r at apart there').0
 
 pub seat_steps : (f : Flow) (t : Board) (r : Ruled f t) (id : ℕ) (v : View)

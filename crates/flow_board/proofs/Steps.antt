@@ -32,10 +32,11 @@ use Rattle.flow_board.specs.declared.rule.TheConstants.{TAKEN}
 use Rattle.flow_board.specs.Shows.{cell_at, counter_at, least_word, cell_word, counter_word, Shows}
 use Rattle.flow_board.specs.Rule.{done_mark, refused_mark, HasNumbers, Ruled}
 use Rattle.flow_board.specs.Events.{Becomes, Shown, Evolves, WordSteps, taking}
-use Rattle.flow_board.specs.Plays.{Sat, one_more, tries, Reads}
-use Rattle.flow_board.specs.Plays.{CanPublish, CanRelease, CanFinish, CanRefuse, one_published}
-use Rattle.flow_board.specs.Plays.{one_released, with_held, read_play, publish_play, release_play}
-use Rattle.flow_board.specs.Plays.{take_play, finish_play, refuse_play, look_play}
+use Rattle.flow_board.specs.Views.{one_published, one_released, with_held, after_step, after_take}
+use Rattle.flow_board.specs.Views.{after_look}
+use Rattle.flow_board.specs.Plays.{Sat, Reads, CanPublish, CanRelease, CanFinish, CanRefuse}
+use Rattle.flow_board.specs.Plays.{read_play, publish_play, release_play, take_play, finish_play}
+use Rattle.flow_board.specs.Plays.{refuse_play, look_play}
 use Rattle.flow_board.proofs.Kept.{Makes, take_made, publish_made, release_made, finish_made}
 use Rattle.flow_board.proofs.Kept.{refuse_made, no_successor}
 use Rattle.flow_board.proofs.Showing.{counter_free, lesser, shows_cell, shows_release, shows_take}
@@ -141,7 +142,7 @@ module _ (f : Flow) (slots id : ℕ) (m : Sat) (live : 0 < m.0.share) where
   reads_cell i first-in near t r at _ =
       let same-flow = flow_is t r at in
       let o = r.seats id m.0 at in
-      let w : View = one_more m.0 in
+      let w : View = after_step m.0 i (get_or t.words i 0) in
       let next = stays t r at i w refl refl refl refl refl (o.seen live) in (
         w,
         next.0,
@@ -168,7 +169,7 @@ module _ (f : Flow) (slots id : ℕ) (m : Sat) (live : 0 < m.0.share) where
       let o = r.seats id m.0 at in
       let found : ℕ = get_or t.words 0 0 in
       let is : found ≡ least_word f r.core.least = r.shows.least_is in
-      let w : View = record (one_more m.0) { seen = found } in
+      let w : View = after_look m.0 0 found in
       let told = least_told f r.core r.kept r.core.least refl in
       let S : Flow → Type 0 =
       λ g. (found ≤ g.net.strands) × (found < g.net.strands → answer_of g found ≡ Refuses) in
@@ -195,18 +196,18 @@ module _ (f : Flow) (slots id : ℕ) (m : Sat) (live : 0 < m.0.share) where
 
   -- a seat goes on with its strand
   holds_on : (t : Board) (r : Ruled f t) → get_elem? t.views id ≡ some m.0
-      → (k a b a' b' n : ℕ) → m.0.holding ≡ Some (hold k a b)
+      → (k a b a' b' i n : ℕ) → m.0.holding ≡ Some (hold k a b)
       → (cs : List (Option ℕ)) (ms ws : List ℕ)
       → let s : State = state cs ms (set r.core.phase k (Held id a' b')) r.core.least in
-      let w : View = record (one_more m.0) { holding = Some (hold k a' b'); told = n } in
+      let w : View = record (after_step m.0 i n) { holding = Some (hold k a' b') } in
       k < length r.core.phase → IsKept f s → HasNumbers cs → Shows f s ws
       → Shown f record { words = ws; homes = t.homes; views = set t.views id w } s
-  holds_on t r at k a b a' b' n holds cs ms ws near kept numbers shows =
+  holds_on t r at k a b a' b' i n holds cs ms ws near kept numbers shows =
       let o = r.seats id m.0 at in
       let is = o.held (hold k a b) holds in
       let mark : done_mark (phase_of r.core k) ≡ 0 = ap done_mark is in
       let mark' : refused_mark (phase_of r.core k) ≡ 0 = ap refused_mark is in
-      let w : View = record (one_more m.0) { holding = Some (hold k a' b'); told = n } in
+      let w : View = record (after_step m.0 i n) { holding = Some (hold k a' b') } in
       moves f t r id m.0 at k (Held id a' b') w cs ms r.core.least ws near kept numbers shows
       (omega arith)
       (not_others r.core k a b is)
@@ -262,12 +263,12 @@ module _ (f : Flow) (slots id : ℕ) (m : Sat) (live : 0 < m.0.share) where
       let e : Some (hold k (a + 1) b) ≡ one_published m.0.holding =
       ap one_published (sym p.holds) in
       let numbers = one_filled r.core.cells c x (omega arith) small r.numbers in
-      let next = holds_on t r at k a b (a + 1) b m.0.told p.holds (set r.core.cells c (Some x))
+      let next = holds_on t r at k a b (a + 1) b (cell_at c) (x + 1) p.holds (set r.core.cells c (Some x))
       r.core.missing (set t.words (cell_at c) (x + 1)) near.1 made.kept numbers shows in (
-        record (one_more m.0) { holding = Some (hold k (a + 1) b) },
+        record (after_step m.0 (cell_at c) (x + 1)) { holding = Some (hold k (a + 1) b) },
         next.0,
         (made.enabled, made.honest, next.1 ∙ made.is),
-        λ i. (record (one_more m.0) { holding = e i }, m.1),
+        λ i. (record (after_step m.0 (cell_at c) (x + 1)) { holding = e i }, m.1),
       )
 
   pub releases_next : (j : ℕ) (p : CanRelease f m.0.holding)
@@ -297,20 +298,20 @@ module _ (f : Flow) (slots id : ℕ) (m : Sat) (live : 0 < m.0.share) where
       shows_release f r.core t.words r.shows k (Held id a (b + 1)) near.1 j (omega arith) in-list
       next.apart next.waits next.misses narrow (same_word t r k a b is) in
       let e : Some (hold k a (b + 1)) ≡ one_released m.0.holding = ap one_released (sym p.holds) in
-      let then = holds_on t r at k a b a (b + 1) n p.holds r.core.cells
+      let then = holds_on t r at k a b a (b + 1) (counter_at f j) n p.holds r.core.cells
       (set r.core.missing j (missing_of r.core j - 1)) ws near.1 made.kept r.numbers shows in (
-        record (one_more m.0) { holding = Some (hold k a (b + 1)); told = n },
+        record (after_step m.0 (counter_at f j) n) { holding = Some (hold k a (b + 1)) },
         then.0,
         (made.enabled, made.honest, then.1 ∙ made.is),
-        λ i. (record (one_more m.0) { holding = e i; told = n }, m.1),
+        λ i. (record (after_step m.0 (counter_at f j) n) { holding = e i }, m.1),
       )
 
   -- a seat gives up its strand
   puts_down : (t : Board) (r : Ruled f t) → get_elem? t.views id ≡ some m.0
-      → (k a b : ℕ) (p : Phase) (ds rs : List ℕ) (seen : ℕ) (l : Option ℕ) (ws : List ℕ)
+      → (k a b : ℕ) (p : Phase) (ds rs : List ℕ) (n seen : ℕ) (l : Option ℕ) (ws : List ℕ)
       → m.0.holding ≡ Some (hold k a b)
       → let s : State = state r.core.cells r.core.missing (set r.core.phase k p) l in
-      let w : View = record (one_more m.0) {
+      let w : View = record (after_step m.0 0 n) {
         holding = None;
         done = ds;
         refused = rs;
@@ -325,13 +326,13 @@ module _ (f : Flow) (slots id : ℕ) (m : Sat) (live : 0 < m.0.share) where
       → ((i : ℕ) → i ≢ k → times i rs ≡ times i m.0.refused)
       → times k rs ≡ times k m.0.refused + refused_mark p
       → Shown f record { words = ws; homes = t.homes; views = set t.views id w } s
-  puts_down t r at k a b p ds rs seen l ws holds near kept shows less below unheld d-else d-k
+  puts_down t r at k a b p ds rs n seen l ws holds near kept shows less below unheld d-else d-k
       r-else r-k =
       let o = r.seats id m.0 at in
       let is = o.held (hold k a b) holds in
       let mark : done_mark (phase_of r.core k) ≡ 0 = ap done_mark is in
       let mark' : refused_mark (phase_of r.core k) ≡ 0 = ap refused_mark is in
-      let w : View = record (one_more m.0) {
+      let w : View = record (after_step m.0 0 n) {
         holding = None;
         done = ds;
         refused = rs;
@@ -363,16 +364,16 @@ module _ (f : Flow) (slots id : ℕ) (m : Sat) (live : 0 < m.0.share) where
       (shows_turn f r.core t.words r.shows k Done near.1 (same_word t r k a b is)) in
       let e : (k ∷ m.0.done) ≡ with_held m.0.holding m.0.done =
       ap (λ (x : Option Hold). with_held x m.0.done) (sym p.holds) in
-      let next = puts_down t r at k a b Done (k ∷ m.0.done) m.0.refused found r.core.least ws
+      let next = puts_down t r at k a b Done (k ∷ m.0.done) m.0.refused found found r.core.least ws
       p.holds
       near.1 made.kept shows (omega arith) (omega arith) (λ j x y e. cc)
       (λ i ne. let z = same_no i k ne in omega arith) (let y = same_yes k k refl in omega arith)
       (λ i _. refl) (omega arith) in (
-        record (one_more m.0) { holding = None; done = k ∷ m.0.done; seen = found },
+        record (after_look m.0 0 found) { holding = None; done = k ∷ m.0.done },
         next.0,
         (made.enabled, made.honest, next.1 ∙ made.is),
         (
-          (λ i. (record (one_more m.0) { holding = None; done = e i; seen = found }, m.1)),
+          (λ i. (record (after_look m.0 0 found) { holding = None; done = e i }, m.1)),
           (let s = o.seen live in omega arith),
         ),
       )
@@ -415,16 +416,27 @@ module _ (f : Flow) (slots id : ℕ) (m : Sat) (live : 0 < m.0.share) where
       let e : (k ∷ m.0.refused) ≡ with_held m.0.holding m.0.refused =
       ap (λ (x : Option Hold). with_held x m.0.refused) (sym holds-k) in
       let next = puts_down t r at k a b Refused m.0.done (k ∷ m.0.refused)
-      (min found k) l ws holds-k
+      found (min found k) l ws holds-k
       near.1 made.kept shows (omega arith) (omega arith) (λ j x y e. cc)
       (λ i _. refl) (omega arith)
       (λ i ne. let z = same_no i k ne in omega arith) (let y = same_yes k k refl in
       omega arith) in (
-        record (one_more m.0) { holding = None; refused = k ∷ m.0.refused; seen = min found k },
+        record (after_step m.0 0 found) {
+          holding = None;
+          refused = k ∷ m.0.refused;
+          seen = min found k;
+        },
         next.0,
         (made.enabled, made.honest, next.1 ∙ made.is),
         (
-          (λ i. (record (one_more m.0) { holding = None; refused = e i; seen = min found k }, m.1)),
+          (λ i. (
+            record (after_step m.0 0 found) {
+              holding = None;
+              refused = e i;
+              seen = min found k;
+            },
+            m.1,
+          )),
           (let s = o.seen live in omega arith),
         ),
       )
@@ -443,9 +455,10 @@ module _ (f : Flow) (slots id : ℕ) (m : Sat) (live : 0 < m.0.share) where
       let i : ℕ = counter_at f k in let n : ℕ = get_or t.words i 0 in
       let each = r.kept.sound.fits.phase_each in
       let then : ℕ → Sat → Type 0 = take_play (step slots i 0 TAKEN (some k)) m in
-      let w : View = tries m.0 k n in
+      let w : View = after_take m.0 i n k (n == 0) in
       let told : then n (w, m.1) = λ k' said.
-      let k-is : k ≡ k' = some-injective k k' said in λ z. (tries m.0 (k-is z) n, m.1) in
+      let k-is : k ≡ k' = some-injective k k' said in
+      λ z. (after_take m.0 i n (k-is z) (n == 0), m.1) in
       exchanged n 0 TAKEN (Goes t r i (taking id k n) then)
       (λ hit.
       let test = sym (eq-eqb n 0 hit) in

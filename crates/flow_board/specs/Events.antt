@@ -16,7 +16,8 @@ use Rattle.flow_core.specs.Events.{is_enabled, after, IsHonest}
 use Rattle.flow_board.specs.declared.view.View.{View}
 use Rattle.flow_board.specs.declared.rule.TheConstants.{TAKEN}
 use Rattle.flow_board.specs.Shows.{cell_at, counter_at}
-use Rattle.flow_board.specs.Rule.{Ruled, left, right, both, spent}
+use Rattle.flow_board.specs.Views.{after_split, cut_from, joined_with, spent}
+use Rattle.flow_board.specs.Rule.{Ruled}
 use Rattle.flow_board.specs.Plays.{Sat, CanPublish, CanRelease, CanFinish, CanRefuse}
 use Rattle.flow_board.specs.Plays.{read_play, publish_play, release_play, take_play, finish_play}
 use Rattle.flow_board.specs.Plays.{refuse_play, look_play}
@@ -71,8 +72,8 @@ pub record WordSteps (f : Flow) (slots id : ℕ) (m : Sat) : Type 0 where
 pub record SeatSteps (f : Flow) (t : table.State ℕ View) (r : Ruled f t) (id : ℕ)
     (v : View) : Type 0 where
   pub split : v.holding ≡ None → 2 ≤ v.share
-      → Shown f (record t { views = slice_set t.views id (left v) ++ right v ∷ [] }) r.core
+      → Shown f (record t { views = slice_set t.views id (after_split v) ++ cut_from v ∷ [] }) r.core
   pub join : (other : ℕ) (w : View) → v.holding ≡ None → w.holding ≡ None → 0 < w.share → other ≢ id
       → get_elem? t.views other ≡ some w
-      → Shown f (record t { views = slice_set (slice_set t.views id (both v w)) other spent })
+      → Shown f (record t { views = slice_set (slice_set t.views id (joined_with v w)) other spent })
       r.core

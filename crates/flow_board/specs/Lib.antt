@@ -1,3 +1,4 @@
+pub mod Views
 pub mod Shows
 pub mod Rule
 pub mod Plays

@@ -1,6 +1,6 @@
 -- What each step tells its caller: of the step, the seat before, the word found and the seat after
-use Rattle.std.specs.Prelude.{◌≡◌, ℕ, ◌+◌, ◌<◌, ◌≤◌, ◌==◌, min, cond, List, ◌∷◌, length}
-use Rattle.std.specs.Prelude.{slice_index, Option, Some, None}
+use Rattle.std.specs.Prelude.{◌≡◌, ℕ, ◌+◌, ◌<◌, ◌≤◌, ◌==◌, min, List, length, slice_index}
+use Rattle.std.specs.Prelude.{Option, Some}
 use mathlib.Core.Option.{some}
 use Rattle.atomic_table.specs.Table.{Me, Step}
 use Rattle.gold_field.specs.declared.gold.TheConstants.{P}
@@ -8,9 +8,10 @@ use Rattle.flow_core.specs.declared.Hold.{Hold}
 use Rattle.flow_core.specs.Counts.{IsIn}
 use Rattle.flow_core.specs.Net.{reads_of, succs_of}
 use Rattle.flow_core.specs.Flow.{Flow, Refuses, Gives, answer_of, HasValue}
-use Rattle.flow_core.specs.Events.{hold}
 use Rattle.flow_board.specs.declared.view.View.{View}
 use Rattle.flow_board.specs.Shows.{cell_at}
+use Rattle.flow_board.specs.Views.{after_step, after_take, after_publish, after_release}
+use Rattle.flow_board.specs.Views.{after_look, after_finish, after_refuse}
 
 abbrev pub Sat : Type 0
 Sat = Me ℕ View
@@ -56,70 +57,35 @@ pub record CanRefuse (f : Flow) (o : Option Hold) : Type 0 where
   pub none_published : held.published ≡ 0
   pub refuses : answer_of f held.strand ≡ Refuses
 
-abbrev pub one_published : Option Hold → Option Hold
-one_published None = None
-one_published (Some h) = Some (hold h.strand (h.published + 1) h.released)
-
-abbrev pub one_released : Option Hold → Option Hold
-one_released None = None
-one_released (Some h) = Some (hold h.strand h.published (h.released + 1))
-
--- the strand that is held, if one is, in front of a list
-abbrev pub with_held : Option Hold → List ℕ → List ℕ
-with_held None ks = ks
-with_held (Some h) ks = h.strand ∷ ks
-
--- a view after one more step
-abbrev pub one_more : View → View
-one_more v = record v { steps = v.steps + 1 }
-
 -- the word of the cell c that was found has its value, a number of the field
 abbrev pub Finds : Flow → ℕ → ℕ → Type 0
 Finds f c r = (x : ℕ) × (r ≡ x + 1) × HasValue f c x × (x < P)
 
--- a view after a try of the strand k, whose word was r
-abbrev pub tries : View → ℕ → ℕ → View
-tries v k r =
-    record (one_more v) {
-      holding = cond (r == 0) (Some (hold k 0 0)) v.holding;
-      tried = k;
-      took =
-          r;
-    }
-
--- a view after its strand was given up as done or as refused, where `least` was seen to be l
-abbrev pub finishes_seeing : View → ℕ → View
-finishes_seeing v l =
-    record (one_more v) { holding = None; done = with_held v.holding v.done; seen = l }
-
-abbrev pub refuses_seeing : View → ℕ → View
-refuses_seeing v l =
-    record (one_more v) { holding = None; refused = with_held v.holding v.refused; seen = l }
-
 abbrev pub read_play : Told
 read_play st m r n =
-    (n ≡ (one_more m.0, m.1))
+    (n ≡ (after_step m.0 st.word r, m.1))
     × ((c : ℕ) → st.word ≡ cell_at c → Reads m.0.flow m.0.holding c → Finds m.0.flow c r)
 
 abbrev pub publish_play : Told
-publish_play st m r n = n ≡ (record (one_more m.0) { holding = one_published m.0.holding }, m.1)
+publish_play st m r n = n ≡ (after_publish m.0 st.word r, m.1)
 
 abbrev pub release_play : Told
-release_play st m r n =
-    n ≡ (record (one_more m.0) { holding = one_released m.0.holding; told = r }, m.1)
+release_play st m r n = n ≡ (after_release m.0 st.word r, m.1)
 
+-- the strand that is tried is the one that the step says
 abbrev pub take_play : Told
-take_play st m r n = (k : ℕ) → st.said ≡ some k → n ≡ (tries m.0 k r, m.1)
+take_play st m r n =
+    (k : ℕ) → st.said ≡ some k → n ≡ (after_take m.0 st.word r k (r == 0), m.1)
 
 abbrev pub finish_play : Told
-finish_play st m r n = (n ≡ (finishes_seeing m.0 r, m.1)) × (r ≤ m.0.seen)
+finish_play st m r n = (n ≡ (after_finish m.0 st.word r, m.1)) × (r ≤ m.0.seen)
 
 abbrev pub refuse_play : Told
 refuse_play st m r n =
-    (n ≡ (refuses_seeing m.0 (min r st.first), m.1)) × (min r st.first ≤ m.0.seen)
+    (n ≡ (after_refuse m.0 st.word r (min r st.first), m.1)) × (min r st.first ≤ m.0.seen)
 
 -- a number below that of the strands is one whose answer is a refusal
 abbrev pub look_play : Told
 look_play st m r n =
-    (n ≡ (record (one_more m.0) { seen = r }, m.1)) × (r ≤ m.0.seen) × (r ≤ m.0.flow.net.strands)
+    (n ≡ (after_look m.0 st.word r, m.1)) × (r ≤ m.0.seen) × (r ≤ m.0.flow.net.strands)
     × (r < m.0.flow.net.strands → answer_of m.0.flow r ≡ Refuses)

@@ -1,6 +1,6 @@
 -- The rule that holds between any two steps on a board, whoever makes them
-use Rattle.std.specs.Prelude.{◌≡◌, ℕ, ◌+◌, ◌-◌, ◌^◌, ◌<◌, ◌≤◌, min, [], ◌++◌, Some, None, Option}
-use Rattle.std.specs.Prelude.{List, slice_index, slice_index_or, length}
+use Rattle.std.specs.Prelude.{◌≡◌, ℕ, ◌+◌, ◌^◌, ◌<◌, ◌≤◌, Some, None, Option, List, slice_index}
+use Rattle.std.specs.Prelude.{slice_index_or, length}
 use mathlib.Core.Option.{some}
 use lib.ListN.{get_elem?}
 use Rattle.atomic_table.specs.Table as table
@@ -10,50 +10,14 @@ use Rattle.flow_core.specs.declared.Phase.TheVariants.{Waiting, Held, Done, Refu
 use Rattle.flow_core.specs.declared.Hold.{Hold}
 use Rattle.flow_core.specs.declared.State.{State}
 use Rattle.flow_core.specs.Counts.{total, same, times}
-use Rattle.flow_core.specs.Net.{net, IsNet, writes_of}
+use Rattle.flow_core.specs.Net.{IsNet, writes_of}
 use Rattle.flow_core.specs.Flow.{Flow, IsFlow}
 use Rattle.flow_core.specs.Core.{phase_of, IsKept}
 use Rattle.flow_core.specs.Events.{hold}
 use Rattle.flow_board.specs.declared.view.View.{View}
 use Rattle.flow_board.specs.declared.rule.TheConstants.{TAKEN}
+use Rattle.flow_board.specs.Views.{spent}
 use Rattle.flow_board.specs.Shows.{Shows, least_word, cell_at, counter_at}
-
--- the view of the first seat: nothing is done, and every part is its own
-abbrev pub first : Flow → View
-first f = record {
-  flow = f;
-  holding = None;
-  done = [];
-  refused = [];
-  seen = f.net.strands;
-  tried = 0;
-  took = 0;
-  told = 0;
-  steps = 0;
-  share = 65;
-}
-
--- the view of a seat that was joined into another
-abbrev pub spent : View
-spent = record (first (record { net = net 0 0 [] [] [] []; start = []; answers = [] }))
-    { share = 0 }
-
--- a seat is cut in two, and one of its parts goes to the new one
-abbrev pub left : View → View
-left v = record v { share = v.share - 1; steps = v.steps + 1 }
-
-abbrev pub right : View → View
-right v = record (first v.flow) { seen = v.seen; share = 1 }
-
--- a seat takes in another
-abbrev pub both : View → View → View
-both v w = record v {
-  done = v.done ++ w.done;
-  refused = v.refused ++ w.refused;
-  seen = min v.seen w.seen;
-  steps = v.steps + w.steps + 1;
-  share = v.share + w.share;
-}
 
 abbrev pub done_mark : Phase → ℕ
 done_mark Waiting = 0

@@ -1,10 +1,11 @@
-ghost use Rattle.std.specs.Prelude.{◌≡◌, ◌<◌, ◌≤◌, ◌↔◌, None, IsTrue, IfSome, MatchOption};
+ghost use Rattle.std.specs.Prelude.{◌≡◌, ◌+◌, ◌<◌, ◌≤◌, ◌↔◌, min, None, IsTrue, IfSome, MatchOption};
 ghost use Rattle.flow_core.specs.Flow.{Refuses, answer_of, HasValue};
+ghost use Rattle.flow_board.specs.Shows.{cell_at, counter_at};
+ghost use Rattle.flow_board.specs.Views.{after_step, after_take, after_publish, after_release};
+ghost use Rattle.flow_board.specs.Views.{after_look, after_finish, after_refuse, after_split};
+ghost use Rattle.flow_board.specs.Views.{cut_from, joined_with};
 ghost use Rattle.flow_board.specs.Plays.{Reads, CanPublish, CanRelease, CanFinish, CanRefuse};
-ghost use Rattle.flow_board.specs.Seats.{TellsNext, cut_from, joined_with, after_step};
-ghost use Rattle.flow_board.specs.Seats.{after_take};
-ghost use Rattle.flow_board.specs.Seats.{after_publish, after_release, after_look, after_finish};
-ghost use Rattle.flow_board.specs.Seats.{after_refuse, after_split};
+ghost use Rattle.flow_board.specs.Seats.{place_of, with_view, FillsNext, TellsNext};
 
 use crate::answers::Answers;
 use crate::rule::{Both, Finish, Halves, Look, Order, Publish, Read, Refuse, Release, TAKEN, Take};
@@ -49,11 +50,12 @@ impl<'g, A: Answers> Board<'g, A> {
     /// Takes a strand, where its word is 0: one compare-exchange on that word, whose answer is
     /// false exactly where it found another.
     pub fn take(&self, seat: &mut WorkSeat, strand: u32) -> bool
-        requires own { seat.old.place ≡ self.now }
-        requires free { seat.old.holding ≡ None }
+        requires own { place_of seat.old ≡ self.now }
+        requires free { seat.old.view.holding ≡ None }
         requires near { strand < self.now.flow.net.strands }
-        ensures found { IsTrue result ↔ (seat.new.took ≡ 0) }
-        ensures seat { seat.new ≡ after_take seat.old strand result seat.new.took }
+        ensures found { IsTrue result ↔ (seat.new.view.found ≡ 0) }
+        ensures seat { seat.new ≡ with_view seat.old (after_take seat.old.view
+            (counter_at self.now.flow strand) seat.new.view.found strand result) }
     {
         let word = 1 + self.cells as usize + strand as usize;
         let found = self
@@ -73,10 +75,11 @@ impl<'g, A: Answers> Board<'g, A> {
 
     /// The value of a cell that the seat's strand reads: one load.
     pub fn read(&self, seat: &mut WorkSeat, cell: u32) -> Gold
-        requires own { seat.old.place ≡ self.now }
-        requires reads { Reads self.now.flow seat.old.holding cell }
+        requires own { place_of seat.old ≡ self.now }
+        requires reads { Reads self.now.flow seat.old.view.holding cell }
         ensures value { HasValue self.now.flow cell result }
-        ensures seat { seat.new ≡ after_step seat.old }
+        ensures seat { seat.new ≡ with_view seat.old
+            (after_step seat.old.view (cell_at cell) (result + 1)) }
     {
         let word = self
             .table
@@ -90,9 +93,11 @@ impl<'g, A: Answers> Board<'g, A> {
 
     /// Fills the next cell of the seat's strand: one store.
     pub fn publish(&self, seat: &mut WorkSeat, value: Gold)
-        requires own { seat.old.place ≡ self.now }
-        requires next { CanPublish self.now.flow seat.old.holding value }
-        ensures { seat.new ≡ after_publish seat.old }
+        requires own { place_of seat.old ≡ self.now }
+        requires next { CanPublish self.now.flow seat.old.view.holding value }
+        ensures cell { FillsNext self.now.flow seat.old.view.holding seat.new.view.word }
+        ensures seat { seat.new ≡ with_view seat.old
+            (after_publish seat.old.view seat.new.view.word (value + 1)) }
     {
         let Some(held) = seat.held else {
             unreachable!()
@@ -111,11 +116,12 @@ impl<'g, A: Answers> Board<'g, A> {
 
     /// Tells the next successor of the seat's strand: one subtraction from its word.
     pub fn release(&self, seat: &mut WorkSeat) -> Released
-        requires own { seat.old.place ≡ self.now }
-        requires next { CanRelease self.now.flow seat.old.holding }
-        ensures strand { TellsNext self.now.flow seat.old.holding result.strand }
-        ensures ready { IsTrue result.ready ↔ (seat.new.told ≡ 1) }
-        ensures seat { seat.new ≡ after_release seat.old seat.new.told }
+        requires own { place_of seat.old ≡ self.now }
+        requires next { CanRelease self.now.flow seat.old.view.holding }
+        ensures strand { TellsNext self.now.flow seat.old.view.holding result.strand }
+        ensures ready { IsTrue result.ready ↔ (seat.new.view.found ≡ 1) }
+        ensures seat { seat.new ≡ with_view seat.old (after_release seat.old.view
+            (counter_at self.now.flow result.strand) seat.new.view.found) }
     {
         let Some(held) = seat.held else {
             unreachable!()
@@ -140,10 +146,11 @@ impl<'g, A: Answers> Board<'g, A> {
 
     /// Gives up the seat's strand as done, at one load of the word of the least refused strand.
     pub fn finish(&self, seat: &mut WorkSeat)
-        requires own { seat.old.place ≡ self.now }
-        requires last { CanFinish self.now.flow seat.old.holding }
-        ensures seen { seat.new.seen ≤ seat.old.seen }
-        ensures seat { seat.new ≡ after_finish seat.old seat.new.seen }
+        requires own { place_of seat.old ≡ self.now }
+        requires last { CanFinish self.now.flow seat.old.view.holding }
+        ensures seen { seat.new.view.seen ≤ seat.old.view.seen }
+        ensures seat { seat.new ≡ with_view seat.old
+            (after_finish seat.old.view 0 seat.new.view.found) }
     {
         let _least = self.table.shared.load::<Finish>(&mut seat.seat, 0);
         seat.held = None;
@@ -152,11 +159,13 @@ impl<'g, A: Answers> Board<'g, A> {
     /// Gives up the seat's strand as refused: one step by which the word of the least refused
     /// strand becomes the lesser of itself and this one.
     pub fn refuse(&self, seat: &mut WorkSeat)
-        requires own { seat.old.place ≡ self.now }
-        requires none { CanRefuse self.now.flow seat.old.holding }
-        ensures seen { seat.new.seen ≤ seat.old.seen }
-        ensures own_refusal { IfSome seat.old.holding (λ h. seat.new.seen ≤ h.strand) }
-        ensures seat { seat.new ≡ after_refuse seat.old seat.new.seen }
+        requires own { place_of seat.old ≡ self.now }
+        requires none { CanRefuse self.now.flow seat.old.view.holding }
+        ensures seen { seat.new.view.seen ≤ seat.old.view.seen }
+        ensures own_refusal { IfSome seat.old.view.holding
+            (λ h. seat.new.view.seen ≡ min seat.new.view.found h.strand) }
+        ensures seat { seat.new ≡ with_view seat.old
+            (after_refuse seat.old.view 0 seat.new.view.found seat.new.view.seen) }
     {
         let Some(held) = seat.held else {
             unreachable!()
@@ -170,12 +179,13 @@ impl<'g, A: Answers> Board<'g, A> {
 
     /// The least strand that has been refused so far: one load.
     pub fn least(&self, seat: &mut WorkSeat) -> Option<u32>
-        requires own { seat.old.place ≡ self.now }
-        ensures value { MatchOption result (seat.new.seen ≡ self.now.flow.net.strands)
-            (λ l. (l ≡ seat.new.seen) × (l < self.now.flow.net.strands)) }
+        requires own { place_of seat.old ≡ self.now }
+        ensures value { MatchOption result (seat.new.view.seen ≡ self.now.flow.net.strands)
+            (λ l. (l ≡ seat.new.view.seen) × (l < self.now.flow.net.strands)) }
         ensures refuses { IfSome result (λ l. answer_of self.now.flow l ≡ Refuses) }
-        ensures seen { seat.new.seen ≤ seat.old.seen }
-        ensures seat { seat.new ≡ after_look seat.old seat.new.seen }
+        ensures seen { seat.new.view.seen ≤ seat.old.view.seen }
+        ensures seat { seat.new ≡ with_view seat.old
+            (after_look seat.old.view 0 seat.new.view.found) }
     {
         let found = self.table.shared.load::<Look>(&mut seat.seat, 0);
         if found == u64::from(self.strands) {
@@ -187,11 +197,11 @@ impl<'g, A: Answers> Board<'g, A> {
 
     /// Cuts one part off a seat, for a new one.
     pub fn split(&self, seat: &mut WorkSeat) -> WorkSeat
-        requires own { seat.old.place ≡ self.now }
-        requires free { seat.old.holding ≡ None }
-        requires many { 2 ≤ seat.old.share }
-        ensures kept { seat.new ≡ after_split seat.old }
-        ensures cut { result ≡ cut_from seat.old }
+        requires own { place_of seat.old ≡ self.now }
+        requires free { seat.old.view.holding ≡ None }
+        requires many { 2 ≤ seat.old.view.share }
+        ensures kept { seat.new ≡ with_view seat.old (after_split seat.old.view) }
+        ensures cut { result ≡ with_view seat.old (cut_from seat.old.view) }
     {
         let cut = self.table.shared.split_seat::<Halves>(&mut seat.seat);
         WorkSeat {
@@ -202,11 +212,11 @@ impl<'g, A: Answers> Board<'g, A> {
 
     /// Takes another seat in, with its lists and its share.
     pub fn join(&self, seat: &mut WorkSeat, other: WorkSeat)
-        requires own { seat.old.place ≡ self.now }
-        requires other_own { other.place ≡ self.now }
-        requires free { seat.old.holding ≡ None }
-        requires other_free { other.holding ≡ None }
-        ensures { seat.new ≡ joined_with seat.old other }
+        requires own { place_of seat.old ≡ self.now }
+        requires other_own { place_of other ≡ self.now }
+        requires free { seat.old.view.holding ≡ None }
+        requires other_free { other.view.holding ≡ None }
+        ensures { seat.new ≡ with_view seat.old (joined_with seat.old.view other.view) }
     {
         let WorkSeat {
             seat: gone,

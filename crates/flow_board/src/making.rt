@@ -1,7 +1,7 @@
 // A board's first words and its last.
 ghost use Rattle.std.specs.Prelude.{◌≡◌, ◌^◌, IfOk};
 ghost use Rattle.flow_core.specs.Flow.{IsFlow};
-ghost use Rattle.flow_board.specs.Seats.{ListsStarts, first_seat};
+ghost use Rattle.flow_board.specs.Seats.{ListsStarts, first_seat, place_of};
 ghost use Rattle.flow_board.specs.Closed.{IsClosed};
 
 use crate::answers::Answers;
@@ -48,10 +48,10 @@ impl<'g, A: Answers + Drop> Board<'g, A> {
     /// Ends a board, once every other seat is joined into this one, and keeps its words. Takes no
     /// memory.
     pub fn close(self, seat: WorkSeat) -> Words
-        requires own { seat.place ≡ self }
-        requires free { seat.holding ≡ None }
-        requires whole { seat.share ≡ 65 }
-        ensures { IsClosed self.entry.flow seat.done seat.refused result }
+        requires own { place_of seat ≡ self }
+        requires free { seat.view.holding ≡ None }
+        requires whole { seat.view.share ≡ 65 }
+        ensures { IsClosed self.entry.flow seat.view.done seat.view.refused result }
     {
         let WorkSeat {
             seat: last,

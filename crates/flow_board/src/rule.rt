@@ -1,4 +1,5 @@
-ghost use Rattle.flow_board.specs.Rule.{Ruled, first, left, right, both, spent};
+ghost use Rattle.flow_board.specs.Views.{first, after_split, cut_from, joined_with, spent};
+ghost use Rattle.flow_board.specs.Rule.{Ruled};
 ghost use Rattle.flow_board.specs.Plays.{read_play, publish_play, release_play, take_play};
 ghost use Rattle.flow_board.specs.Plays.{finish_play, refuse_play, look_play};
 
@@ -20,18 +21,20 @@ impl<A: Answers> TableRule<u32, View, Snapshot<A>> for Order<A> {
     ghost first = { λ key. first (A.flow key.value) };
 }
 
+// Names for the kinds of step, which the table's calls are given: what each tells its caller stands
+// in specs/Plays.antt.
 pub struct Halves;
 
 impl Split<View> for Halves {
-    ghost left = { left };
+    ghost left = { after_split };
 
-    ghost right = { right };
+    ghost right = { cut_from };
 }
 
 pub struct Both;
 
 impl Join<View> for Both {
-    ghost both = { both };
+    ghost both = { joined_with };
 
     ghost spent = { spent };
 }

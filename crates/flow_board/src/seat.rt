@@ -28,7 +28,7 @@ impl Model for WorkSeat {
 impl WorkSeat {
     /// Whether the seat holds no strand.
     pub fn is_idle(&self) -> bool
-        ensures { IsTrue result ↔ (self.now.holding ≡ None) }
+        ensures { IsTrue result ↔ (self.now.view.holding ≡ None) }
     {
         self.held.is_none()
     }

@@ -15,11 +15,10 @@ pub struct View {
     pub ghost refused: { List ℕ },
     // The least refusal that it has seen, or the number of strands.
     pub ghost seen: { ℕ },
-    // The strand and the word of its last take.
-    pub ghost tried: { ℕ },
-    pub ghost took: { ℕ },
-    // The word that its last release found.
-    pub ghost told: { ℕ },
+    // The word that its last step was on, and the number that it found there, or put there by a
+    // store. Splits and joins are on no word.
+    pub ghost word: { ℕ },
+    pub ghost found: { ℕ },
     // How many steps it has made, and those of the seats that it took in.
     pub ghost steps: { ℕ },
     // How many of the board's 65 parts are its own.

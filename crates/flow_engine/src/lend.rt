@@ -1,5 +1,6 @@
 // Cutting seats for workers, handing them out, and taking them back.
 ghost use Rattle.std.specs.Prelude.{◌≡◌, ◌+◌, ◌≤◌, All, None, IfOk, OnSome, vec_len};
+ghost use Rattle.flow_board.specs.Seats.{place_of};
 ghost use Rattle.flow_engine.specs.Task.{answers_of};
 ghost use Rattle.flow_engine.specs.Lent.{IsFresh, IsBack};
 
@@ -19,15 +20,15 @@ pub fn cut_seats(
     seat: &mut WorkSeat,
     workers: u32,
 ) -> Result<Vec<WorkSeat>, AllocError>
-    requires own { seat.old.place ≡ board.now }
-    requires free { seat.old.holding ≡ None }
-    requires whole { seat.old.share ≡ 65 }
+    requires own { place_of seat.old ≡ board.now }
+    requires free { seat.old.view.holding ≡ None }
+    requires whole { seat.old.view.share ≡ 65 }
     requires few { workers ≤ 64 }
-    ensures own { seat.new.place ≡ board.now }
-    ensures free { seat.new.holding ≡ None }
+    ensures own { place_of seat.new ≡ board.now }
+    ensures free { seat.new.view.holding ≡ None }
     ensures fresh { IfOk result (λ seats. All (IsFresh board.now) seats.items) }
     ensures each { IfOk result (λ seats. vec_len seats ≡ workers) }
-    ensures share { IfOk result (λ seats. seat.new.share + workers ≡ 65) }
+    ensures share { IfOk result (λ seats. seat.new.view.share + workers ≡ 65) }
 {
     let mut seats = Vec::with_capacity(alloc, workers as usize)?;
     for _ in 0..workers {
@@ -81,12 +82,12 @@ pub fn take_back(
     seat: &mut WorkSeat,
     mut seats: Vec<WorkSeat>,
 ) -> Option<()>
-    requires own { seat.old.place ≡ board.now }
-    requires free { seat.old.holding ≡ None }
+    requires own { place_of seat.old ≡ board.now }
+    requires free { seat.old.view.holding ≡ None }
     requires back { All (IsBack board.now) seats.items }
-    ensures own { seat.new.place ≡ board.now }
-    ensures free { seat.new.holding ≡ None }
-    ensures share { OnSome result (seat.new.share ≡ seat.old.share + vec_len seats) }
+    ensures own { place_of seat.new ≡ board.now }
+    ensures free { seat.new.view.holding ≡ None }
+    ensures share { OnSome result (seat.new.view.share ≡ seat.old.view.share + vec_len seats) }
 {
     while let Some(other) = seats.pop() {
         if !other.is_idle() {

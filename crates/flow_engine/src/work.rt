@@ -2,6 +2,7 @@
 ghost use Rattle.std.specs.Prelude.{◌≡◌, ◌<◌, None, Some, OnOk, IsTrue};
 ghost use Rattle.flow_core.specs.Flow.{Gives, answer_of};
 ghost use Rattle.flow_core.specs.Events.{hold};
+ghost use Rattle.flow_board.specs.Seats.{place_of};
 ghost use Rattle.flow_engine.specs.Task.{answers_of, AreRead};
 
 use crate::answers::FlowAnswers;
@@ -42,12 +43,12 @@ fn gather(
     reads: &mut Vec<Gold>,
 ) -> Result<(), AllocError>
     requires flow { board.now.flow ≡ answers_of answers.now }
-    requires own { seat.old.place ≡ board.now }
+    requires own { place_of seat.old ≡ board.now }
     requires near { strand < answers.now.plan.graph.strands }
-    requires held { seat.old.holding ≡ Some (hold strand 0 0) }
-    ensures own { seat.new.place ≡ board.now }
-    ensures held { seat.new.holding ≡ Some (hold strand 0 0) }
-    ensures share { seat.new.share ≡ seat.old.share }
+    requires held { seat.old.view.holding ≡ Some (hold strand 0 0) }
+    ensures own { place_of seat.new ≡ board.now }
+    ensures held { seat.new.view.holding ≡ Some (hold strand 0 0) }
+    ensures share { seat.new.view.share ≡ seat.old.view.share }
     ensures reads { OnOk result (AreRead (answers_of answers.now) strand reads.new.items) }
 {
     let graph = answers.graph();
@@ -80,13 +81,13 @@ fn hand_in<R: Wait, G: Gate>(
     ready: &mut Vec<u32>,
 )
     requires flow { job.now.board.now.flow ≡ answers_of job.now.answers.now }
-    requires own { seat.old.place ≡ job.now.board.now }
+    requires own { place_of seat.old ≡ job.now.board.now }
     requires near { strand < job.now.answers.now.plan.graph.strands }
-    requires held { seat.old.holding ≡ Some (hold strand 0 0) }
+    requires held { seat.old.view.holding ≡ Some (hold strand 0 0) }
     requires gives { answer_of (answers_of job.now.answers.now) strand ≡ Gives values.now }
-    ensures own { seat.new.place ≡ job.now.board.now }
-    ensures free { seat.new.holding ≡ None }
-    ensures share { seat.new.share ≡ seat.old.share }
+    ensures own { place_of seat.new ≡ job.now.board.now }
+    ensures free { seat.new.view.holding ≡ None }
+    ensures share { seat.new.view.share ≡ seat.old.view.share }
 {
     let board = job.board;
     let graph = job.answers.graph();
@@ -112,12 +113,12 @@ fn run_taken<R: Wait, G: Gate>(
     desk: &mut Desk,
 ) -> Result<(), AllocError>
     requires flow { job.now.board.now.flow ≡ answers_of job.now.answers.now }
-    requires own { seat.old.place ≡ job.now.board.now }
+    requires own { place_of seat.old ≡ job.now.board.now }
     requires near { strand < job.now.answers.now.plan.graph.strands }
-    requires held { seat.old.holding ≡ Some (hold strand 0 0) }
-    ensures own { seat.new.place ≡ job.now.board.now }
-    ensures free { OnOk result (seat.new.holding ≡ None) }
-    ensures share { seat.new.share ≡ seat.old.share }
+    requires held { seat.old.view.holding ≡ Some (hold strand 0 0) }
+    ensures own { place_of seat.new ≡ job.now.board.now }
+    ensures free { OnOk result (seat.new.view.holding ≡ None) }
+    ensures share { seat.new.view.share ≡ seat.old.view.share }
 {
     job.gate.enter(strand);
     gather(job.board, job.answers, seat, strand, &mut desk.reads)?;
@@ -144,11 +145,11 @@ fn give_up<R: Wait>(rt: &R, pool: &Pool) {
 // Whether a strand is in range and below the least refusal that the seat sees.
 fn is_wanted<G: Gate>(job: &Job<'_, '_, '_, G>, seat: &mut WorkSeat, strand: u32) -> bool
     requires flow { job.now.board.now.flow ≡ answers_of job.now.answers.now }
-    requires own { seat.old.place ≡ job.now.board.now }
+    requires own { place_of seat.old ≡ job.now.board.now }
     ensures near { IsTrue result → strand < job.now.answers.now.plan.graph.strands }
-    ensures own { seat.new.place ≡ job.now.board.now }
-    ensures held { seat.new.holding ≡ seat.old.holding }
-    ensures share { seat.new.share ≡ seat.old.share }
+    ensures own { place_of seat.new ≡ job.now.board.now }
+    ensures held { seat.new.view.holding ≡ seat.old.view.holding }
+    ensures share { seat.new.view.share ≡ seat.old.view.share }
 {
     let graph = job.answers.graph();
     match job.board.least(seat) {
@@ -167,11 +168,11 @@ fn attend<R: Wait, G: Gate>(
     desk: &mut Desk,
 ) -> Result<(), AllocError>
     requires flow { job.now.board.now.flow ≡ answers_of job.now.answers.now }
-    requires own { seat.old.place ≡ job.now.board.now }
-    requires free { seat.old.holding ≡ None }
-    ensures own { seat.new.place ≡ job.now.board.now }
-    ensures free { OnOk result (seat.new.holding ≡ None) }
-    ensures share { seat.new.share ≡ seat.old.share }
+    requires own { place_of seat.old ≡ job.now.board.now }
+    requires free { seat.old.view.holding ≡ None }
+    ensures own { place_of seat.new ≡ job.now.board.now }
+    ensures free { OnOk result (seat.new.view.holding ≡ None) }
+    ensures share { seat.new.view.share ≡ seat.old.view.share }
 {
     if is_wanted(job, seat, strand) && job.board.take(seat, strand) {
         run_taken(rt, alloc, job, seat, strand, desk)
@@ -192,10 +193,10 @@ fn next<R: Wait>(rt: &R, pool: &Pool, mine: &mut Vec<u32>) -> Option<u32> {
 /// runs out the seat is left with its strand.
 pub fn work<R: Wait, G: Gate>(rt: &R, alloc: Global, job: &Job<'_, '_, '_, G>, seat: &mut WorkSeat)
     requires flow { job.now.board.now.flow ≡ answers_of job.now.answers.now }
-    requires own { seat.old.place ≡ job.now.board.now }
-    requires free { seat.old.holding ≡ None }
-    ensures own { seat.new.place ≡ job.now.board.now }
-    ensures share { seat.new.share ≡ seat.old.share }
+    requires own { place_of seat.old ≡ job.now.board.now }
+    requires free { seat.old.view.holding ≡ None }
+    ensures own { place_of seat.new ≡ job.now.board.now }
+    ensures share { seat.new.view.share ≡ seat.old.view.share }
 {
     job.pool.enter(rt);
     let mut desk = Desk {

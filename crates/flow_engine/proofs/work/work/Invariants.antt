@@ -1,9 +1,10 @@
 use Rattle.std.proofs.Common.{◌≡◌, None}
+use Rattle.flow_board.specs.Seats.{place_of}
 use Rattle.flow_engine.proofs.work.work.Given as goal
 
 abbrev pub invariant-loop : goal.invariant-loop
 invariant-loop g l = record {
-  own : l.seat.place ≡ l.job.board.now;
-  free : l.seat.holding ≡ None;
-  share : l.seat.share ≡ l.fn.seat.share;
+  own : place_of l.seat ≡ l.job.board.now;
+  free : l.seat.view.holding ≡ None;
+  share : l.seat.view.share ≡ l.fn.seat.view.share;
 }

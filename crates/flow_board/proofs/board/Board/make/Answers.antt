@@ -2,7 +2,8 @@ use Rattle.std.proofs.Common.{List, ℕ, sym, ◌∙◌, ap, subst, [], arith}
 use Rattle.atomic_table.specs.Table as table
 use Rattle.flow_core.specs.Events.{opening}
 use Rattle.flow_board.specs.Shows.{Shows}
-use Rattle.flow_board.specs.Rule.{first, Ruled}
+use Rattle.flow_board.specs.Views.{first}
+use Rattle.flow_board.specs.Rule.{Ruled}
 use Rattle.flow_board.specs.Seats.{Stands}
 use Rattle.flow_board.proofs.Makes.{opens_board, stands}
 use Rattle.flow_board.proofs.board.Board.make.Goals as goal

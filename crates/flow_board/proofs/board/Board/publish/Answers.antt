@@ -5,7 +5,7 @@ use Rattle.flow_board.proofs.board.Board.publish.Goals as goal
 
 pub store-requires : goal.store-requires
 store-requires g c = let N : ℕ
-    → Type 0 = λ x. CanPublish c.args.self.now.flow c.args.seat.now.holding x in
+    → Type 0 = λ x. CanPublish c.args.self.now.flow c.args.seat.now.view.holding x in
     publish_asks
     (sits c.self.invariant c.seat.view_is c.self.view_is c.requires.own c.seat.invariant) _
     (get_or c.writes_of.result.now c.in-Some.held.published 0) c.get.result c.in-Some.held

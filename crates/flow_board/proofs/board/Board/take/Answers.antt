@@ -1,8 +1,8 @@
-use Rattle.std.proofs.Common.{◌≡◌, ◌==◌, Bool, true, false, cond, refl, sym, ◌∙◌, ap, Some}
+use Rattle.std.proofs.Common.{◌≡◌, ◌+◌, ◌==◌, Bool, true, false, cond, refl, sym, ◌∙◌, ap, Some}
 use Rattle.std.proofs.lemmas.Bool.{eq-eqb, ne_eqb}
 use Rattle.flow_core.specs.Events.{hold}
-use Rattle.flow_board.specs.Plays.{tries}
-use Rattle.flow_board.proofs.Calls.{sits, take_asks, take_leaves, took_says, seat_fits}
+use Rattle.flow_board.specs.Views.{after_take}
+use Rattle.flow_board.proofs.Calls.{sits, take_asks, take_leaves, take_found, seat_fits}
 use Rattle.flow_board.proofs.board.Board.take.Goals as goal
 
 pub compare_exchange_with-found-requires : goal.compare_exchange_with-found-requires
@@ -17,16 +17,20 @@ invariant_of-seat g c = let h : cond (c.compare_exchange_with-found.result == 0)
     ap (λ (b : Bool). cond b (Some (hold c.args.strand 0 0)) c.seat.inside.seat.me.0.holding)
     (ne_eqb c.compare_exchange_with-found.result 0 c.if-found-ne0.true) in
     seat_fits c.compare_exchange_with-found.new.seat.me
-    (tries c.seat.inside.seat.me.0 c.args.strand c.compare_exchange_with-found.result)
+    (after_take c.seat.inside.seat.me.0 (1 + c.self.inside.cells + c.args.strand)
+    c.compare_exchange_with-found.result c.args.strand
+    (c.compare_exchange_with-found.result == 0))
     c.seat.inside.seat.me.1 c.seat.inside.held
     (c.compare_exchange_with-found.ensures.2 c.args.strand refl)
     (h ∙ c.seat.invariant.0) c.seat.invariant.1 c.seat.invariant.2
 
 pub returns-then-found-ne0-clause-found : goal.returns-then-found-ne0-clause-found
-returns-then-found-ne0-clause-found g c = took_says
+returns-then-found-ne0-clause-found g c = take_found
     (sits c.self.invariant c.seat.view_is c.self.view_is c.requires.own c.seat.invariant)
     c.compare_exchange_with-found.result false c.compare_exchange_with-found.new.seat.me
-    (tries c.seat.inside.seat.me.0 c.args.strand c.compare_exchange_with-found.result)
+    (after_take c.seat.inside.seat.me.0 (1 + c.self.inside.cells + c.args.strand)
+    c.compare_exchange_with-found.result c.args.strand
+    (c.compare_exchange_with-found.result == 0))
     (sym (ne_eqb c.compare_exchange_with-found.result 0 c.if-found-ne0.true))
     (c.compare_exchange_with-found.ensures.2 c.args.strand refl) refl
 
@@ -37,7 +41,7 @@ returns-then-found-ne0-clause-seat g c = take_leaves
     c.compare_exchange_with-found.result c.args.strand false
     c.compare_exchange_with-found.ensures.0
     (c.compare_exchange_with-found.ensures.2 c.args.strand refl)
-    (sym (ne_eqb c.compare_exchange_with-found.result 0 c.if-found-ne0.true)) c.requires.free
+    (sym (ne_eqb c.compare_exchange_with-found.result 0 c.if-found-ne0.true))
 
 pub invariant_of-seat-2 : goal.invariant_of-seat-2
 invariant_of-seat-2 g c = let h : cond (c.compare_exchange_with-found.result == 0)
@@ -46,16 +50,20 @@ invariant_of-seat-2 g c = let h : cond (c.compare_exchange_with-found.result == 
     ap (λ (b : Bool). cond b (Some (hold c.args.strand 0 0)) c.seat.inside.seat.me.0.holding)
     (eq-eqb c.compare_exchange_with-found.result 0 c.if-found-ne0.false) in
     seat_fits c.compare_exchange_with-found.new.seat.me
-    (tries c.seat.inside.seat.me.0 c.args.strand c.compare_exchange_with-found.result)
+    (after_take c.seat.inside.seat.me.0 (1 + c.self.inside.cells + c.args.strand)
+    c.compare_exchange_with-found.result c.args.strand
+    (c.compare_exchange_with-found.result == 0))
     c.seat.inside.seat.me.1 (Some (hold c.args.strand 0 0))
     (c.compare_exchange_with-found.ensures.2 c.args.strand refl) h c.seat.invariant.1
     c.seat.invariant.2
 
 pub returns-clause-found : goal.returns-clause-found
-returns-clause-found g c = took_says
+returns-clause-found g c = take_found
     (sits c.self.invariant c.seat.view_is c.self.view_is c.requires.own c.seat.invariant)
     c.compare_exchange_with-found.result true c.compare_exchange_with-found.new.seat.me
-    (tries c.seat.inside.seat.me.0 c.args.strand c.compare_exchange_with-found.result)
+    (after_take c.seat.inside.seat.me.0 (1 + c.self.inside.cells + c.args.strand)
+    c.compare_exchange_with-found.result c.args.strand
+    (c.compare_exchange_with-found.result == 0))
     (sym (eq-eqb c.compare_exchange_with-found.result 0 c.if-found-ne0.false))
     (c.compare_exchange_with-found.ensures.2 c.args.strand refl) refl
 
@@ -66,4 +74,4 @@ returns-clause-seat g c = take_leaves
     c.compare_exchange_with-found.result c.args.strand true
     c.compare_exchange_with-found.ensures.0
     (c.compare_exchange_with-found.ensures.2 c.args.strand refl)
-    (sym (eq-eqb c.compare_exchange_with-found.result 0 c.if-found-ne0.false)) c.requires.free
+    (sym (eq-eqb c.compare_exchange_with-found.result 0 c.if-found-ne0.false))
