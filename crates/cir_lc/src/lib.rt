@@ -9,5 +9,5 @@ mod sums;
 
 pub use change::{in_order, multiple, subst};
 pub use laws::{constant_part, form_numbers, one_combination, one_form, one_normal, term_count};
-pub use quad::{Quad, normal, times};
+pub use quad::{Quad, copy_of, minus, normal, times};
 pub use sums::{add, add_multiple, scale, signal_and};

@@ -133,7 +133,8 @@ fn less(alloc: Global, rest: Lc, factor: &Lc, k: Gold) -> Result<Lc, AllocError>
     Ok(f)
 }
 
-pub(crate) fn minus(alloc: Global, a: &Lc) -> Result<Lc, AllocError>
+/// `-a`.
+pub fn minus(alloc: Global, a: &Lc) -> Result<Lc, AllocError>
     ensures value { IfOk result (λ f. value_of f ≡ negated (value_of a.now)) }
     ensures within { IfOk result (λ f. (n : ℕ) → IsWithin n a.now → IsWithin n f) }
 {
@@ -141,7 +142,8 @@ pub(crate) fn minus(alloc: Global, a: &Lc) -> Result<Lc, AllocError>
     Ok(f)
 }
 
-pub(crate) fn copy_of(alloc: Global, a: &Lc) -> Result<Lc, AllocError>
+/// The same linear combination.
+pub fn copy_of(alloc: Global, a: &Lc) -> Result<Lc, AllocError>
     ensures { IfOk result (λ f. f ≡ a.now) }
 {
     let terms = Vec::from_slice(alloc, a.as_slice())?;

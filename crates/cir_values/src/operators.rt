@@ -6,8 +6,8 @@ ghost use Rattle.cir_meaning.specs.Values as M;
 ghost use Rattle.cir_values.specs.Meant.{meant, meant_option, meant_lazy, meant_side};
 ghost use Rattle.cir_values.specs.Meant.{strict_result, IsValueWithin};
 
-use crate::value::{Value, difference, form_copy, negative, product, sum, times_known, zero};
-use cir_lc::Quad;
+use crate::value::{Value, difference, negative, product, sum, times_known, zero};
+use cir_lc::{Quad, copy_of};
 use gold_field::{Gold, Lc, Op1, Op2, binary, unary};
 use std::alloc::{AllocError, Global};
 
@@ -215,7 +215,7 @@ fn linear_power(alloc: Global, f: Lc, e: Gold) -> Result<Value, AllocError>
         0 => Ok(Value::Known(Gold::ONE)),
         1 => Ok(Value::Linear(f)),
         2 => {
-            let g = form_copy(alloc, &f)?;
+            let g = copy_of(alloc, &f)?;
             let c = zero(alloc);
             Ok(Value::Quadratic(Quad { a: f, b: g, c }))
         }

@@ -8,7 +8,7 @@ ghost use Rattle.cir_meaning.specs.Values.{Known as KnownValue, Linear as Linear
 ghost use Rattle.cir_meaning.specs.Values.{Quadratic as QuadraticValue};
 ghost use Rattle.cir_values.specs.Meant.{meant, meant_parts, IsValueWithin};
 
-use cir_lc::{Quad, add, add_multiple, scale};
+use cir_lc::{Quad, add, add_multiple, copy_of, minus, scale};
 use gold_field::{Gold, Lc, Term};
 use std::alloc::{AllocError, Global};
 
@@ -34,7 +34,7 @@ impl Value {
         match self {
             Value::Known(k) => Ok(Value::Known(*k)),
             Value::Linear(f) => {
-                let f = form_copy(alloc, f)?;
+                let f = copy_of(alloc, f)?;
                 Ok(Value::Linear(f))
             }
             Value::Quadratic(q) => {
@@ -65,19 +65,12 @@ impl Value {
     }
 }
 
-pub(crate) fn form_copy(alloc: Global, f: &Lc) -> Result<Lc, AllocError>
-    ensures { IfOk result (λ g. g ≡ f.now) }
-{
-    let terms = Vec::from_slice(alloc, f.as_slice())?;
-    Ok(Lc::of(terms))
-}
-
 fn quad_copy(alloc: Global, q: &Quad) -> Result<Quad, AllocError>
     ensures { IfOk result (λ r. r ≡ q.now) }
 {
-    let a = form_copy(alloc, &q.a)?;
-    let b = form_copy(alloc, &q.b)?;
-    let c = form_copy(alloc, &q.c)?;
+    let a = copy_of(alloc, &q.a)?;
+    let b = copy_of(alloc, &q.b)?;
+    let c = copy_of(alloc, &q.c)?;
     Ok(Quad { a, b, c })
 }
 
@@ -376,14 +369,6 @@ fn scaled_quad(alloc: Global, q: Quad, k: Gold) -> Result<Quad, AllocError>
     let a = scale(alloc, &a, k)?;
     let c = scale(alloc, &c, k)?;
     Ok(Quad { a, b, c })
-}
-
-fn minus(alloc: Global, f: &Lc) -> Result<Lc, AllocError>
-    ensures value { IfOk result (λ g. value_of g ≡ negated (value_of f.now)) }
-    ensures within { IfOk result (λ g. (n : ℕ) → IsWithin n f.now → IsWithin n g) }
-{
-    let g = scale(alloc, f, Gold::ONE.neg())?;
-    Ok(g)
 }
 
 /// No term.
