@@ -24,7 +24,7 @@ use Rattle.flow_board.proofs.Views.{terms_le}
 use Rattle.flow_board.proofs.Moved.{Board}
 use Rattle.flow_board.proofs.Steps.{none_some, least_told}
 
-only_one : {A : Type 0} (x y : A) (j : ℕ) → get_elem? (x ∷ []) j ≡ some y → (j ≡ 0) × (x ≡ y)
+pub only_one : {A : Type 0} (x y : A) (j : ℕ) → get_elem? (x ∷ []) j ≡ some y → (j ≡ 0) × (x ≡ y)
 only_one x y zero e = (refl, some-injective x y e)
 only_one x y (suc j) e = absurd (some-ne-none y (sym e))
 

@@ -8,5 +8,6 @@ pub mod Ends
 pub mod Calls
 pub mod Openings
 pub mod Makes
+pub mod Begins
 pub mod Who
 pub mod Last

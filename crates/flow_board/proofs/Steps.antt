@@ -59,7 +59,7 @@ filled_some : (o : Option ℕ) → is_some o ≡ true → (x : ℕ) × (o ≡ So
 filled_some None e = cc
 filled_some (Some x) e = (x, refl)
 
-cases_start : (o : Option ℕ) → (o ≡ None) ⊎ ((x : ℕ) × (o ≡ Some x))
+pub cases_start : (o : Option ℕ) → (o ≡ None) ⊎ ((x : ℕ) × (o ≡ Some x))
 cases_start None = inl refl
 cases_start (Some x) = inr (x, refl)
 

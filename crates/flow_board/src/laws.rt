@@ -1,16 +1,25 @@
 //! What the rule of a board says, as contracts of functions that do nothing.
-ghost use Rattle.std.specs.Prelude.{◌≡◌, ℕ, ◌<◌, IsTrue, List};
+ghost use Rattle.std.specs.Prelude.{◌≡◌, ℕ, ◌<◌, IsTrue, List, []};
 ghost use mathlib.Core.Option.{some};
 ghost use lib.ListN.{get_elem?};
-ghost use Rattle.atomic_table.specs.Table.{State as TableState};
+ghost use Rattle.atomic_table.specs.Table.{State as TableState, opening as first_table};
 ghost use Rattle.flow_core.specs.Flow.{Flow};
 ghost use Rattle.flow_board.specs.declared.view.View.{View as AView};
+ghost use Rattle.flow_core.specs.Events.{opening};
 ghost use Rattle.flow_core.specs.Quiet.{IsBelow};
 ghost use Rattle.flow_board.specs.Plays.{Sat};
-ghost use Rattle.flow_board.specs.Events.{WordSteps, SeatSteps};
+ghost use Rattle.flow_board.specs.Views.{first};
+ghost use Rattle.flow_board.specs.Events.{Shown, WordSteps, SeatSteps};
 ghost use Rattle.flow_board.specs.Rule.{Ruled, SaysWho};
 ghost use Rattle.flow_board.specs.Closed.{Closing, IsClosed, IsDoneBelow, HasOnlyAnswers};
 ghost use Rattle.flow_board.specs.Closed.{done_in, least_in};
+
+/// A board begins in the core's opening state: whatever words the first seat's table has under the
+/// rule before any step, they show that state.
+pub fn a_board_begins_in_the_opening_state()
+    ensures { (f : Flow) (ws : List ℕ) → Ruled f (first_table ws [] (first f))
+        → Shown f (first_table ws [] (first f)) (opening f) }
+{}
 
 /// Between any two steps the counter words say who has a strand, and the cell that a worker fills
 /// next is empty.
@@ -33,7 +42,7 @@ pub fn closed_words_have_only_answers()
 {}
 
 /// Each step on a word that a board's calls make is one event of the core, or leaves its state as
-/// it was: the calls make no other steps, for the table asks of each just what stands here.
+/// it was: a call's step must be allowed by the rule, and each that is stands here.
 pub fn each_step_is_one_event_or_none()
     ensures { (f : Flow) (slots id : ℕ) (m : Sat) → 0 < m.0.share → WordSteps f slots id m }
 {}
