@@ -18,7 +18,7 @@ use std::sync::Wait;
 use std::thread::Threads;
 use wit_circuit::{CircuitCode, LogLine, StepPlace};
 use wit_code::Stop;
-use wit_flow::{Flow, Outcome, cut, run_one};
+use wit_flow::{Flow, Outcome, cut};
 
 /// A circuit whose steps are cut into strands. It is run on any number of inputs.
 #[derive(Drop)]
@@ -119,21 +119,9 @@ impl CutCircuit {
         }
     }
 
-    /// Runs the steps on one thread, each with this fuel, from these numbers in the start cells: 1,
-    /// and the inputs of the main component. The answer is the program's run.
-    pub fn run_one(&self, alloc: Global, start: &[Gold], fuel: u64) -> Result<RunEnd, AllocError>
-        requires { (p : Program) × (inputs : List ℕ)
-            × IsTask p (code_in self.now) start.now inputs }
-        ensures { (p : Program) (inputs : List ℕ)
-            (task : IsTask p (code_in self.now) start.now inputs)
-            → IfOk result (λ end. IsEndOf task.meaning.instances end (ran p fuel inputs)) }
-    {
-        let outcome = run_one(alloc, &self.flow, start, fuel)?;
-        self.end_of(alloc, outcome)
-    }
-
-    /// The same on 1 to 64 workers: whatever their number, and whatever comes first in time, the
-    /// answer is the program's run.
+    /// Runs the steps on 1 to 64 workers, each step with this fuel, from these numbers in the start
+    /// cells: 1, and the inputs of the main component. Whatever the workers' number, and whatever
+    /// comes first in time, the answer is the program's run.
     pub fn run_many<R: Threads + Wait + AllocGlobal + Sync, G: Gate>(
         &self,
         rt: &R,
