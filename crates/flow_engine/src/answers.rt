@@ -50,6 +50,7 @@ impl<'s> FlowAnswers<'s> {
     {
         let flow = self.flow;
         flow.facts();
+        // A look at a field opens the type, so that the proof has what it keeps.
         let _start = self.start;
     }
 

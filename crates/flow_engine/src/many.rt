@@ -97,6 +97,7 @@ pub fn run_many<R: Threads + Wait + AllocGlobal + Sync, G: Gate>(
         (one_thread flow.now start.now fuel)) }
 {
     let alloc = rt.alloc();
+    // The board keeps one, and the workers share the other.
     let answers = FlowAnswers::of(flow, start, fuel);
     let own = FlowAnswers::of(flow, start, fuel);
     let words = run_board(rt, alloc, &answers, own, workers, gate)?;

@@ -2,10 +2,10 @@ use crate::state::PoolState;
 use std::sync::{Condvar, Mutex, Wait};
 
 /// `next_some` hands out at most so many strands beside the one that is asked for, and no more than
-/// one in `SPARED` of those that are left.
+/// one in `SHARE` of those that are left.
 const MOST: usize = 256;
 
-const SPARED: usize = 64;
+const SHARE: usize = 64;
 
 /// Ready strands, which any number of threads share. No clause says what the lock holds at a call,
 /// and no answer of the engine rests on it.
@@ -77,15 +77,15 @@ impl Pool {
     }
 
     /// What `next` gives; and where many strands are left some of them too, so that not every
-    /// strand costs a lock: these go into `more`, the next one last. Each worker leaves far more to
-    /// the others.
+    /// strand costs a lock: these go into `more`, which is empty at first, the next one last. Each
+    /// worker leaves far more to the others.
     pub fn next_some<R: Wait>(&self, rt: &R, more: &mut Vec<u32>) -> Option<u32> {
         let mut state = self.state.lock(rt);
         let Some(strand) = state.take() else {
             drop(state);
             return self.next(rt);
         };
-        for _ in 0..MOST.min(state.left() / SPARED) {
+        for _ in 0..MOST.min(state.left() / SHARE) {
             if let Some(other) = state.take() {
                 if more.push(other).is_err() {
                     let _put = state.put(other);
