@@ -7,5 +7,5 @@ mod roots;
 mod transform;
 
 pub use polynomial::{eval, mul, padded};
-pub use roots::root;
+pub use roots::{ROOT, root};
 pub use transform::{coset_ntt, intt, ntt, scale_by_powers};
