@@ -1,7 +1,7 @@
 -- A file that is read is within the limits.
-use Rattle.std.proofs.Common.{◌≡◌, ℕ, zero, suc, ◌+◌, ◌-◌, ◌≤◌, Bool, true, false, leb, eqb, cond, List, []}
-use Rattle.std.proofs.Common.{◌∷◌, length, map, sum_by, Result, Ok, Err, refl, sym, ap, subst, ◌∙◌}
-use Rattle.std.proofs.Common.{arith}
+use Rattle.std.proofs.Common.{◌≡◌, ℕ, zero, suc, ◌+◌, ◌-◌, ◌≤◌, Bool, true, false, leb, eqb, cond}
+use Rattle.std.proofs.Common.{List, [], ◌∷◌, length, map, sum_by, Result, Ok, Err, refl, sym, ap}
+use Rattle.std.proofs.Common.{subst, ◌∙◌, arith}
 use Rattle.std.specs.Int.{w32}
 use Rattle.std.proofs.lemmas.Bool.{leb-true}
 use Rattle.std.proofs.lemmas.List.Sums.{sum_by-cons}
@@ -187,7 +187,8 @@ section_few z s ks e =
     let meant_all : List Constraint × List ℕ = (map (meaning z.wires) raw.0.0, raw.0.1) in
     let same = same_value meant_all found.0 raw.2 in
     let list = ap (λ (x : List Constraint × List ℕ). x.0) same ∙ same_value found.0.0 ks all.2 in
-    subst (λ (js : List Constraint). (length js ≡ z.constraints) × (sum_by term_count js ≤ most_terms))
+    subst
+    (λ (js : List Constraint). (length js ≡ z.constraints) × (sum_by term_count js ≤ most_terms))
     list (map_len z.wires raw.0.0 ∙ few.0, few.1)
 
 -- ---- the file
