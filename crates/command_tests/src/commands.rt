@@ -42,9 +42,11 @@ fn wtns<R: AllocGlobal + Abort>(rt: &R, values: &[u64]) -> Vec<u8> {
     bytes
 }
 
+// The words between the gaps. `""` stands for an empty one.
 fn split<R: AllocGlobal + Abort>(rt: &R, words: &str) -> Vec<String> {
     let mut texts = Vec::new(rt.alloc());
     for word in words.split_whitespace() {
+        let word = if word == "\"\"" { "" } else { word };
         let text = String::from_str(rt.alloc(), word).expect(rt, "memory");
         texts.push(text).expect(rt, "memory");
     }
@@ -165,80 +167,144 @@ fn check_answers_by_count_then_wire_0_then_constraints(rt: HostRuntime) {
     }
 }
 
-#[test]
-fn names_a_file_that_is_not_there(rt: HostRuntime) {
-    let mut store = store(&rt, &R1CS, &[1, 33, 3, 11]);
-    let line = "refused: no.r1cs: no such file\n";
-    says(&rt, "check no.r1cs m.wtns", &mut store, 1, line);
-}
-
 static MUL: &str = "template Mul() { signal input a; signal input b; signal output c; c <== a*b; }";
 
-// The files of both commands, and a call of the store that fails.
+// The files of all commands, and a call of the store that fails.
 fn failing_store<R: AllocGlobal + Abort>(rt: &R, fail: u32) -> MemStore {
     let mut store = store(rt, &R1CS, &[1, 33, 3, 11]);
     let including = b"include \"b.circom\"; component main = Mul();";
     put_file(rt, &mut store, "a.circom", including);
     put_file(rt, &mut store, "b.circom", MUL.as_bytes());
+    put_file(rt, &mut store, "i.json", b"{\"a\":3,\"b\":11}");
+    put_file(rt, &mut store, "m.json", b"[33]");
+    put_file(rt, &mut store, "m.bytes", b"no proof");
     store.fail.push(fail).expect(rt, "memory");
     store
 }
 
+// The files are asked for in the order of the words, and none behind one that isn't there.
+#[test]
+fn names_a_file_that_is_not_there(rt: HostRuntime) {
+    let mut store = failing_store(&rt, 1);
+    let line = "refused: no.r1cs: no such file\n";
+    says(&rt, "check no.r1cs m.wtns", &mut store, 1, line);
+    same(&rt, store.calls, 1);
+}
+
 // The store's call of this number fails: the status is 3, and no file is written.
-fn is_fault<R: Threads + Wait + AllocGlobal + Sync + Abort>(
-    rt: &R,
-    words: &str,
-    store: &mut MemStore,
-    fail: u32,
-    written: &str,
-) {
-    says(rt, words, store, 3, "fault: store\n");
+fn is_fault<R: Threads + Wait + AllocGlobal + Sync + Abort>(rt: &R, words: &str, fail: u32) {
+    let mut store = failing_store(rt, fail);
+    says(rt, words, &mut store, 3, "fault: store\n");
     same(rt, store.calls, fail.saturating_add(1));
-    same(rt, store.files.contains_key(written), false);
+    same(rt, store.files.contains_key("n.out"), false);
 }
 
 // The sink fails: the status is 3, and nothing is said.
 fn is_lost<R: Threads + Wait + AllocGlobal + Sync + Abort>(
     rt: &R,
     words: &str,
-    store: &mut MemStore,
     calls: u32,
+    written: bool,
 ) {
-    let lost = run_lost(rt, words, store);
+    let mut store = failing_store(rt, calls);
+    let lost = run_lost(rt, words, &mut store);
     same(rt, (lost.status, lost.asked, lost.puts), (3, calls, 1));
     same(rt, lost.text.is_empty(), true);
+    same(rt, store.files.contains_key("n.out"), written);
 }
 
-// So many calls of the store, of which each fails once, and the text where none does.
-fn each_call_fails<R: Threads + Wait + AllocGlobal + Sync + Abort>(
+// No call fails: so many are made.
+fn is_answered<R: Threads + Wait + AllocGlobal + Sync + Abort>(
     rt: &R,
     words: &str,
     calls: u32,
-    text: &str,
+    status: u8,
+    line: &str,
 ) {
-    for fail in 0..calls {
-        is_fault(rt, words, &mut failing_store(rt, fail), fail, "n.r1cs");
-    }
     let mut store = failing_store(rt, calls);
-    says(rt, words, &mut store, 0, text);
+    says(rt, words, &mut store, status, line);
     same(rt, store.calls, calls);
-    let mut store = failing_store(rt, calls);
-    is_lost(rt, words, &mut store, calls);
-    same(rt, store.files.contains_key("n.r1cs"), calls == 3);
 }
+
+// Each command, and words that name one file twice: how many calls of the store they make, whether
+// the last one writes n.out, the status and the line.
+static CALLS: [(&str, u32, bool, u8, &str); 9] = [
+    ("check m.r1cs m.wtns", 2, false, 0, "satisfied\n"),
+    (
+        "check m.r1cs m.r1cs",
+        1,
+        false,
+        1,
+        "refused: m.r1cs: F1 Magic at byte 0\n",
+    ),
+    (
+        "compile a.circom n.out",
+        3,
+        true,
+        0,
+        "compiled: wires 4, constraints 1\n",
+    ),
+    (
+        "witness a.circom i.json n.out",
+        4,
+        true,
+        0,
+        "witness: values 4\n",
+    ),
+    (
+        "witness a.circom b.circom n.out",
+        2,
+        false,
+        1,
+        "refused: I1 NotJson\n",
+    ),
+    (
+        "prove m.r1cs m.wtns n.out --proof=1 \
+            --seed=0000000000000000000000000000000000000000000000000000000000000000",
+        3,
+        true,
+        0,
+        "proved: bytes 56872\n",
+    ),
+    (
+        "public m.r1cs m.wtns n.out",
+        3,
+        true,
+        0,
+        "public: values 1\n",
+    ),
+    (
+        "audit m.r1cs m.json m.bytes",
+        3,
+        false,
+        2,
+        "rejected: 2 Malformed at byte 8\n",
+    ),
+    (
+        "audit m.r1cs m.r1cs m.bytes",
+        1,
+        false,
+        1,
+        "refused: I1 NotJson\n",
+    ),
+];
 
 #[test]
 fn each_call_that_fails_is_answered_with_3(rt: HostRuntime) {
-    each_call_fails(&rt, "check m.r1cs m.wtns", 2, "satisfied\n");
-    let compiled = "compiled: wires 4, constraints 1\n";
-    each_call_fails(&rt, "compile a.circom n.r1cs", 3, compiled);
+    for (words, calls, written, status, line) in CALLS.as_slice() {
+        for fail in 0..*calls {
+            is_fault(&rt, words, fail);
+        }
+        is_answered(&rt, words, *calls, *status, line);
+        is_lost(&rt, words, *calls, *written);
+    }
 }
 
 static USAGE: &str =
     "usage: circom_gold check, compile, witness, prove, public, audit, sym, batch, \
     series, determine, confirm or generate\n";
 
-static NO_READING: [&str; 39] = [
+static NO_READING: [&str; 40] = [
     "",
     "check m.r1cs",
     "check a b c",
@@ -271,6 +337,7 @@ static NO_READING: [&str; 39] = [
     "witness a b c --workers",
     "witness a b c --workers 0",
     "witness a b c --workers 65",
+    "witness a b c --work 8",
     "witness a b c --fuel 4294967296",
     "witness a b c --O1 --O2",
     "generate 7",
@@ -540,6 +607,8 @@ fn files_that_include_each_other_are_followed(rt: HostRuntime) {
     gives(&rt, "compile a.circom m.r1cs", &circular[..1], missing);
     let none = "refused: -m.r1cs: no such file\n";
     gives(&rt, "check -- -m.r1cs -", &[], none);
+    let unnamed = "refused: : no such file\n";
+    gives(&rt, "check \"\" -", &[], unnamed);
 }
 
 static WITH_FOLDER: [&str; 5] = [

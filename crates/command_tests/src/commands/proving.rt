@@ -1,6 +1,6 @@
 // `prove`, `public` and `audit` on the circuit c = a * b, whose one public value is c.
 use super::checks::same;
-use super::{R1CS, is_fault, is_lost, put_file, run_words, says, store};
+use super::{R1CS, put_file, run_words, says, store};
 use out_io::MemStore;
 use std::process::Abort;
 use std::sync::Wait;
@@ -151,30 +151,5 @@ fn what_is_not_proved_or_audited_is_said(rt: HostRuntime) {
         put_file(&rt, &mut store, "good.json", b"[\"33\"]");
         says(&rt, words, &mut store, *status, line);
         same(&rt, store.files.contains_key("m.proof"), false);
-    }
-}
-
-// A store whose call of this number fails.
-fn failing<R: AllocGlobal + Abort>(rt: &R, fail: u32) -> MemStore {
-    let mut store = store(rt, &R1CS, &[1, 33, 3, 11]);
-    put_file(rt, &mut store, "m.json", b"[33]");
-    put_file(rt, &mut store, "m.bytes", b"no proof");
-    store.fail.push(fail).expect(rt, "memory");
-    store
-}
-
-static FAILING: [&str; 3] = [
-    PROVE,
-    "public m.r1cs m.wtns m.proof",
-    "audit m.r1cs m.json m.bytes",
-];
-
-#[test]
-fn each_call_that_fails_is_a_fault(rt: HostRuntime) {
-    for words in FAILING.as_slice() {
-        for fail in 0..3 {
-            is_fault(&rt, words, &mut failing(&rt, fail), fail, "m.proof");
-        }
-        is_lost(&rt, words, &mut failing(&rt, 3), 3);
     }
 }

@@ -1,7 +1,7 @@
 // `witness` and `generate`.
 use super::checks::same;
 use super::compiling::with_library;
-use super::{PRODUCT, put_file, run_words, says, sources, split, wtns};
+use super::{DIFFERENT, PRODUCT, put_file, run_words, says, sources, split, wtns};
 use circom_gold::run_plain;
 use out_io::{MemSink, MemStore};
 use std::process::Abort;
@@ -33,10 +33,6 @@ component main = U();
 static ARRAY: &str = "template S() { signal input in[2][2]; signal output out;
   out <== in[0][0] + 2*in[0][1] + 3*in[1][0] + 4*in[1][1]; }
 component main = S();
-";
-
-static FAILS: &str = "template T() { signal input a; signal output b; b <== a; 1 === 2; }
-component main = T();
 ";
 
 // These values are written where the source of the store runs on its input. They satisfy the file
@@ -92,7 +88,8 @@ fn witness_writes_the_values_of_the_run(rt: HostRuntime) {
     let input = "{\"a\":3,\"b\":\"11\"}";
     writes(&rt, PRODUCT, input, "", text, &[1, 33, 3, 11]);
     writes(&rt, PRODUCT, input, "--workers 1", text, &[1, 33, 3, 11]);
-    writes(&rt, PRODUCT, input, "--workers 64", text, &[1, 33, 3, 11]);
+    writes(&rt, PRODUCT, input, "--workers=64", text, &[1, 33, 3, 11]);
+    writes(&rt, PRODUCT, input, "--workers 08", text, &[1, 33, 3, 11]);
     let large = "{\"a\":4294967296,\"b\":4294967296}";
     let product = &[1, 4294967295, 4294967296, 4294967296];
     writes(&rt, PRODUCT, large, "", text, product);
@@ -181,7 +178,7 @@ fn witness_stops_at_the_first_place_of_the_source(rt: HostRuntime) {
     stops(&rt, TWO, "{\"a\":1}", "--workers 1", text);
     stops(&rt, TWO, "{\"a\":1}", "--workers 8", text);
     let fails = "refused: W1 ConstraintFails at t.circom:1:58 in main\n";
-    stops(&rt, FAILS, "{\"a\":0}", "", fails);
+    stops(&rt, DIFFERENT, "{\"a\":0}", "", fails);
 }
 
 #[test]
@@ -235,6 +232,10 @@ fn generate_says_what_its_circuit_comes_to(rt: HostRuntime) {
         (
             "generate 7 9 --workers 8",
             "generated: links 9, wires 19, constraints 9, satisfied, out 57\n",
+        ),
+        (
+            "generate 7 3 --fuel 0",
+            "generated: links 3, wires 13, constraints 3, satisfied, out 59\n",
         ),
     ];
     for (words, text) in rows.as_slice() {
