@@ -4,6 +4,8 @@ use Rattle.binary_format.specs.Reading.{◌>>=◌}
 use Rattle.out_io.specs.Contents.{Contents}
 use Rattle.iden_files.specs.File.{File, InLimits}
 use Rattle.iden_files.specs.ReadR1cs.{r1cs_of}
+use Rattle.iden_files.specs.Refusal.{Refusal as Fault}
+use Rattle.iden_files.proofs.LimitLaws.{read_file_in_limits}
 use Rattle.lig_complete.proofs.Sizes.{sizes_fit}
 use Rattle.lig_layout.specs.Layout.{vectors_of}
 use Rattle.lig_proof.proofs.MadeOnce.{proofs_are_one}
@@ -76,6 +78,26 @@ offer_file files r1cs publics proof o e =
     (λ x. x.file) o
     (λ bytes file d. offer_kept bytes file (publics_in files publics) (bytes_in files proof) d) e
 
+-- ---- the file of constraints is within the limits
+
+accepted_is : {X : Type 0} (name : List ℕ) (read : Result X Fault) (x : X)
+    → accepted name read ≡ Ok x → read ≡ Ok x
+accepted_is name (Ok y) x e = let same : y ≡ x = cc in ap Ok same
+accepted_is name (Err fault) x e = cc
+
+file_in_limits : (name : List ℕ) (read : Result (List ℕ) Refusal) (f : File)
+    → (read >>= λ bytes. accepted name (r1cs_of bytes)) ≡ Ok f → InLimits f
+file_in_limits name (Ok bytes) f e =
+    read_file_in_limits bytes f (accepted_is name (r1cs_of bytes) f e)
+file_in_limits name (Err r) f e = let bad : ⊥ = cc in absurd bad
+
+read_in_limits : (files : Contents) (r1cs : List ℕ) (f : File) → r1cs_in files r1cs ≡ Ok f
+    → InLimits f
+unfolding r1cs_in
+read_in_limits files r1cs f e = file_in_limits r1cs (bytes_in files r1cs) f e
+
+-- ---- what is found is one
+
 -- what is found in what was read is one, where it is one in each
 one_found : {X Y : Type 0} (Finds : X → Y → Type 0) (read : Result X Refusal)
     → ((x : X) → read ≡ Ok x → (y z : Y) → Finds x y → Finds x z → y ≡ z)
@@ -97,11 +119,12 @@ one_proof options w limits (Unmade u) (Made y) p q = absurd (p.1 (sym p.0 ∙ q.
 one_proof options w limits (Unmade u) (Unmade v) p q = ap Unmade (sym p.0 ∙ q.0)
 
 pub one_outcome : (files : Contents) (r1cs wtns : List ℕ) (options : ProveOptions)
-    → ((f : File) → r1cs_in files r1cs ≡ Ok f → InLimits f) → (a b : Result Outcome Refusal)
-    → Proves files r1cs wtns options a → Proves files r1cs wtns options b → a ≡ b
-one_outcome files r1cs wtns options limits =
+    (a b : Result Outcome Refusal) → Proves files r1cs wtns options a
+    → Proves files r1cs wtns options b → a ≡ b
+one_outcome files r1cs wtns options =
     one_found (IsProved options) (witness_of files r1cs wtns)
-    (λ w read. one_proof options w (limits w.file (witness_file files r1cs wtns w read)))
+    (λ w read. one_proof options w
+    (read_in_limits files r1cs w.file (witness_file files r1cs wtns w read)))
 
 -- the verdicts on an offer are one
 pub one_verdict : (o : Offer) → InLimits o.file → (a b : Audited) → IsAudited o a → IsAudited o b
@@ -109,9 +132,9 @@ pub one_verdict : (o : Offer) → InLimits o.file → (a b : Audited) → IsAudi
 one_verdict o limits a b =
     verdicts_are_one o.bytes o.file o.publics o.proof a b (sizes_fit o.file limits)
 
-pub one_audit : (files : Contents) (r1cs publics proof : List ℕ)
-    → ((f : File) → r1cs_in files r1cs ≡ Ok f → InLimits f) → (a b : Result Audited Refusal)
+pub one_audit : (files : Contents) (r1cs publics proof : List ℕ) (a b : Result Audited Refusal)
     → Audits files r1cs publics proof a → Audits files r1cs publics proof b → a ≡ b
-one_audit files r1cs publics proof limits =
+one_audit files r1cs publics proof =
     one_found IsAudited (offer_of files r1cs publics proof)
-    (λ o read. one_verdict o (limits o.file (offer_file files r1cs publics proof o read)))
+    (λ o read. one_verdict o
+    (read_in_limits files r1cs o.file (offer_file files r1cs publics proof o read)))

@@ -111,6 +111,7 @@ fn proof_of<R: Threads + AllocGlobal + Sync>(
         witness.now.values options.seed result }
     ensures file { IsFile witness.now.file }
 {
+    // That the file's parts fit: this call's contract says so.
     let _constraints = witness.file.constraints();
     let bytes = witness.bytes.as_slice();
     let values = witness.values.as_slice();

@@ -13,7 +13,7 @@ use Rattle.circom_gold.specs.Compile.{Compiles}
 use Rattle.circom_gold.specs.Witness.{Witnesses, Generates}
 use Rattle.circom_gold.proofs.OneCompiled.{one_compiled}
 use Rattle.circom_gold.proofs.OneRun.{one_witness, one_generated}
-use Rattle.circom_gold.specs.Reply.{Answers, IsDecided, compiled}
+use Rattle.circom_gold.specs.Reply.{Answers, compiled}
 
 -- what is said is one where what is found is one
 one_said : {X : Type 0} (files : Contents) (reply : X → Reply)
@@ -24,28 +24,27 @@ one_said files reply Finds a b one p q =
     p.2 ∙ ap (λ (x : Result _ Refusal). said reply x) (one p.0 q.0 p.1 q.1) ∙ sym q.2
 
 pub one_reply : (files : Contents) (command : Option Command) (a b : Reply)
-    → IsDecided files command → Answers (Some files) command a → Answers (Some files) command b
-    → a ≡ b
-one_reply files None a b decided p q = p ∙ sym q
-one_reply files (Some (check r1cs wtns)) a b decided p q =
+    → Answers (Some files) command a → Answers (Some files) command b → a ≡ b
+one_reply files None a b p q = p ∙ sym q
+one_reply files (Some (check r1cs wtns)) a b p q =
     one_said files checked (λ from found. check_of from r1cs wtns ≡ found) a b
     (λ x y e f. sym e ∙ f) p q
-one_reply files (Some (compile source out options)) a b decided p q =
+one_reply files (Some (compile source out options)) a b p q =
     one_said files (compiled out) (λ from found. Compiles from source options found) a b
     (one_compiled files source options) p q
-one_reply files (Some (witness source input out options running)) a b decided p q =
+one_reply files (Some (witness source input out options running)) a b p q =
     one_said files (witnessed out)
     (λ from found. Witnesses from source input options running.fuel found) a b
     (one_witness files source input options running.fuel) p q
-one_reply files (Some (generate seed size running)) a b decided p q =
+one_reply files (Some (generate seed size running)) a b p q =
     one_said files (generated size) (λ from found. Generates seed size running.fuel found) a b
     (one_generated seed size running.fuel) p q
-one_reply files (Some (prove r1cs wtns out options)) a b decided p q =
+one_reply files (Some (prove r1cs wtns out options)) a b p q =
     one_said files (proved out) (λ from found. Proves from r1cs wtns options found) a b
-    (one_outcome files r1cs wtns options decided) p q
-one_reply files (Some (public r1cs wtns out)) a b decided p q =
+    (one_outcome files r1cs wtns options) p q
+one_reply files (Some (public r1cs wtns out)) a b p q =
     one_said files (published out) (λ from found. public_of from r1cs wtns ≡ found) a b
     (λ x y e f. sym e ∙ f) p q
-one_reply files (Some (audit r1cs publics proof)) a b decided p q =
+one_reply files (Some (audit r1cs publics proof)) a b p q =
     one_said files audited (λ from found. Audits from r1cs publics proof found) a b
-    (one_audit files r1cs publics proof decided) p q
+    (one_audit files r1cs publics proof) p q

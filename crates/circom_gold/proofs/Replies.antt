@@ -1,4 +1,4 @@
--- What a command says where it was stopped, and what a run does with its reply.
+-- What a run does with its reply.
 use Rattle.std.proofs.Common.{◌≡◌, ◌<◌, ◌∙◌, ◌++◌, ◌↔◌, ◌⊎◌, ℕ, List, [], length, Option, Some}
 use Rattle.std.proofs.Common.{None, Result, Ok, Err, IfOk, refl, sym, ap, subst, inl, inr, arith}
 use Rattle.std.proofs.Math.Seq.{take-length}
@@ -14,7 +14,7 @@ use Rattle.out_io.specs.Written.{IsAppended, IsAppendedInPart}
 use Rattle.iden_files.specs.File.{File}
 use Rattle.iden_files.specs.ReadR1cs.{r1cs_of}
 use Rattle.iden_files.specs.Spelling.{r1cs_bytes}
-use Rattle.circom_gold.specs.Compile.{Compiles, HoldsConstraintsOf, SourceSteps}
+use Rattle.circom_gold.specs.Compile.{Compiles, HoldsConstraintsOf}
 use Rattle.circom_words.specs.Lines.{fault_line, verdict_status}
 use Rattle.circom_words.specs.Proving.{audit_status}
 use Rattle.lig_proof.specs.declared.verdict.Verdict.{Verdict as Audited}
@@ -33,8 +33,6 @@ use Rattle.circom_files.specs.declared.outcome.Published.{Published}
 use Rattle.circom_files.specs.declared.outcome.Published.TheVariants.{Values, Wrong}
 use Rattle.circom_gold.specs.Reply.{Answers, WritesConstraintsOf, compiled}
 use Rattle.circom_gold.specs.Run.{Ends, Stays, Leaves, LeavesInPart, Puts, Replies, Writing}
-use Rattle.circom_files.specs.Shown.{shown}
-use Rattle.circom_files.specs.Stops.{EndsBy}
 use Rattle.circom_words.specs.Words.{Command, Options, check, compile, witness, prove, public}
 use Rattle.circom_words.specs.Words.{audit, generate}
 use Rattle.circom_words.specs.declared.answer.Refusal.{Refusal}
@@ -42,28 +40,6 @@ use Rattle.circom_words.specs.declared.answer.Verdict.{Verdict}
 use Rattle.circom_words.specs.declared.answer.Verdict.TheVariants.{CountsDiffer, WireZero}
 use Rattle.circom_words.specs.declared.answer.Verdict.TheVariants.{ConstraintFails, Satisfied}
 use Rattle.circom_files.specs.declared.reply.Reply.{Reply as CodeReply}
-use Rattle.circom_files.specs.declared.stop.Stop.{Stop}
-use Rattle.circom_files.specs.declared.stop.Stop.TheVariants.{Refused, StoreFailed, OutOfMemory}
-
--- a command that was stopped says its refusal
-pub source_stopped : (contents : Option Contents) (reply : File → Reply) (source : List ℕ)
-    (options : Options) (failed : Type 0) (stop : Stop) (r : CodeReply)
-    → SourceSteps contents source options failed (Err stop) → EndsBy stop (Ok r)
-    → Says contents reply (λ files found. Compiles files source options found) (shown r)
-source_stopped contents reply source options failed (Refused refusal) r told e =
-    (Err refusal, told, e)
-source_stopped contents reply source options failed StoreFailed r told e = absurd e
-source_stopped contents reply source options failed OutOfMemory r told e = absurd e
-
--- the same of what the stop is handed on as
-pub source_ended : (contents : Option Contents) (reply : File → Reply) (source : List ℕ)
-    (options : Options) (failed : Type 0) (stop : Stop) (result : Result CodeReply IoFault)
-    → SourceSteps contents source options failed (Err stop) → EndsBy stop result
-    → IfOk result
-    (λ r. Says contents reply (λ files found. Compiles files source options found) (shown r))
-source_ended contents reply source options failed stop (Ok r) told e =
-    source_stopped contents reply source options failed stop r told e
-source_ended contents reply source options failed stop (Err fault) told e = tt
 
 -- the reply of a source that compiles writes a file of its constraints
 pub writes : (contents : Option Contents) (source : List ℕ) (options : Options) (out : List ℕ)
@@ -79,8 +55,7 @@ writes contents source options out f r told is read =
       constraints = record {
         file = f;
         read = read;
-        program = compiles.program;
-        loaded = compiles.loaded;
+        compiled = compiles;
         exactly = λ values are.
             let means = compiles.written.means values are in (
               (λ holds. let s = means.0 holds in (s.0, s.1.agrees, s.2)),

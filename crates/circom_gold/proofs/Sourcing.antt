@@ -8,6 +8,7 @@ use Rattle.out_io.specs.Calls.{Told}
 use Rattle.out_io.specs.Contents.{Contents}
 use Rattle.out_io.proofs.Telling.{told_on}
 use Rattle.binary_format.specs.Reading.{◌>>=◌}
+use Rattle.iden_files.specs.File.{File}
 use Rattle.cir_ast.specs.Program.{Program, bare_program}
 use Rattle.cir_sources.specs.Includes.{is_among}
 use Rattle.cir_compile.specs.Compiled.{Compiles as Compilation, IsRefused, Writes}
@@ -31,20 +32,31 @@ use Rattle.circom_words.specs.declared.answer.Refusal.TheVariants.{NoSuchFile, B
 use Rattle.circom_words.specs.declared.answer.BadInput.TheVariants.{NotJson}
 use Rattle.circom_files.specs.Files.{bytes_in}
 use Rattle.circom_files.specs.Running.{accepted_input, input_in}
-use Rattle.circom_files.specs.Steps.{Gets, Steps}
+use Rattle.circom_files.specs.Steps.{Gets, Steps, StepsTo}
 use Rattle.circom_files.specs.declared.stop.Stop.{Stop}
 use Rattle.circom_files.specs.declared.stop.Stop.TheVariants.{Refused, StoreFailed, OutOfMemory}
-use Rattle.circom_gold.specs.Compile.{Compiles, SourceSteps, task_of}
-use Rattle.circom_gold.specs.Source.{Codes, Given, GivesSteps, IsStopOf, KnowsSource, Sources}
-use Rattle.circom_gold.specs.Source.{program_of}
+use Rattle.circom_gold.specs.Compile.{Compiles, task_of}
+use Rattle.circom_gold.specs.Source.{Codes, Given, IsStopOf, KnowsSource, Sources, program_of}
 use Rattle.circom_gold.specs.declared.source.Coded.{Coded}
 use Rattle.circom_gold.proofs.NoInput.{source_no_input}
+
+-- what reading and compiling a source gave
+abbrev pub Compiling : Option Contents → List ℕ → Options → Type 0 → Result File Stop → Type 0
+Compiling contents source options failed =
+    StepsTo (λ (f : File). f) contents (λ files found. Compiles files source options found) failed
+
+-- what reading a loaded program's input gave
+abbrev pub Starting : Option Contents → List ℕ → Options → Coded → List ℕ → Type 0
+    → Result (Vec ℕ Global) Stop → Type 0
+Starting contents source options x name failed =
+    StepsTo (λ (v : Vec ℕ Global). v.items) contents
+    (λ files found. Given files source options x name found) failed
 
 module _ (contents : Option Contents) (source : List ℕ) (options : Options) (failed : Type 0) where
   -- a source that doesn't compile
   pub stopped_so : (e : CompileFault) (stop : Stop)
       → Compilation contents (task_of source options) failed (Err e) → IsStopOf source e stop
-      → SourceSteps contents source options failed (Err stop)
+      → Compiling contents source options failed (Err stop)
   stopped_so fault.Missing (Refused r) told is =
       told_on contents (λ files. files source ≡ None)
       (λ files. Compiles files source options (Err r))
@@ -146,7 +158,7 @@ module _ (contents : Option Contents) (source : List ℕ) (options : Options) (x
 
       pub input_unread : (stop : Stop)
           → Steps (λ (v : Vec ℕ Global). v.items) contents (λ files. bytes_in files name) failed
-          (Err stop) → GivesSteps contents source options x name failed (Err stop)
+          (Err stop) → Starting contents source options x name failed (Err stop)
       input_unread (Refused r) step =
           told_on contents
           (λ files. IsLoaded files source options.folder (program_of x)
@@ -163,7 +175,7 @@ module _ (contents : Option Contents) (source : List ℕ) (options : Options) (x
           → Told contents (λ files. bytes_in files name ≡ Ok bytes)
           → Gets (λ (v : Vec ℕ Global). v.items)
           (accepted_input inputs (input_of text inputs)) result
-          → GivesSteps contents source options x name failed result
+          → Starting contents source options x name failed result
       input_given bytes text result same told gets = by result gets
         where
           given : (answer : Result (List ℕ) Refusal)
@@ -184,7 +196,7 @@ module _ (contents : Option Contents) (source : List ℕ) (options : Options) (x
           by : (r : Result (Vec ℕ Global) Stop)
               → Gets (λ (v : Vec ℕ Global). v.items)
               (accepted_input inputs (input_of text inputs)) r
-              → GivesSteps contents source options x name failed r
+              → Starting contents source options x name failed r
           by (Ok v) is = given (Ok v.items) is
           by (Err (Refused refusal)) is = given (Err refusal) is
           by (Err StoreFailed) is = absurd is

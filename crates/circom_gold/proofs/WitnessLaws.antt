@@ -33,8 +33,8 @@ use Rattle.circom_files.specs.declared.outcome.Ran.TheVariants.{Ended, Halted}
 use Rattle.circom_files.proofs.Checked.{check_of_read}
 use Rattle.circom_files.proofs.CheckLaws.{satisfied}
 use Rattle.cir_compile.proofs.OneFile.{one_file}
-use Rattle.circom_gold.specs.Compile.{task_of}
-use Rattle.circom_gold.specs.Witness.{HasWitness, HoldsFileOf, HoldsWitnessOf, IsWitnessed}
+use Rattle.circom_gold.specs.Compile.{HoldsConstraintsOf, task_of}
+use Rattle.circom_gold.specs.Witness.{HasWitness, HoldsWitnessOf, IsWitnessed}
 use Rattle.circom_gold.specs.Witness.{Witnesses, GivesInput, IsWitnessOf, WritesWitnessOf}
 use Rattle.circom_gold.specs.Witness.{values_by_wire}
 use Rattle.circom_gold.proofs.InputCounts.{main_inputs, shapes_counted}
@@ -173,17 +173,18 @@ written_witness files source input out options fuel r answered zero =
 
 -- the two files are read, and `check` of them is satisfied
 pub check_accepts : (files after : Contents) (source input r1cs wtns : List ℕ) (options : Options)
-    (fuel : ℕ) → HoldsFileOf files source options (after r1cs)
+    (fuel : ℕ) → HoldsConstraintsOf files source options (after r1cs)
     → HoldsWitnessOf files source input options fuel (after wtns)
     → check_of after r1cs wtns ≡ Ok Satisfied
 check_accepts files after source input r1cs wtns options fuel f w =
     let task = task_of source options in
-    let same : w.witness.file ≡ f.file =
-    one_file files task w.witness.file f.file
+    let k = f.constraints in
+    let same : w.witness.file ≡ k.file =
+    one_file files task w.witness.file k.file
     (compiled_as files source options w.witness.program w.witness.file w.witness.compiled)
-    f.compiles in
+    k.compiled in
     let values = values_by_wire w.witness.file w.witness.numbers in
-    check_of_read after r1cs wtns f.bytes w.bytes f.file values f.there f.read w.there
+    check_of_read after r1cs wtns f.bytes w.bytes k.file values f.there k.read w.there
     w.witness.read
-    ∙ ap Ok ((satisfied f.file values).1
+    ∙ ap Ok ((satisfied k.file values).1
     (subst (λ (g : File). Satisfies g values) same w.witness.satisfied))

@@ -36,14 +36,14 @@ use Rattle.circom_files.specs.declared.outcome.Generated.{Generated}
 use Rattle.circom_files.specs.declared.outcome.Generated.TheVariants as made
 use Rattle.circom_files.specs.declared.stop.Stop.{Stop}
 use Rattle.circom_files.specs.declared.stop.Stop.TheVariants.{Refused, StoreFailed, OutOfMemory}
-use Rattle.circom_gold.specs.Compile.{Compiles, SourceSteps}
+use Rattle.circom_gold.specs.Compile.{Compiles}
 use Rattle.circom_gold.specs.Running.{EndsIn, GeneratesIn, IsHaltAt, shown_place}
-use Rattle.circom_gold.specs.Source.{Given, GivesSteps, IsCoded, KnowsSource, program_of}
+use Rattle.circom_gold.specs.Source.{Given, IsCoded, KnowsSource, program_of}
 use Rattle.circom_gold.specs.Witness.{GivesInput, HaltsBy, HasInputs, IsGeneratedRun, IsRunOf}
 use Rattle.circom_gold.specs.Witness.{IsInputRefused, IsWitnessed, RunsTo, Witnesses}
 use Rattle.circom_gold.specs.Witness.{values_by_wire}
 use Rattle.circom_gold.specs.declared.source.Coded.{Coded}
-use Rattle.circom_gold.proofs.Sourcing.{input_is}
+use Rattle.circom_gold.proofs.Sourcing.{Compiling, Starting, input_is}
 use Rattle.circom_gold.proofs.WitnessLaws.{input_read, many}
 
 shown_ok : (p : Program) (r : Tried Circuit) (m : Circuit) → shown p r ≡ Ok m → r ≡ Ok m
@@ -210,7 +210,7 @@ module _ (contents : Option Contents) (source name : List ℕ) (options : Option
   abbrev Finds : Contents → Result Ran Refusal → Type 0
   Finds files found = Witnesses files source name options fuel found
 
-  pub unsourced : (stop : Stop) → SourceSteps contents source options failed (Err stop)
+  pub unsourced : (stop : Stop) → Compiling contents source options failed (Err stop)
       → StepsTo (λ (r : Ran). r) contents Finds failed (Err stop)
   unsourced (Refused r) step =
       told_on contents (λ files. Compiles files source options (Err r))
@@ -220,7 +220,7 @@ module _ (contents : Option Contents) (source name : List ℕ) (options : Option
 
   module _ (level : Level) (x : Coded) (coded : IsCoded level x) (same : options.level ≡ level)
     where
-      pub unstarted : (stop : Stop) → GivesSteps contents source options x name failed (Err stop)
+      pub unstarted : (stop : Stop) → Starting contents source options x name failed (Err stop)
           → StepsTo (λ (r : Ran). r) contents Finds failed (Err stop)
       unstarted (Refused r) step =
           told_on contents (λ files. Given files source options x name (Err r))
@@ -230,7 +230,7 @@ module _ (contents : Option Contents) (source name : List ℕ) (options : Option
       unstarted OutOfMemory step = tt
 
       pub found : (v : Vec ℕ Global) (start : List ℕ) (r : Ran) → start ≡ v.items
-          → GivesSteps contents source options x name failed (Ok v)
+          → Starting contents source options x name failed (Ok v)
           → ((inputs : List ℕ) → IsTask (program_of x) x.code start inputs
           → IsRunOf (program_of x) x.file fuel inputs r)
           → Told contents (λ files. Finds files (Ok r))
@@ -243,7 +243,7 @@ module _ (contents : Option Contents) (source name : List ℕ) (options : Option
           runs) step
 
       pub task_told : (v : Vec ℕ Global) (start : List ℕ) → start ≡ v.items
-          → GivesSteps contents source options x name failed (Ok v)
+          → Starting contents source options x name failed (Ok v)
           → (inputs : List ℕ) × IsTask (program_of x) x.code start inputs
       task_told v start is step =
           let some = told_some contents (λ files. Given files source options x name (Ok v.items))
@@ -256,16 +256,16 @@ pub started_later : (contents now : Option Contents) (source : List ℕ) (option
     (x : Coded) (name : List ℕ) (failed fails : Type 0) (result : Result (Vec ℕ Global) Stop)
     → now ≡ contents → (fails → failed) → KnowsSource contents source options x.loaded
     → (KnowsSource now source options x.loaded
-    → GivesSteps now source options x name fails result)
-    → GivesSteps contents source options x name failed result
+    → Starting now source options x name fails result)
+    → Starting contents source options x name failed result
 started_later contents now source options x name failed fails result same rose knows step =
     by result
-    (subst (λ (o : Option Contents). GivesSteps o source options x name fails result) same
+    (subst (λ (o : Option Contents). Starting o source options x name fails result) same
     (step
     (subst (λ (o : Option Contents). KnowsSource o source options x.loaded) (sym same) knows)))
   where
-    by : (r : Result (Vec ℕ Global) Stop) → GivesSteps contents source options x name fails r
-        → GivesSteps contents source options x name failed r
+    by : (r : Result (Vec ℕ Global) Stop) → Starting contents source options x name fails r
+        → Starting contents source options x name failed r
     by (Ok v) h = h
     by (Err (Refused r)) h = h
     by (Err StoreFailed) h = rose h

@@ -1,14 +1,11 @@
 -- The command `compile`: the file of a source's constraints.
 use Rattle.std.specs.Prelude.{◌≡◌, ◌↔◌, ℕ, ◌<◌, List, slice_index, All, Option, Some, None, Result}
-use Rattle.std.specs.Prelude.{Ok, Err, ⊤}
-use Rattle.out_io.specs.Calls.{Told}
+use Rattle.std.specs.Prelude.{Ok, Err}
 use Rattle.out_io.specs.Contents.{Contents}
 use Rattle.gold_field.specs.Form.{Holds}
 use Rattle.iden_files.specs.File.{File}
 use Rattle.iden_files.specs.ReadR1cs.{r1cs_of}
-use Rattle.cir_ast.specs.Program.{Program}
 use Rattle.cir_lc.specs.Number.{Assignment}
-use Rattle.cir_names.specs.Loading.{IsLoaded}
 use Rattle.cir_meaning.specs.Compile.{Satisfies}
 use Rattle.cir_compile.specs.Compiled.{Task, IsCompiled, IsRefused}
 use Rattle.cir_compile.specs.Written.{AreValues}
@@ -16,8 +13,6 @@ use Rattle.circom_words.specs.Words.{Options}
 use Rattle.circom_words.specs.declared.answer.Refusal.{Refusal}
 use Rattle.circom_words.specs.declared.answer.Refusal.TheVariants.{NoSuchFile, BadFile, BadSource}
 use Rattle.circom_words.specs.declared.answer.Refusal.TheVariants.{BadInput}
-use Rattle.circom_files.specs.declared.stop.Stop.{Stop}
-use Rattle.circom_files.specs.declared.stop.Stop.TheVariants.{Refused, StoreFailed, OutOfMemory}
 
 -- the source is compiled with these options
 abbrev pub task_of : List ℕ → Options → Task
@@ -38,34 +33,23 @@ Compiles files source options (Err (BadSource refusal)) =
 Compiles files source options (Err (BadFile name cause offset)) = ⊥
 Compiles files source options (Err (BadInput what)) = ⊥
 
--- what reading and compiling the source gave; it failed only where the store did, and want of
--- memory is free
-abbrev pub SourceSteps : Option Contents → List ℕ → Options → Type 0 → Result File Stop → Type 0
-SourceSteps contents source options failed (Ok f) =
-    Told contents (λ files. Compiles files source options (Ok f))
-SourceSteps contents source options failed (Err (Refused r)) =
-    Told contents (λ files. Compiles files source options (Err r))
-SourceSteps contents source options failed (Err StoreFailed) = failed
-SourceSteps contents source options failed (Err OutOfMemory) = ⊤
-
--- The bytes are read as a file of constraints, and the program is that of the source under the name
--- with all that it includes. Values of the wires satisfy the constraints exactly when they extend
--- to an assignment that satisfies the program: the value of each wire is that of the signal that
+-- The bytes are read as the file that the source under the name, with all that it includes,
+-- compiles to. Values of its wires satisfy its constraints exactly when they extend to an
+-- assignment that satisfies the source's program: the value of each wire is that of the signal that
 -- its label names.
 pub record AreConstraintsOf (files : Contents) (source : List ℕ) (options : Options)
     (bytes : List ℕ) : Type 0 where
   pub file : File
   pub read : r1cs_of bytes ≡ Ok file
-  pub program : Program
-  pub loaded : IsLoaded files source options.folder program
+  pub compiled : IsCompiled files (task_of source options) file
   pub exactly : (values : List ℕ) → AreValues file values
       → All (Holds (slice_index values)) file.constraints
       ↔ ((s : Assignment)
       × ((wire : ℕ) → wire < file.wires
       → s.at (slice_index file.labels wire) ≡ slice_index values wire)
-      × Satisfies program s)
+      × Satisfies compiled.program s)
 
--- a file of such bytes is there under the name
+-- such bytes are there under the name
 pub record HoldsConstraintsOf (files : Contents) (source : List ℕ) (options : Options)
     (found : Option (List ℕ)) : Type 0 where
   pub bytes : List ℕ

@@ -1,13 +1,12 @@
 -- The reply of the program to the words, over the files.
-use Rattle.std.specs.Prelude.{◌≡◌, ℕ, List, length, Option, Some, None, Ok, ⊤}
+use Rattle.std.specs.Prelude.{◌≡◌, ℕ, List, length, Option, Some, None}
 use Rattle.out_io.specs.Contents.{Contents}
-use Rattle.iden_files.specs.File.{File, InLimits}
+use Rattle.iden_files.specs.File.{File}
 use Rattle.iden_files.specs.Spelling.{r1cs_bytes}
 use Rattle.circom_words.specs.Lines.{compiled_line}
 use Rattle.circom_words.specs.Words.{Command, Options, check, compile, witness, prove, public}
 use Rattle.circom_words.specs.Words.{audit, generate}
 use Rattle.circom_files.specs.Check.{check_of}
-use Rattle.circom_files.specs.Files.{r1cs_in}
 use Rattle.circom_files.specs.Proving.{Audits, Proves, public_of}
 use Rattle.circom_files.specs.Reply.{Reply, Says, audited, checked, proved, published, usage}
 use Rattle.circom_files.specs.Reply.{written}
@@ -15,6 +14,7 @@ use Rattle.circom_files.specs.Running.{witnessed, generated}
 use Rattle.circom_gold.specs.Compile.{Compiles, AreConstraintsOf}
 use Rattle.circom_gold.specs.Witness.{Witnesses, Generates}
 
+-- the file is written under the name
 abbrev pub compiled : List ℕ → File → Reply
 compiled out f = written (compiled_line f.wires (length f.constraints)) out (r1cs_bytes f)
 
@@ -43,14 +43,3 @@ pub record WritesConstraintsOf (files : Contents) (source : List ℕ) (options :
   pub bytes : List ℕ
   pub file : r.file ≡ Some (record { name = out; bytes = bytes })
   pub constraints : AreConstraintsOf files source options bytes
-
--- the file of constraints under the name, if there is one, is within the limits, as a reader's
--- contract says
-abbrev pub IsInLimits : Contents → List ℕ → Type 0
-IsInLimits files r1cs = (f : File) → r1cs_in files r1cs ≡ Ok f → InLimits f
-
--- the limits under which the files decide what the command finds
-abbrev pub IsDecided : Contents → Option Command → Type 0
-IsDecided files (Some (prove r1cs wtns out options)) = IsInLimits files r1cs
-IsDecided files (Some (audit r1cs publics proof)) = IsInLimits files r1cs
-IsDecided files _ = ⊤

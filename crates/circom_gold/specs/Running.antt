@@ -22,12 +22,14 @@ shown_place files instances place = record {
   path = unwrap_or (slice_get instances place.instance) [];
 }
 
+-- the stop at this place, with the lines that were logged before it
 pub record IsHaltAt (files instances : List (List ℕ)) (stop : Stop) (place : StepPlace)
     (log : List (List ℕ)) (h : Halt) : Type 0 where
   pub stops : h.stop ≡ stop
   pub there : h.place ≡ shown_place files instances place
   pub behind : h.log ≡ log
 
+-- how `witness` tells the end of a run: with the values of the file's wires, or where it stops
 abbrev pub EndsIn : (files instances : List (List ℕ)) → File → RunEnd → Ran → Type 0
 EndsIn files instances file (end.Ended numbers log) (Ended values lines) =
     (values ≡ values_by_wire file numbers) × (lines ≡ log)
@@ -36,6 +38,7 @@ EndsIn files instances file (end.Stopped stop place log) (Ended values lines) = 
 EndsIn files instances file (end.Stopped stop place log) (Halted h) =
     IsHaltAt files instances stop place log h
 
+-- how `generate` tells it: with the sizes of the file and the number of its output
 abbrev pub GeneratesIn : (files instances : List (List ℕ)) → File → RunEnd → Generated → Type 0
 GeneratesIn files instances file (end.Ended numbers log) (made.Ended wires constraints out lines) =
     (wires ≡ file.wires) × (constraints ≡ length file.constraints)

@@ -1,9 +1,8 @@
 -- What a source comes to before it is run, step by step.
-use Rattle.std.specs.Prelude.{◌≡◌, ℕ, List, Option, Vec, Result, Ok, Err, ⊤}
-use Rattle.std.specs.declared.alloc.Global.{Global}
+use Rattle.std.specs.Prelude.{◌≡◌, ℕ, List, Option, Result, Ok, Err, ⊤}
 use Rattle.out_io.specs.Calls.{Told}
 use Rattle.out_io.specs.Contents.{Contents}
-use Rattle.iden_files.specs.File.{InLimits}
+use Rattle.iden_files.specs.File.{File, InLimits}
 use Rattle.cir_ast.specs.Program.{Program, bare_program}
 use Rattle.cir_compile.specs.Compiled.{Compiles as Compilation, IsWritten, Writes}
 use Rattle.cir_compile.specs.declared.fault.CompileFault.{CompileFault}
@@ -20,11 +19,13 @@ use Rattle.circom_words.specs.Words.{Options}
 use Rattle.circom_words.specs.declared.answer.Refusal.{Refusal}
 use Rattle.circom_words.specs.declared.answer.Refusal.TheVariants.{NoSuchFile, BadSource}
 use Rattle.circom_files.specs.Running.{input_in}
+use Rattle.circom_files.specs.Steps.{StepsTo}
 use Rattle.circom_files.specs.declared.stop.Stop.{Stop}
 use Rattle.circom_files.specs.declared.stop.Stop.TheVariants.{Refused, StoreFailed, OutOfMemory}
-use Rattle.circom_gold.specs.Compile.{SourceSteps, task_of}
+use Rattle.circom_gold.specs.Compile.{Compiles, task_of}
 use Rattle.circom_gold.specs.declared.source.Coded.{Coded}
 
+-- the program as contracts see it
 abbrev pub program_of : Coded → Program
 program_of x = bare_program x.loaded.program
 
@@ -61,7 +62,8 @@ Sources contents source options failed (Err e) =
 abbrev pub SourcesBy : Option Contents → List ℕ → Options → Type 0 → Result Coded Stop → Type 0
 SourcesBy contents source options failed (Ok x) = KnowsSource contents source options x.loaded
 SourcesBy contents source options failed (Err stop) =
-    SourceSteps contents source options failed (Err stop)
+    StepsTo (λ (f : File). f) contents (λ files found. Compiles files source options found) failed
+    (Err stop)
 
 -- a command ends so for this fault of the source under the name; memory may lack for the name
 abbrev pub IsStopOf : List ℕ → CompileFault → Stop → Type 0
@@ -80,12 +82,3 @@ abbrev pub Given : Contents → List ℕ → Options → Coded → List ℕ → 
 Given files source options x input found =
     IsLoaded files source options.folder (program_of x)
     × (input_in files input x.circuit.signals.inputs ≡ found)
-
-abbrev pub GivesSteps : Option Contents → List ℕ → Options → Coded → List ℕ → Type 0
-    → Result (Vec ℕ Global) Stop → Type 0
-GivesSteps contents source options x input failed (Ok v) =
-    Told contents (λ files. Given files source options x input (Ok v.items))
-GivesSteps contents source options x input failed (Err (Refused refusal)) =
-    Told contents (λ files. Given files source options x input (Err refusal))
-GivesSteps contents source options x input failed (Err StoreFailed) = failed
-GivesSteps contents source options x input failed (Err OutOfMemory) = ⊤

@@ -6,7 +6,6 @@ use Rattle.out_io.specs.Calls.{Course}
 use Rattle.out_io.specs.Contents.{Contents}
 use Rattle.out_io.specs.Written.{IsAppended}
 use Rattle.iden_files.specs.File.{File}
-use Rattle.iden_files.specs.ReadR1cs.{r1cs_of}
 use Rattle.iden_files.specs.ReadWtns.{wtns_of}
 use Rattle.cir_ast.specs.Program.{Program}
 use Rattle.cir_ast.specs.declared.refusal.Place.{Place}
@@ -183,15 +182,6 @@ pub record HasWitness (files : Contents) (source input : List ℕ) (options : Op
   pub values : List ℕ
   pub log : List (List ℕ)
   pub found : IsWitnessed files source input options fuel (Ended values log)
-
--- the bytes that are there are read as the file that the source compiles to
-pub record HoldsFileOf (files : Contents) (source : List ℕ) (options : Options)
-    (found : Option (List ℕ)) : Type 0 where
-  pub bytes : List ℕ
-  pub there : found ≡ Some bytes
-  pub file : File
-  pub read : r1cs_of bytes ≡ Ok file
-  pub compiles : Compiles files source options (Ok file)
 
 -- the status is 1, and what was put is the log lines, and why and where the run stops
 pub record SaysHalt (h : Halt) (sink : Course (List ℕ)) (exit : ℕ) : Type 0 where

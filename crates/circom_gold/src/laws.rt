@@ -5,19 +5,18 @@ ghost use Rattle.circom_files.specs.Reply.{Reply};
 ghost use Rattle.circom_files.specs.Running.{halted};
 ghost use Rattle.circom_files.specs.declared.outcome.Halt.{Halt};
 ghost use Rattle.circom_files.specs.declared.outcome.Ran.TheVariants.{Halted};
-ghost use Rattle.circom_gold.specs.Reply.{Answers, IsDecided};
-ghost use Rattle.circom_gold.specs.Witness.{HasWitness, HoldsFileOf, HoldsWitnessOf, IsWitnessed};
+ghost use Rattle.circom_gold.specs.Compile.{HoldsConstraintsOf};
+ghost use Rattle.circom_gold.specs.Reply.{Answers};
+ghost use Rattle.circom_gold.specs.Witness.{HasWitness, HoldsWitnessOf, IsWitnessed};
 ghost use Rattle.circom_gold.specs.Witness.{WritesWitnessOf};
 ghost use Rattle.circom_words.specs.Words.{Command, Options, witness};
 ghost use Rattle.circom_words.specs.declared.answer.Verdict.TheVariants.{Satisfied};
 ghost use Rattle.circom_words.specs.declared.options.RunOptions.{RunOptions};
 
-/// The reply to a command over given files is one: status, text and file. Of `prove` and `audit`
-/// this holds where the file of constraints is within the limits.
+/// The reply to a command over given files is one: status, text and file.
 pub fn one_reply()
     ensures { (files : Contents) (command : Option Command) (a b : Reply)
-        → IsDecided files command → Answers (Some files) command a → Answers (Some files) command b
-        → a ≡ b }
+        → Answers (Some files) command a → Answers (Some files) command b → a ≡ b }
 {}
 
 /// What a reply to `witness` means. Its status is 0 exactly where the source compiles, the input is
@@ -43,7 +42,7 @@ pub fn witness_laws()
 /// at the same level, says that it is satisfied.
 pub fn check_accepts_witnesses()
     ensures { (files after : Contents) (source input r1cs wtns : List ℕ) (options : Options)
-        (fuel : ℕ) → HoldsFileOf files source options (after r1cs)
+        (fuel : ℕ) → HoldsConstraintsOf files source options (after r1cs)
         → HoldsWitnessOf files source input options fuel (after wtns)
         → check_of after r1cs wtns ≡ Ok Satisfied }
 {}

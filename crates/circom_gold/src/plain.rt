@@ -31,8 +31,8 @@ pub fn run_command<R: Threads + AllocGlobal + Sync, S: Store, K: Sink>(
     out: &mut K,
 ) -> Result<u8, AllocError>
     // The status, the whole text and the files are those of a reply to the words over the files; or
-    // the status is 3, and the store failed, which the text says, or the sink failed, and the files
-    // are the reply's.
+    // the status is 3, and the store failed, which the text says unless the sink failed too; or the
+    // sink alone failed, and the files are the reply's.
     ensures ended { IfOk result (Ends (plain_command_of (texts words.now))
         (course (S.contents store.old) (S.contents store.new)
         (S.faults store.old) (S.faults store.new))
@@ -45,9 +45,10 @@ pub fn run_command<R: Threads + AllocGlobal + Sync, S: Store, K: Sink>(
         (S.faults store.old) (S.faults store.new))
         (course (K.contents out.old) (K.contents out.new) (K.faults out.old) (K.faults out.new)) }
 
-    // `compile` with the status 0 leaves under OUT bytes that are read as a file of constraints.
-    // Values of its wires satisfy them exactly when they extend to an assignment that satisfies the
-    // source: the value of each wire is that of the signal that its label names.
+    // `compile` with the status 0 leaves under OUT bytes that are read as the file of constraints
+    // that the source compiles to. Values of its wires satisfy them exactly when they extend to an
+    // assignment that satisfies the source: the value of each wire is that of the signal that its
+    // label names.
     ensures compiled { (source out_name : List ℕ) (options : Options)
         → plain_command_of (texts words.now) ≡ Some (compile source out_name options)
         → IfOk result (λ exit. exit ≡ 0 → Changes
@@ -63,8 +64,8 @@ pub fn run_command<R: Threads + AllocGlobal + Sync, S: Store, K: Sink>(
         (λ files after. HoldsProof files r1cs wtns (after out_name))
         (S.contents store.old) (S.contents store.new)) }
 
-    // `audit` has the status 0, and says `accepted`, exactly where the files hold what is accepted.
-    // Where a call failed the status is 3.
+    // `audit` has the status 0, and says `accepted`, exactly where the files hold what is accepted;
+    // else the status is 3, which comes only where a call failed.
     ensures audited { (r1cs publics proof : List ℕ)
         → plain_command_of (texts words.now) ≡ Some (audit r1cs publics proof)
         → IfOk result (λ exit. (exit ≡ 3) ⊎ Told (S.contents store.old)

@@ -1,4 +1,4 @@
-ghost use Rattle.std.specs.Prelude.{◌≡◌, ◌⊎◌, ◌≢◌, ◌↔◌, ℕ, List, [], None, Some, IfOk, IsSome};
+ghost use Rattle.std.specs.Prelude.{◌≡◌, ◌⊎◌, ◌≢◌, ◌↔◌, ℕ, List, [], None, Some, IfOk};
 ghost use Rattle.std.specs.Prelude.{is_some, true};
 ghost use Rattle.out_io.specs.Calls.{Counting, IfTold, Told, course};
 ghost use Rattle.out_io.specs.Contents.{Changes};
@@ -25,7 +25,7 @@ use std::thread::Threads;
 /// Does what the words ask for, and gives the exit status:
 ///
 /// - 0: success; the values satisfy the constraints, the proof is accepted, or the file is written
-/// - 1: a file or a source is refused
+/// - 1: a file, a source, an input or public values are refused, or the run stops
 /// - 2: the values don't satisfy the constraints, or the proof is rejected
 /// - 3: a call to the store or the sink failed
 /// - 64: the words have no reading
@@ -40,8 +40,8 @@ pub fn run<R: Threads + Wait + AllocGlobal + Sync, S: Store, K: Sink>(
     out: &mut K,
 ) -> Result<u8, AllocError>
     // The status, the whole text and the files are those of a reply to the words over the files; or
-    // the status is 3, and the store failed, which the text says, or the sink failed, and the files
-    // are the reply's.
+    // the status is 3, and the store failed, which the text says unless the sink failed too; or the
+    // sink alone failed, and the files are the reply's.
     ensures ended { IfOk result (Ends (command_of (texts words.now))
         (course (S.contents store.old) (S.contents store.new)
         (S.faults store.old) (S.faults store.new))
@@ -54,9 +54,10 @@ pub fn run<R: Threads + Wait + AllocGlobal + Sync, S: Store, K: Sink>(
         (S.faults store.old) (S.faults store.new))
         (course (K.contents out.old) (K.contents out.new) (K.faults out.old) (K.faults out.new)) }
 
-    // `compile` with the status 0 leaves under OUT bytes that are read as a file of constraints.
-    // Values of its wires satisfy them exactly when they extend to an assignment that satisfies the
-    // source: the value of each wire is that of the signal that its label names.
+    // `compile` with the status 0 leaves under OUT bytes that are read as the file of constraints
+    // that the source compiles to. Values of its wires satisfy them exactly when they extend to an
+    // assignment that satisfies the source: the value of each wire is that of the signal that its
+    // label names.
     ensures compiled { (source out_name : List ℕ) (options : Options)
         → command_of (texts words.now) ≡ Some (compile source out_name options)
         → IfOk result (λ exit. exit ≡ 0 → Changes
@@ -72,8 +73,8 @@ pub fn run<R: Threads + Wait + AllocGlobal + Sync, S: Store, K: Sink>(
         (λ files after. HoldsProof files r1cs wtns (after out_name))
         (S.contents store.old) (S.contents store.new)) }
 
-    // `audit` has the status 0, and says `accepted`, exactly where the files hold what is accepted.
-    // Where a call failed the status is 3.
+    // `audit` has the status 0, and says `accepted`, exactly where the files hold what is accepted;
+    // else the status is 3, which comes only where a call failed.
     ensures audited { (r1cs publics proof : List ℕ)
         → command_of (texts words.now) ≡ Some (audit r1cs publics proof)
         → IfOk result (λ exit. (exit ≡ 3) ⊎ Told (S.contents store.old)
@@ -90,7 +91,7 @@ pub fn run<R: Threads + Wait + AllocGlobal + Sync, S: Store, K: Sink>(
         (S.contents store.old) (S.contents store.new)) }
 
     // Its status is 0 exactly where the source compiles, the input is read, and the run of the
-    // source's program doesn't stop. Where a call failed it is 3.
+    // source's program doesn't stop; else it is 3, which comes only where a call failed.
     ensures has_witness { (source input out_name : List ℕ) (options : Options)
         (running : RunOptions)
         → command_of (texts words.now) ≡ Some (witness source input out_name options running)

@@ -1,6 +1,6 @@
 //! What a source comes to before it is run.
 
-ghost use Rattle.std.specs.Prelude.{◌≡◌, ℕ, List, IfOk};
+ghost use Rattle.std.specs.Prelude.{ℕ, List, IfOk};
 ghost use Rattle.out_io.specs.Calls.{OnlyReads};
 ghost use Rattle.out_io.specs.Faults.{Rose};
 ghost use Rattle.cir_ast.specs.Program.{bare_program};
@@ -8,9 +8,9 @@ ghost use Rattle.cir_checks.specs.Checked.{IsChecked};
 ghost use Rattle.cir_names.specs.Loading.{IsOfSources};
 ghost use Rattle.wit_input.specs.Input.{input_of};
 ghost use Rattle.circom_files.specs.Running.{accepted_input};
-ghost use Rattle.circom_files.specs.Steps.{Gets};
-ghost use Rattle.circom_gold.specs.Source.{Codes, IsCoded, IsStopOf, KnowsSource, Sources};
-ghost use Rattle.circom_gold.specs.Source.{SourcesBy, GivesSteps};
+ghost use Rattle.circom_files.specs.Steps.{Gets, StepsTo};
+ghost use Rattle.circom_gold.specs.Source.{Codes, Given, IsCoded, IsStopOf, KnowsSource, Sources};
+ghost use Rattle.circom_gold.specs.Source.{SourcesBy};
 ghost use Rattle.circom_words.specs.Words.{Options as MeantOptions, meant_options};
 
 use cir_ast::Text;
@@ -120,7 +120,8 @@ pub fn start_in<S: Store>(
 ) -> Result<Vec<Gold>, Stop>
     ensures step { (source : List ℕ) (options : MeantOptions)
         → KnowsSource (S.contents store.old) source options coded.now.loaded
-        → GivesSteps (S.contents store.old) source options coded.now name.now
+        → StepsTo (λ v. v.items) (S.contents store.old)
+        (λ files found. Given files source options coded.now name.now found)
         (Rose (S.faults store.old) (S.faults store.new)) result }
     ensures store { OnlyReads (S.contents store.old) (S.contents store.new)
         (S.faults store.old) (S.faults store.new)
