@@ -1,23 +1,20 @@
 //! How many dimensions expressions have, and whether a function returns an array.
-ghost use Rattle.std.specs.Prelude.{◌≡◌, ◌==◌, [], ◌∷◌, not, map, slice_get, IfOk, OnOk};
+ghost use Rattle.std.specs.Prelude.{◌≡◌, ◌==◌, [], ◌∷◌, false, not, map, slice_get, IfOk, OnOk};
 ghost use Rattle.std.specs.List.{list_any};
 ghost use Rattle.cir_ast.specs.Tree.{bare, bare_place, as_accessors};
 ghost use Rattle.cir_ast.specs.Program.{bare_program};
+ghost use Rattle.cir_meaning.specs.Evaluate.{is_literal};
 ghost use Rattle.cir_meaning.specs.Limits.{standing};
 ghost use Rattle.cir_meaning.specs.Reached as R;
 ghost use Rattle.cir_texts.specs.Shown.{called_of};
 ghost use Rattle.cir_rules.specs.Shown.{made_of};
 ghost use Rattle.cir_rules.specs.Queue.{with_new, visited, told};
-ghost use Rattle.cir_rules.specs.Ranked.{ranked_of, ranked_made, ranks_in, followed, followed_call};
-ghost use Rattle.cir_rules.specs.Ranked.{small_ranks, list_in};
+ghost use Rattle.cir_rules.specs.Ranked.{ranked_of, ranked_made, ranks_in, followed};
 
 use crate::made::Made;
 use cir_ast::program::{Accessor, Expr, Meant, Place, Program};
-use cir_texts::{Called, Texts, declaration_of, text_of};
+use cir_texts::{Called, Texts, declaration_of, has_literal, text_of};
 use std::alloc::{AllocError, Global};
-
-/// Ranks above this aren't followed.
-const MOST_RANK: u64 = 300;
 
 /// A function with the rank of each argument.
 #[derive(Drop)]
@@ -136,46 +133,32 @@ fn add_ranked(
         (followed (ranks_in ranks.now texts.now) (map called_of calls.now))) }
 {
     for inner in calls {
+        if has_literal(inner.arguments) {
+            continue;
+        }
         let ranks = argument_ranks(alloc, texts, ranks, inner.arguments)?;
-        add_followed(inner.function, ranks, known)?;
+        let function = inner.function;
+        add_new(known, RankedCall { function, ranks })?;
     }
     Ok(())
 }
 
-fn add_followed(
-    function: u32,
-    ranks: Option<Vec<u64>>,
-    known: &mut Vec<RankedCall>,
-) -> Result<(), AllocError>
-    ensures { OnOk result (map ranked_of known.new.items
-        ≡ with_new R.same_call (map ranked_of known.old.items)
-        (followed_call function (list_in ranks))) }
-{
-    match ranks {
-        Some(ranks) => add_new(known, RankedCall { function, ranks }),
-        None => Ok(()),
-    }
-}
-
-/// The ranks of arguments, or none where one is too large.
+/// The ranks of arguments that are no array literals.
 fn argument_ranks(
     alloc: Global,
     texts: &Texts,
     ranks: &[u64],
     arguments: &[Expr],
-) -> Result<Option<Vec<u64>>, AllocError>
-    ensures { IfOk result (λ found. list_in found ≡ small_ranks
-        (map (R.rank_of (ranks_in ranks.now texts.now)) (map bare arguments.now))) }
+) -> Result<Vec<u64>, AllocError>
+    requires { list_any is_literal (map bare arguments.now) ≡ false }
+    ensures { IfOk result (λ found. found.items
+        ≡ map (R.rank_of (ranks_in ranks.now texts.now)) (map bare arguments.now)) }
 {
     let mut found = Vec::new(alloc);
     for e in arguments {
-        let rank = rank_of(texts, ranks, e);
-        if rank > MOST_RANK {
-            return Ok(None);
-        }
-        found.push(rank)?;
+        found.push(rank_of(texts, ranks, e))?;
     }
-    Ok(Some(found))
+    Ok(found)
 }
 
 fn returns_array(texts: &Texts, ranks: &[u64]) -> bool
@@ -192,7 +175,9 @@ fn returns_array(texts: &Texts, ranks: &[u64]) -> bool
 
 /// A call counts as a number, since its function is looked at by itself.
 fn rank_of(texts: &Texts, ranks: &[u64], e: &Expr) -> u64
-    ensures { result ≡ standing (R.rank_of (ranks_in ranks.now texts.now) (bare e.now)) }
+    ensures whole { is_literal (bare e.now) ≡ false
+        → result ≡ R.rank_of (ranks_in ranks.now texts.now) (bare e.now) }
+    ensures at_most { result ≡ standing (R.rank_of (ranks_in ranks.now texts.now) (bare e.now)) }
 {
     match e {
         Expr::Parentheses(inner) => rank_of(texts, ranks, inner),

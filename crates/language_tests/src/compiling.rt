@@ -52,6 +52,9 @@ function f(n) {{
 function pair(n) {{ return [n, n]; }}
 function sized(n) {{ var v[1 + 1]; return n; }}
 function first(v) {{ return v[0]; }}
+function itself(v) {{ return v; }}
+function passed(v, n) {{ return itself(v); }}
+function nested(n) {{ if (n) {{ return n; }} return nested([n]); }}
 component main = T();
 "
     );
@@ -74,7 +77,7 @@ const SIGNALS: Kind = Kind::Limit {
 };
 
 // Each row has statements, the kind of their refusal, its line and column, and the path there.
-static REFUSALS: [(&str, Kind, (u32, u32), &str); 25] = [
+static REFUSALS: [(&str, Kind, (u32, u32), &str); 26] = [
     ("a <== b;", Kind::WrongKind, (3, 1), "-"),
     ("c <== T;", Kind::WrongKind, (3, 1), "-"),
     ("c <== a; c === d;", Kind::UnknownName, (3, 10), "-"),
@@ -166,6 +169,14 @@ static REFUSALS: [(&str, Kind, (u32, u32), &str); 25] = [
         "main",
     ),
     (
+        "c <-- nested(a);",
+        Kind::NotInProfile {
+            form: Form::LiteralPlace,
+        },
+        (3, 1),
+        "main",
+    ),
+    (
         " var x[2] = 1; c <== a;",
         Kind::ShapeDiffers,
         (3, 2),
@@ -187,4 +198,21 @@ fn refusals_stand_at_their_statements(rt: HostRuntime) {
         expect_place(&rt, &refusal, *line, *column, "t.circom");
         same(&rt, refusal.place.path.as_slice(), path.as_bytes());
     }
+}
+
+// A function that another one passes an array of 301 dimensions to returns it.
+#[test]
+fn arrays_are_followed_however_many_dimensions_they_have(rt: HostRuntime) {
+    let mut statements = String::new(rt.alloc());
+    statements.push_str("var v").expect(&rt, "memory");
+    for _ in 0..301 {
+        statements.push_str("[1]").expect(&rt, "memory");
+    }
+    statements
+        .push_str(";\nc <-- passed(v, a);")
+        .expect(&rt, "memory");
+    let refusal = refusal(&rt, statements.as_str());
+    let form = Form::RunArray;
+    assert!(rt; is_kind(refusal.kind, Kind::NotInProfile { form }));
+    expect_place(&rt, &refusal, 4, 1, "t.circom");
 }
