@@ -10,6 +10,7 @@ abbrev pub behind : {X E A B : Type 0} → Step X E A → (A → X → Step X E 
 behind (Ok given) rest = rest given.0 given.1
 behind (Err stop) rest = Err stop
 
+-- the same step, which gives what is made of that
 abbrev pub made : {X E A B : Type 0} → (A → B) → Step X E A → Step X E B
 made make (Ok given) = Ok (make given.0, given.1)
 made make (Err stop) = Err stop

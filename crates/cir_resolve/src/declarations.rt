@@ -5,13 +5,13 @@ ghost use Rattle.cir_resolve.specs.Steps.{in_turn};
 ghost use Rattle.cir_resolve.specs.Naming.{named_variable, named_signal, named_component};
 ghost use Rattle.cir_resolve.specs.Answers.{state_of, Gives};
 
+use crate::lists::take_out;
 use crate::scope::Scopes;
 use crate::stop::Stop;
 use cir_ast::program::{
     DeclaredComponent, DeclaredSignal, DeclaredVariable, Direction, Meant, Spot,
 };
 use items::Items;
-use std::mem;
 
 impl Scopes<'_> {
     fn variable(&mut self, spot: Spot, variable: &mut DeclaredVariable) -> Result<(), Stop<Spot>>
@@ -35,7 +35,7 @@ impl Scopes<'_> {
             (in_turn (named_variable spot) (state_of self.old) (map bare_variable variables.old)) }
         ensures outer { OnOk result (self.new.outer.items ≡ self.old.outer.items) }
     {
-        let mut all = mem::replace(variables, Items::new(self.alloc)).into_vec();
+        let mut all = take_out(self.alloc, variables);
         for i in 0..all.len() {
             self.variable(spot, &mut all[i])?;
         }
@@ -71,7 +71,7 @@ impl Scopes<'_> {
             (map bare_signal signals.old)) }
         ensures outer { OnOk result (self.new.outer.items ≡ self.old.outer.items) }
     {
-        let mut all = mem::replace(signals, Items::new(self.alloc)).into_vec();
+        let mut all = take_out(self.alloc, signals);
         for i in 0..all.len() {
             self.signal(spot, direction, &mut all[i])?;
         }
@@ -100,7 +100,7 @@ impl Scopes<'_> {
             (map bare_component components.old)) }
         ensures outer { OnOk result (self.new.outer.items ≡ self.old.outer.items) }
     {
-        let mut all = mem::replace(components, Items::new(self.alloc)).into_vec();
+        let mut all = take_out(self.alloc, components);
         for i in 0..all.len() {
             self.component(spot, &mut all[i])?;
         }

@@ -6,10 +6,10 @@ ghost use Rattle.cir_resolve.specs.Naming.{named_expr, named_exprs, named_access
 ghost use Rattle.cir_resolve.specs.Naming.{named_each};
 ghost use Rattle.cir_resolve.specs.Answers.{state_of};
 
+use crate::lists::take_out;
 use crate::scope::Scopes;
 use cir_ast::program::{Accessor, Anonymous, Expr, Inputs, NamedInput, Place};
 use items::Items;
-use std::mem;
 
 #[tactic(auto, using(crate::proofs::Named::rows))]
 impl Scopes<'_> {
@@ -49,7 +49,7 @@ impl Scopes<'_> {
         ensures named { bare_exprs expressions.new
             ≡ named_exprs (state_of self.now) (bare_exprs expressions.old) }
     {
-        let mut all = mem::replace(expressions, Items::new(self.alloc)).into_vec();
+        let mut all = take_out(self.alloc, expressions);
         for i in 0..all.len() {
             self.name(&mut all[i]);
         }
@@ -72,7 +72,7 @@ impl Scopes<'_> {
         if accessors.is_empty() {
             return;
         }
-        let mut all = mem::replace(accessors, Items::new(self.alloc)).into_vec();
+        let mut all = take_out(self.alloc, accessors);
         for i in 0..all.len() {
             if let Accessor::Index(index) = &mut all[i] {
                 self.name(index);
@@ -98,7 +98,7 @@ impl Scopes<'_> {
     fn name_each(&self, inputs: &mut Items<NamedInput>)
         ensures { as_named inputs.new ≡ named_each (state_of self.now) (as_named inputs.old) }
     {
-        let mut all = mem::replace(inputs, Items::new(self.alloc)).into_vec();
+        let mut all = take_out(self.alloc, inputs);
         for i in 0..all.len() {
             self.name(&mut all[i].value);
         }

@@ -4,6 +4,7 @@
 mod declarations;
 mod definition;
 mod expressions;
+mod lists;
 mod names;
 mod parts;
 mod resolving;

@@ -6,10 +6,10 @@ ghost use Rattle.cir_resolve.specs.Naming.{named_value, named_signal_value, name
 ghost use Rattle.cir_resolve.specs.Naming.{named_argument, named_slot, named_target, named_source};
 ghost use Rattle.cir_resolve.specs.Answers.{state_of};
 
+use crate::lists::take_out;
 use crate::scope::Scopes;
 use cir_ast::program::{Assign, Expr, LogArgument, SignalValue, Slot, Source, Target};
 use items::Items;
-use std::mem;
 
 #[tactic(auto, using(crate::proofs::InTurn::changed_all))]
 impl Scopes<'_> {
@@ -56,7 +56,7 @@ impl Scopes<'_> {
         ensures { map bare_argument arguments.new
             ≡ map (named_argument (state_of self.now)) (map bare_argument arguments.old) }
     {
-        let mut all = mem::replace(arguments, Items::new(self.alloc)).into_vec();
+        let mut all = take_out(self.alloc, arguments);
         for i in 0..all.len() {
             if let LogArgument::Value(value) = &mut all[i] {
                 self.name(value);
@@ -69,7 +69,7 @@ impl Scopes<'_> {
         ensures { map bare_slot slots.new
             ≡ map (named_slot (state_of self.now)) (map bare_slot slots.old) }
     {
-        let mut all = mem::replace(slots, Items::new(self.alloc)).into_vec();
+        let mut all = take_out(self.alloc, slots);
         for i in 0..all.len() {
             if let Slot::Place(place) = &mut all[i] {
                 self.name_place(place);

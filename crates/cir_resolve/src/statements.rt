@@ -6,11 +6,11 @@ ghost use Rattle.cir_resolve.specs.Scope.{within};
 ghost use Rattle.cir_resolve.specs.Naming.{named_statement, named_statements};
 ghost use Rattle.cir_resolve.specs.Answers.{state_of, Gives};
 
+use crate::lists::take_out;
 use crate::scope::Scopes;
 use crate::stop::Stop;
 use cir_ast::program::{Block, Expr, First, Spot, Statement, StatementForm, Step};
 use items::Items;
-use std::mem;
 
 impl Scopes<'_> {
     #[cycle(statements)]
@@ -79,7 +79,7 @@ impl Scopes<'_> {
             (named_statements (state_of self.old) (bare_block block.old)) }
         ensures outer { OnOk result (self.new.outer.items ≡ self.old.outer.items) }
     {
-        let mut all = mem::replace(&mut block.statements, Items::new(self.alloc)).into_vec();
+        let mut all = take_out(self.alloc, &mut block.statements);
         for i in 0..all.len() {
             self.statement(&mut all[i])?;
         }

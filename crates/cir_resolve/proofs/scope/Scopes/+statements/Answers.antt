@@ -32,16 +32,14 @@ body-returns-in_err-statement-clause-named t c =
     stopped (λ (u : Unit {0}). bare_statement c.statement.new.statement) _ _ _ _ _ _ _
     c.from_residual.ensures.1 c.in_err-statement.ensures.named
     (λ p e.
-    block_named (state_of c.args.self.now) c.args.block.now _
-    (c.into_vec-all.ensures ∙ c.replace.ensures.value)
+    block_named (state_of c.args.self.now) c.args.block.now _ c.take_out-all.ensures
     ∙ ap (made as_statements)
     (given_stop bare_statement named_statement _ _ _ _ _ c.index_mut.result.now p
     c.loop-i.invariant.given (omega arith) c.index_mut.ensures.value e))
 
 pub body-returns-clause-named : goal.body-returns-clause-named
 body-returns-clause-named t c =
-    block_named (state_of c.args.self.now) c.args.block.now _
-    (c.into_vec-all.ensures ∙ c.replace.ensures.value)
+    block_named (state_of c.args.self.now) c.args.block.now _ c.take_out-all.ensures
     ∙ ap (made as_statements)
     (given_all bare_statement named_statement _ _ _ _ _ c.loop-i.invariant.given (omega arith))
     ∙ ap (λ b. Ok (b, state_of c.loop-i.self)) (sym (c.of-2.ensures
