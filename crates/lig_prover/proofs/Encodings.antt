@@ -1,18 +1,38 @@
 -- The matrix that the rows and the masks make.
-use Rattle.std.proofs.Common.{◌≡◌, ℕ, zero, suc, ◌+◌, ◌-◌, ◌*◌, ◌<◌, List, [], ◌++◌, length, get_or}
-use Rattle.std.proofs.Common.{sym, ap, subst, ◌∙◌, arith}
+use Rattle.std.proofs.Common.{◌≡◌, ℕ, zero, suc, ◌+◌, ◌-◌, ◌*◌, ◌^◌, ◌<◌, List, [], ◌++◌, length}
+use Rattle.std.proofs.Common.{get_or, sym, ap, subst, ◌∙◌, arith}
 use Rattle.std.specs.List.{AllZip, range_with_len}
+use Rattle.std.proofs.lemmas.Nat.{pow_pos}
 use Rattle.std.proofs.lemmas.List.{get_or_append_left, get_or-append-add, length-append}
+use Rattle.iden_files.specs.File.{File}
 use Rattle.lig_layout.specs.declared.params.Params.{Params}
 use Rattle.lig_layout.specs.declared.matrix.Vectors.{Vectors}
-use Rattle.lig_layout.specs.Sizes.{IsParams}
+use Rattle.lig_layout.specs.Sizes.{IsParams, params_of}
+use Rattle.lig_layout.specs.Width.{width_exponent}
 use Rattle.lig_layout.specs.Layout.{message, padded, row_at}
 use Rattle.lig_proof.specs.Encoding.{IsMaskedRow}
 use Rattle.lig_proof.specs.Masks.{row_mask, proximity_mask, linear_mask, product_mask}
 use Rattle.lig_proof.specs.Proving.{IsEncoded}
 use Rattle.lig_prover.specs.Matrix.{FitRows, encoded_by, test_masks}
+use Rattle.lig_prover.specs.Proves.{AreOf}
 use Rattle.lig_layout.proofs.Solving.{length-padded}
+use Rattle.lig_layout.proofs.Wired.{ceil_room}
 use Rattle.lig_proof.proofs.Collected.{at_first, placed_length}
+
+-- the vectors of a file fit in the rows that it has
+pub vectors_fit : (p : Params) (f : File) (v : Vectors) → p ≡ params_of f → AreOf f v → FitRows p v
+vectors_fit p f v is are =
+    let q = length f.constraints in
+    let e = width_exponent (f.wires + 3 * q) in
+    let wires = ceil_room f.wires (2 ^ e) (pow_pos e) in
+    let sides = ceil_room q (2 ^ e) (pow_pos e) in
+    let here : FitRows (params_of f) v = record {
+      w = omega (arith, are.w);
+      x = omega (arith, are.x);
+      y = omega (arith, are.y);
+      z = omega (arith, are.z);
+    } in
+    let Fits : Params → Type 0 = λ sizes. FitRows sizes v in subst Fits (sym is) here
 
 pub length-message : (p : Params) (v : Vectors) → IsParams p → FitRows p v
     → length (message p v) ≡ p.rows * p.l

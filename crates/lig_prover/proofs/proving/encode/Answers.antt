@@ -3,8 +3,14 @@ use Rattle.std.proofs.lemmas.List.Elements.{All-from_get_or}
 use Rattle.lig_proof.proofs.TestValues.{encoded_has_degrees}
 use Rattle.lig_prover.specs.Matrix.{encoded_by}
 use Rattle.lig_prover.specs.Transform.{values_at}
+use Rattle.lig_prover.proofs.Encodings.{vectors_fit}
 use Rattle.lig_prover.proofs.Made.{all_fit}
 use Rattle.lig_prover.proofs.proving.encode.Goals as goal
+
+pub polynomials-requires-clause-fit : goal.polynomials-requires-clause-fit
+polynomials-requires-clause-fit g c κs within =
+    vectors_fit c.args.params.now c.args.file.now c.args.vectors.now c.requires.file
+    c.requires.vectors
 
 pub evaluated-requires-clause-fits : goal.evaluated-requires-clause-fits
 evaluated-requires-clause-fits g c κs within =

@@ -12,8 +12,7 @@ use Rattle.lig_prover.proofs.rows.polynomials.Goals as goal
 pub masked_rows-requires-clause-whole : goal.masked_rows-requires-clause-whole
 masked_rows-requires-clause-whole g c κs within =
     ap length (c.deref.ensures.value ∙ c.in_ok-values.ensures)
-    ∙ length-message c.args.params.now c.args.vectors.now c.requires.params
-    (record { w = c.requires.w; x = c.requires.x; y = c.requires.y; z = c.requires.z })
+    ∙ length-message c.args.params.now c.args.vectors.now c.requires.params c.requires.fit
 
 pub returns-clause-encoded : goal.returns-clause-encoded
 returns-clause-encoded g c =
