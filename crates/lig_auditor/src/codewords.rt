@@ -7,7 +7,7 @@ ghost use Rattle.lig_auditor.specs.Opened.{IsOpening, ArePoints, ProximityAgrees
 ghost use Rattle.lig_auditor.specs.Opened.{column_of, no_system};
 
 use crate::agreement::{agrees, both};
-use crate::opening::{Opening, proximity_polynomial, column};
+use crate::opening::{Opening, column, proximity_polynomial};
 use gold_field::Gold;
 use std::alloc::{AllocError, Global};
 use std::thread::Threads;

@@ -130,7 +130,15 @@ pub fn prove_any_as<R: Threads + AllocGlobal + Sync>(
     let publics = publics_of(file, vectors.w.as_slice());
     let equations = equation_count(file);
     let challenges = challenges(alloc, &params, r1cs_bytes, publics, equations, &tree.root())?;
-    let polys = sent(rt, alloc, file, &params, &challenges, polynomials, &codewords)?;
+    let polys = sent(
+        rt,
+        alloc,
+        file,
+        &params,
+        &challenges,
+        polynomials,
+        &codewords,
+    )?;
     let drawn = queries(alloc, &params, &challenges.first, &polys)?;
     proof_in(alloc, version, &params, &tree, &codewords, polys, &drawn)
 }

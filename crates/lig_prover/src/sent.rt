@@ -8,7 +8,7 @@ ghost use Rattle.lig_proof.specs.Proving.{AreSystems};
 ghost use Rattle.lig_proof.specs.Sent.{proximity_test, in_order, sent_polynomials};
 ghost use Rattle.lig_prover.specs.Matrix.{AreCodewords, encoded_by};
 
-use crate::polynomials::{proximity_test, linear_test, product_test};
+use crate::polynomials::{linear_test, product_test, proximity_test};
 use gold_field::Gold;
 use iden_files::R1cs;
 use items::Items;

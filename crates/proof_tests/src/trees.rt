@@ -120,7 +120,9 @@ fn share<R: AllocGlobal + Abort>(rt: &R, opened: &[u32], count: u32, text: &str)
 {
     let found = shared(rt.alloc(), 3, opened).expect(rt, "memory");
     same(rt, found, count);
-    let nodes = tree_of(rt, 3).nodes(rt.alloc(), opened).expect(rt, "memory");
+    let nodes = tree_of(rt, 3)
+        .nodes(rt.alloc(), opened)
+        .expect(rt, "memory");
     let spelled = text_of(rt, &nodes);
     same(rt, spelled.as_str(), text);
     let leaves = leaves_at(rt, opened);
