@@ -1,5 +1,5 @@
 -- A board begins in the core's opening state
-use Rattle.std.proofs.Common.{◌≡◌, ◌≢◌, ℕ, ◌+◌, ◌<◌, ◌≤◌, false, List, [], length, take, refl, sym}
+use Rattle.std.proofs.Common.{◌≡◌, ◌≢◌, ℕ, ◌<◌, ◌≤◌, false, List, [], length, take, refl, sym}
 use Rattle.std.proofs.Common.{◌∙◌, ap, subst, inl, inr, arith, Option, Some, None, is_some, nat_lt}
 use Rattle.std.proofs.Common.{MatchOption}
 use Rattle.std.proofs.lemmas.Bool.{le-ltb}
@@ -11,7 +11,7 @@ use Rattle.flow_core.specs.Counts.{times}
 use Rattle.flow_core.specs.Net.{writes_of, preds_of, succs_of}
 use Rattle.flow_core.specs.Flow.{Flow, start_of}
 use Rattle.flow_core.specs.Core.{cell_of, missing_of, phase_of, published_at, released_at, releases}
-use Rattle.flow_core.specs.Core.{IsLeastRefused, IsSound}
+use Rattle.flow_core.specs.Core.{IsSound}
 use Rattle.flow_core.specs.Events.{hold, opening}
 use Rattle.flow_core.proofs.Totals.{total_none, place_of}
 use Rattle.flow_core.proofs.Keeps.{opens, waits_at_first}
@@ -21,7 +21,7 @@ use Rattle.flow_board.specs.Views.{first}
 use Rattle.flow_board.specs.Rule.{done_mark, refused_mark, Ruled}
 use Rattle.flow_board.specs.Events.{Shown}
 use Rattle.flow_board.proofs.Steps.{none_some, cases_start}
-use Rattle.flow_board.proofs.Ends.{only_one, begins}
+use Rattle.flow_board.proofs.Ends.{only_one, begins_so}
 
 is_waiting : (p : Phase) → ((w a b : ℕ) → p ≢ Held w a b) → done_mark p ≡ 0 → refused_mark p ≡ 0
     → p ≡ Waiting
@@ -84,8 +84,5 @@ module _ (f : Flow) (ws : List ℕ) (r : Ruled f (table.opening ws [] (first f))
       }
 
   pub opens_so : Shown f (table.opening ws [] (first f)) (opening f)
-  opens_so = (
-    begins f ws r.narrow r.net r.flow
-        (λ c x e. r.numbers c x (r.kept.holds_values.starts c x e)) shows_opening,
-    refl,
-  )
+  opens_so = begins_so f ws r.narrow r.net r.flow
+      (λ c x e. r.numbers c x (r.kept.holds_values.starts c x e)) shows_opening

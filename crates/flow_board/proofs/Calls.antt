@@ -1,5 +1,5 @@
 -- What each call asks of the table, and what it knows of its seat afterwards
-use Rattle.std.proofs.Common.{◌≡◌, ℕ, ◌+◌, ◌-◌, ◌%◌, ◌^◌, ◌<◌, ◌≤◌, min, Bool, cond, ◌==◌, IsTrue}
+use Rattle.std.proofs.Common.{◌≡◌, ℕ, ◌+◌, ◌-◌, ◌%◌, ◌^◌, ◌<◌, ◌≤◌, min, Bool, ◌==◌, IsTrue}
 use Rattle.std.proofs.Common.{◌↔◌, List, [], get_or, refl, sym, ◌∙◌, ap, subst, arith, Option, Some}
 use Rattle.std.proofs.Common.{None, unwrap_or}
 use mathlib.Core.Option.{some, none}
@@ -11,7 +11,6 @@ use Rattle.atomic_table.specs.Seated.{TableId}
 use Rattle.flow_core.specs.declared.Hold.{Hold}
 use Rattle.flow_core.specs.Net.{Net, writes_of, succs_of}
 use Rattle.flow_core.specs.Flow.{Flow, HasValue}
-use Rattle.flow_core.specs.Events.{hold}
 use Rattle.flow_core.proofs.Totals.{is_in_at}
 use Rattle.flow_core.proofs.Nets.{writes_few, succs_few, succs_near}
 use Rattle.flow_board.specs.declared.view.View.{View}
@@ -20,18 +19,18 @@ use Rattle.flow_board.specs.Shows.{cell_at, counter_at}
 use Rattle.flow_board.specs.Views.{after_step, after_take, after_split, cut_from, joined_with}
 use Rattle.flow_board.specs.Views.{spent}
 use Rattle.flow_board.specs.Rule.{Ruled}
-use Rattle.flow_board.specs.Plays.{Sat, Reads, CanPublish, CanRelease, CanFinish}
+use Rattle.flow_board.specs.Plays.{SeatState, Reads, CanPublish, CanRelease, CanFinish}
 use Rattle.flow_board.specs.Plays.{CanRefuse, read_play, publish_play, release_play, take_play}
 use Rattle.flow_board.specs.Plays.{finish_play, refuse_play, look_play}
 use Rattle.flow_board.specs.Seats.{Place, Worker, place, worker, place_of, with_view, Stands}
 use Rattle.flow_board.proofs.Steps.{reads_cell, looks, publishes, releases_next, finishes, refuses}
 use Rattle.flow_board.proofs.Steps.{takes}
-use Rattle.flow_board.specs.Closed.{Closes, closing, IsClosing}
+use Rattle.flow_board.specs.Closed.{ShowsEnd, closed_words, AreInRange}
 use Rattle.flow_board.proofs.Ends.{closed, closing_fits}
 use Rattle.flow_board.proofs.Sharing.{splits, joins}
 
 -- a seat, open, of a board, open
-pub record Sits (f : Flow) (net : Net) (cells strands : ℕ) (z' z : TableId) (me : Sat)
+pub record Sits (f : Flow) (net : Net) (cells strands : ℕ) (z' z : TableId) (me : SeatState)
     (held : Option Hold) (w : Worker) (p : Place) : Type 0 where
   pub stands : Stands f net cells strands z'
   pub seat_is : worker z me.0 ≡ w
@@ -39,7 +38,7 @@ pub record Sits (f : Flow) (net : Net) (cells strands : ℕ) (z' z : TableId) (m
   pub own : place_of w ≡ p
   pub kept : (me.0.holding ≡ held) × (0 < me.0.share) × (me.1 ≡ [])
 
-module _ {f : Flow} {net : Net} {cells strands : ℕ} {z' z : TableId} {me : Sat}
+module _ {f : Flow} {net : Net} {cells strands : ℕ} {z' z : TableId} {me : SeatState}
     {held : Option Hold} {w : Worker} {p : Place} where
   pub sits : Stands f net cells strands z' → worker z me.0 ≡ w → place z' f ≡ p → place_of w ≡ p
       → (me.0.holding ≡ held) × (0 < me.0.share) × (me.1 ≡ [])
@@ -48,16 +47,16 @@ module _ {f : Flow} {net : Net} {cells strands : ℕ} {z' z : TableId} {me : Sat
       record { stands = stands; seat_is = seat-is; board_is = board-is; own = own; kept = kept }
 
 -- what a seat's invariant asks after a step
-pub seat_fits : (n : Sat) (u : View) (cs : List (ℕ × ℕ)) (held : Option Hold) → n ≡ (u, cs)
+pub seat_fits : (n : SeatState) (u : View) (cs : List (ℕ × ℕ)) (held : Option Hold) → n ≡ (u, cs)
     → u.holding ≡ held → 0 < u.share → cs ≡ [] → (n.0.holding ≡ held) × (0 < n.0.share) × (n.1 ≡ [])
 seat_fits n u cs held e h s c = (
-  ap (λ (m : Sat). m.0.holding) e
+  ap (λ (m : SeatState). m.0.holding) e
       ∙ h,
-  (let q : n.0.share ≡ u.share = ap (λ (m : Sat). m.0.share) e in omega arith),
-  ap (λ (m : Sat). m.1) e ∙ c,
+  (let q : n.0.share ≡ u.share = ap (λ (m : SeatState). m.0.share) e in omega arith),
+  ap (λ (m : SeatState). m.1) e ∙ c,
 )
 
-module _ {f : Flow} {net : Net} {cells strands : ℕ} {z' z : TableId} {me : Sat}
+module _ {f : Flow} {net : Net} {cells strands : ℕ} {z' z : TableId} {me : SeatState}
     {held : Option Hold} {w : Worker} {p : Place} (sat : Sits f net cells strands z' z me held w p)
   where
     st : Stands f net cells strands z'
@@ -84,14 +83,16 @@ module _ {f : Flow} {net : Net} {cells strands : ℕ} {z' z : TableId} {me : Sat
         let S : Option Hold → Type 0 = λ o. Reads f o c in
         subst S same_holding (subst R (sym same_flow) h)
 
-    pub can_publish_here : (x : ℕ) → CanPublish p.flow w.view.holding x → CanPublish f me.0.holding x
+    pub can_publish_here : (x : ℕ) → CanPublish p.flow w.view.holding x
+        → CanPublish f me.0.holding x
     can_publish_here x h = let R : Flow → Type 0 = λ g. CanPublish g w.view.holding x in
         let S : Option Hold → Type 0 = λ o. CanPublish f o x in
         subst S same_holding (subst R (sym same_flow) h)
 
     pub can_release_here : CanRelease p.flow w.view.holding → CanRelease f me.0.holding
-    can_release_here h = let R : Flow → Type 0 = λ g. CanRelease g w.view.holding in let S : Option Hold
-        → Type 0 = λ o. CanRelease f o in subst S same_holding (subst R (sym same_flow) h)
+    can_release_here h = let R : Flow → Type 0 = λ g. CanRelease g w.view.holding in
+        let S : Option Hold → Type 0 = λ o. CanRelease f o in
+        subst S same_holding (subst R (sym same_flow) h)
 
     pub can_finish_here : CanFinish p.flow w.view.holding → CanFinish f me.0.holding
     can_finish_here h = let R : Flow → Type 0 = λ g. CanFinish g w.view.holding in
@@ -121,8 +122,8 @@ module _ {f : Flow} {net : Net} {cells strands : ℕ} {z' z : TableId} {me : Sat
               (x.0, keeps, tt, x.1, x.3)),
         )
 
-    pub read_asks : (id : ℕ) → (c : ℕ) → Reads p.flow w.view.holding c → (z ≡ z') × (1 + c < z'.words)
-        × Allows (Ruled f) z'.slots id me (1 + c) (λ n. n)
+    pub read_asks : (id : ℕ) → (c : ℕ) → Reads p.flow w.view.holding c
+        → (z ≡ z') × (1 + c < z'.words) × Allows (Ruled f) z'.slots id me (1 + c) (λ n. n)
         (read_play (step z'.slots (1 + c) 0 0 none) me)
     read_asks id c reads = let h = reads_here c reads in
         let in-net = st.net.reads_near h.0.strand c h.2 in let ws = st.words_are in (
@@ -132,7 +133,7 @@ module _ {f : Flow} {net : Net} {cells strands : ℕ} {z' z : TableId} {me : Sat
               (omega arith) (omega arith) t r at small in (x.0, keeps, tt, x.1, x.3),
         )
 
-    pub read_gives : (c r : ℕ) (n : Sat) → Reads p.flow w.view.holding c
+    pub read_gives : (c r : ℕ) (n : SeatState) → Reads p.flow w.view.holding c
         → read_play (step z'.slots (1 + c) 0 0 none) me r n → (x : ℕ) × (r ≡ x + 1)
         × HasValue p.flow c x × (x < P)
     read_gives c r n reads told = let h = reads_here c reads in
@@ -143,7 +144,8 @@ module _ {f : Flow} {net : Net} {cells strands : ℕ} {z' z : TableId} {me : Sat
         (v.0, v.1, subst H same_flow here, v.3)
 
     pub publish_asks : (id : ℕ) → (c x : ℕ) (h : Hold) → held ≡ Some h
-        → CanPublish p.flow w.view.holding x → x < P → c ≡ get_or (writes_of net h.strand) h.published 0
+        → CanPublish p.flow w.view.holding x → x < P
+        → c ≡ get_or (writes_of net h.strand) h.published 0
         → (z ≡ z') × (1 + c < z'.words) × Allows (Ruled f) z'.slots id me (1 + c) (λ _. x + 1)
         (λ _. publish_play (step z'.slots (1 + c) (x + 1) 0 none) me (x + 1))
     publish_asks id c x h is next below c-is = let q = can_publish_here x next in
@@ -168,8 +170,8 @@ module _ {f : Flow} {net : Net} {cells strands : ℕ} {z' z : TableId} {me : Sat
               (y.0, keeps, tt, y.1, y.3),
         )
 
-    pub release_asks : (id : ℕ) → (j : ℕ) (h : Hold) → held ≡ Some h → CanRelease p.flow w.view.holding
-        → j ≡ get_or (succs_of net h.strand) h.released 0
+    pub release_asks : (id : ℕ) → (j : ℕ) (h : Hold) → held ≡ Some h
+        → CanRelease p.flow w.view.holding → j ≡ get_or (succs_of net h.strand) h.released 0
         → (z ≡ z') × (1 + cells + j < z'.words) × Allows (Ruled f) z'.slots id me (1 + cells + j)
         (λ n. (n + (2 ^ 64 - 1)) % 2 ^ 64)
         (release_play (step z'.slots (1 + cells + j) 1 0 none) me)
@@ -210,8 +212,8 @@ module _ {f : Flow} {net : Net} {cells strands : ℕ} {z' z : TableId} {me : Sat
           (x.0, keeps, tt, x.1, x.3),
     )
 
-    pub refuse_asks : (id : ℕ) → (k : ℕ) (h : Hold) → held ≡ Some h → CanRefuse p.flow w.view.holding
-        → k ≡ h.strand → (z ≡ z') × (0 < z'.words)
+    pub refuse_asks : (id : ℕ) → (k : ℕ) (h : Hold) → held ≡ Some h
+        → CanRefuse p.flow w.view.holding → k ≡ h.strand → (z ≡ z') × (0 < z'.words)
         × Allows (Ruled f) z'.slots id me 0 (λ n. min n k)
         (refuse_play (step z'.slots 0 k 0 none) me)
     refuse_asks id k h is next k-is = let q = can_refuse_here next in
@@ -243,11 +245,11 @@ module _ {f : Flow} {net : Net} {cells strands : ℕ} {z' z : TableId} {me : Sat
         (same_table, first_word, splits f id me.0 (sym same_holding ∙ free) (omega arith))
 
     -- the seat afterwards, closed
-    pub seat_after : (y : TableId) (n : Sat) (u : View) → y ≡ z → n ≡ (u, me.1)
+    pub seat_after : (y : TableId) (n : SeatState) (u : View) → y ≡ z → n ≡ (u, me.1)
         → worker y n.0 ≡ worker z u
     seat_after y n u e e' = λ i. worker (e i) (e' i).0
 
-    pub read_leaves : (y : TableId) (n : Sat) (c r x : ℕ) → y ≡ z
+    pub read_leaves : (y : TableId) (n : SeatState) (c r x : ℕ) → y ≡ z
         → n ≡ (after_step me.0 (1 + c) r, me.1) → r ≡ x + 1
         → worker y n.0 ≡ with_view w (after_step w.view (cell_at c) (x + 1))
     read_leaves y n c r x e told is = seat_after y n (after_step me.0 (1 + c) r) e told
@@ -260,16 +262,17 @@ module _ {f : Flow} {net : Net} {cells strands : ℕ} {z' z : TableId} {me : Sat
         let here : 1 + f.net.cells + k ≡ counter_at p.flow k = subst C same_flow refl in
         omega arith
 
-    pub take_found : (r : ℕ) (b : Bool) (n : Sat) (u : View) → b ≡ (r == 0) → n ≡ (u, me.1)
+    pub take_found : (r : ℕ) (b : Bool) (n : SeatState) (u : View) → b ≡ (r == 0) → n ≡ (u, me.1)
         → u.found ≡ r → IsTrue b ↔ (n.0.found ≡ 0)
-    take_found r b n u b-is e t = let found : n.0.found ≡ r = ap (λ (m : Sat). m.0.found) e ∙ t in
+    take_found r b n u b-is e t =
+        let found : n.0.found ≡ r = ap (λ (m : SeatState). m.0.found) e ∙ t in
         ((λ q. found ∙ eqb-true r 0 (sym b-is ∙ q)), λ q. b-is ∙ eq-eqb r 0 (sym found ∙ q))
 
-    pub take_leaves : (y : TableId) (n : Sat) (r k : ℕ) (b : Bool) → y ≡ z
+    pub take_leaves : (y : TableId) (n : SeatState) (r k : ℕ) (b : Bool) → y ≡ z
         → n ≡ (after_take me.0 (1 + cells + k) r k (r == 0), me.1) → b ≡ (r == 0)
         → worker y n.0 ≡ with_view w (after_take w.view (counter_at p.flow k) n.0.found k b)
     take_leaves y n r k b e told b-is =
-        let found : r ≡ n.0.found = ap (λ (m : Sat). m.0.found) (sym told) in
+        let found : r ≡ n.0.found = ap (λ (m : SeatState). m.0.found) (sym told) in
         seat_after y n (after_take me.0 (1 + cells + k) r k (r == 0)) e told
         ∙ (λ i. worker z (after_take me.0 (counter_here k i) (found i) k (sym b-is i)))
         ∙ ap (λ (x : Worker). with_view x (after_take x.view (counter_at p.flow k) n.0.found k b))
@@ -296,7 +299,7 @@ module _ {f : Flow} {net : Net} {cells strands : ℕ} {z' z : TableId} {me : Sat
         let e : h.released ≡ q.held.released = ap (λ (y : Hold). y.released) same-hold in
         omega arith
 
-    pub join_asks : (id : ℕ) → (o-z : TableId) (o-id : ℕ) (o-me : Sat) (o-held : Option Hold)
+    pub join_asks : (id : ℕ) → (o-z : TableId) (o-id : ℕ) (o-me : SeatState) (o-held : Option Hold)
         (o : Worker) → worker o-z o-me.0 ≡ o → (o-me.0.holding ≡ o-held) × (0 < o-me.0.share)
         × (o-me.1 ≡ []) → place_of o ≡ p → w.view.holding ≡ None → o.view.holding ≡ None
         → (z ≡ z') × (o-z ≡ z') × (o-me.1 ≡ []) × (0 < z'.words)
@@ -308,30 +311,33 @@ module _ {f : Flow} {net : Net} {cells strands : ℕ} {z' z : TableId} {me : Sat
           ap (λ (x : Place). x.table_id) o-place,
           kept.2,
           first_word,
-          joins f id o-id me.0 o-me.0 (sym same_holding ∙ free) (ap (λ (x : Worker). x.view.holding) is
+          joins f id o-id me.0 o-me.0 (sym same_holding ∙ free)
+              (ap (λ (x : Worker). x.view.holding) is
               ∙ o-free) live kept.1,
         )
 
     closes_here : (id : ℕ) → (ws xs : List ℕ) → w.view.holding ≡ None → w.view.share ≡ 65
-        → Final (Seen (Ruled f) id me.0) ws xs → Closes f me.0.done me.0.refused ws
+        → Final (Seen (Ruled f) id me.0) ws xs → ShowsEnd f me.0.done me.0.refused ws
     closes_here id ws xs free whole h = let e : me.0.share ≡ w.view.share =
         ap (λ (x : Worker). x.view.share) sat.seat_is in
         closed f id me.0 ws xs (sym same_holding ∙ free) (e ∙ whole) h
 
     pub closes_with : (id : ℕ) → (ws xs vs : List ℕ) → w.view.holding ≡ None → w.view.share ≡ 65
-        → Final (Seen (Ruled f) id me.0) ws xs → vs ≡ ws → Closes p.flow w.view.done w.view.refused vs
+        → Final (Seen (Ruled f) id me.0) ws xs → vs ≡ ws
+        → ShowsEnd p.flow w.view.done w.view.refused vs
     closes_with id ws xs vs free whole h e = let C : List ℕ
-        → Type 0 = Closes p.flow w.view.done w.view.refused in
-        let W : Worker → Type 0 = λ x. Closes p.flow x.view.done x.view.refused ws in
-        let F : Flow → Type 0 = λ g. Closes g me.0.done me.0.refused ws in
+        → Type 0 = ShowsEnd p.flow w.view.done w.view.refused in
+        let W : Worker → Type 0 = λ x. ShowsEnd p.flow x.view.done x.view.refused ws in
+        let F : Flow → Type 0 = λ g. ShowsEnd g me.0.done me.0.refused ws in
         subst C (sym e) (subst W sat.seat_is
         (subst F same_flow (closes_here id ws xs free whole h)))
 
     pub closing_is : (id : ℕ) → (ws xs vs : List ℕ) → w.view.holding ≡ None → w.view.share ≡ 65
-        → Final (Seen (Ruled f) id me.0) ws xs → vs ≡ ws → IsClosing (closing cells strands vs)
+        → Final (Seen (Ruled f) id me.0) ws xs → vs ≡ ws
+        → AreInRange (closed_words cells strands vs)
     closing_is id ws xs vs free whole h e = let fits = closing_fits f me.0.done me.0.refused ws
         (closes_here id ws xs free whole h) in
-        let C : ℕ → Type 0 = λ n. IsClosing (closing n strands vs) in
-        let K : ℕ → Type 0 = λ n. IsClosing (closing f.net.cells n vs) in
-        let W : List ℕ → Type 0 = λ us. IsClosing (closing f.net.cells f.net.strands us) in
+        let C : ℕ → Type 0 = λ n. AreInRange (closed_words n strands vs) in
+        let K : ℕ → Type 0 = λ n. AreInRange (closed_words f.net.cells n vs) in
+        let W : List ℕ → Type 0 = λ us. AreInRange (closed_words f.net.cells f.net.strands us) in
         subst C (sym st.cells_are) (subst K (sym st.strands_are) (subst W (sym e) fits))

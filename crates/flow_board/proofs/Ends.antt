@@ -19,7 +19,8 @@ use Rattle.flow_board.specs.Shows.{cell_word, Shows}
 use Rattle.flow_board.specs.Views.{first, spent}
 use Rattle.flow_board.specs.Rule.{done_mark, refused_mark, HasNumbers, SeatFits}
 use Rattle.flow_board.specs.Rule.{Ruled}
-use Rattle.flow_board.specs.Closed.{Closes, closing, IsClosing}
+use Rattle.flow_board.specs.Events.{Shown}
+use Rattle.flow_board.specs.Closed.{ShowsEnd, closed_words, AreInRange}
 use Rattle.flow_board.proofs.Views.{terms_le}
 use Rattle.flow_board.proofs.Moved.{Board}
 use Rattle.flow_board.proofs.Steps.{none_some, least_told}
@@ -28,10 +29,12 @@ pub only_one : {A : Type 0} (x y : A) (j : ℕ) → get_elem? (x ∷ []) j ≡ s
 only_one x y zero e = (refl, some-injective x y e)
 only_one x y (suc j) e = absurd (some-ne-none y (sym e))
 
-pub begins : (f : Flow) (ws : List ℕ) → f.net.strands < 2 ^ 32 → IsNet f.net → IsFlow f
-    → HasNumbers f.start → Shows f (opening f) ws → Ruled f (table.opening ws [] (first f))
-begins f ws narrow ok flow numbers shows = let s : State = opening f in
-    let waits = waits_at_first f in record {
+pub begins_so : (f : Flow) (ws : List ℕ) → f.net.strands < 2 ^ 32 → IsNet f.net → IsFlow f
+    → HasNumbers f.start → Shows f (opening f) ws
+    → Shown f (table.opening ws [] (first f)) (opening f)
+begins_so f ws narrow ok flow numbers shows = let s : State = opening f in
+    let waits = waits_at_first f in
+    let next : Ruled f (table.opening ws [] (first f)) = record {
       core = s;
       narrow = narrow;
       net = ok;
@@ -50,7 +53,11 @@ begins f ws narrow ok flow numbers shows = let s : State = opening f in
       done_is = λ k. ap done_mark (sym (waits k));
       refused_is = λ k. ap refused_mark (sym (waits k));
       shares = refl;
-    }
+    } in (next, refl)
+
+pub begins : (f : Flow) (ws : List ℕ) → f.net.strands < 2 ^ 32 → IsNet f.net → IsFlow f
+    → HasNumbers f.start → Shows f (opening f) ws → Ruled f (table.opening ws [] (first f))
+begins f ws narrow ok flow numbers shows = (begins_so f ws narrow ok flow numbers shows).0
 
 pub total_zero : {A : Type 0} (g : A → ℕ) (l : List A)
     → ((i : ℕ) (u : A) → get_elem? l i ≡ some u → g u ≡ 0) → total g l ≡ 0
@@ -74,7 +81,7 @@ module _ (f : Flow) (t : Board) (r : Ruled f t) (id : ℕ) (v : View)
   others_spent j u ne e = let le = terms_le (λ (x : View). x.share) t.views id j v u ne at e in
       let all = r.shares in (r.seats j u e).joined (omega arith)
 
-  pub closes : Closes f v.done v.refused t.words
+  pub closes : ShowsEnd f v.done v.refused t.words
   closes = record {
     core = r.core;
     narrow = r.narrow;
@@ -98,16 +105,16 @@ module _ (f : Flow) (t : Board) (r : Ruled f t) (id : ℕ) (v : View)
   }
 
 pub closed : (f : Flow) (id : ℕ) (v : View) (ws xs : List ℕ) → v.holding ≡ None → v.share ≡ 65
-    → Final (Seen (Ruled f) id v) ws xs → Closes f v.done v.refused ws
-closed f id v ws xs free whole h = let C : List ℕ → Type 0 = Closes f v.done v.refused in
+    → Final (Seen (Ruled f) id v) ws xs → ShowsEnd f v.done v.refused ws
+closed f id v ws xs free whole h = let C : List ℕ → Type 0 = ShowsEnd f v.done v.refused in
     subst C h.2 (closes f h.0 h.1.0 id v h.1.1 free whole)
 
 word_below : (o : Option ℕ) (p : ℕ) → ((x : ℕ) → o ≡ Some x → x < p) → cell_word o ≤ p
 word_below None p h = omega arith
 word_below (Some x) p h = let l = h x refl in omega arith
 
-pub closing_fits : (f : Flow) (done refused ws : List ℕ) → Closes f done refused ws
-    → IsClosing (closing f.net.cells f.net.strands ws)
+pub closing_fits : (f : Flow) (done refused ws : List ℕ) → ShowsEnd f done refused ws
+    → AreInRange (closed_words f.net.cells f.net.strands ws)
 closing_fits f done refused ws c = record {
   wide = c.shows.wide;
   cells_below = λ d lt. let is = c.shows.cell_is d lt in

@@ -16,7 +16,7 @@ use Rattle.flow_core.proofs.Values.{one_value}
 use Rattle.flow_board.specs.declared.rule.TheConstants.{TAKEN}
 use Rattle.flow_board.specs.Shows.{cell_at, counter_at, cell_word, counter_word, least_word}
 use Rattle.flow_board.specs.Rule.{done_mark}
-use Rattle.flow_board.specs.Closed.{Closing, cell_in, done_in, least_in, IsClosed, IsDoneBelow}
+use Rattle.flow_board.specs.Closed.{ClosedWords, cell_in, done_in, least_in, IsClosed, IsDoneBelow}
 use Rattle.flow_board.specs.Closed.{HasOnlyAnswers}
 use Rattle.flow_board.proofs.Openings.{start_near}
 use Rattle.flow_board.proofs.Steps.{least_told}
@@ -36,7 +36,7 @@ done_phase (Held w x y) a b c = absurd (b w x y refl)
 done_phase Done a b c = refl
 done_phase Refused a b c = absurd (c refl)
 
-least_low : (f : Flow) (w : Closing) (o : Option ℕ) → get_or w.words 0 0 ≡ least_word f o
+least_low : (f : Flow) (w : ClosedWords) (o : Option ℕ) → get_or w.words 0 0 ≡ least_word f o
     → w.strands ≡ f.net.strands
     → (k : ℕ) → k < f.net.strands → IsBelow (least_in w) k → (l : ℕ) → o ≡ Some l → k < l
 least_low f w o at strands k near below l e =
@@ -53,14 +53,16 @@ some_none : (x : ℕ) → Some x ≡ None → ⊥
 some_none x e = cc
 
 -- a cell's word that has a value reads as it
-cell_reads : (w : Closing) (c x : ℕ) → get_or w.words (cell_at c) 0 ≡ x + 1 → cell_in w c ≡ Some x
+cell_reads : (w : ClosedWords) (c x : ℕ) → get_or w.words (cell_at c) 0 ≡ x + 1
+    → cell_in w c ≡ Some x
 cell_reads w c x e =
     let n : ℕ = get_or w.words (cell_at c) 0 in
     let some : (n == 0) ≡ false = ne_eqb n 0 (λ z. omega arith) in
     let less : n - 1 ≡ x = omega arith in
     (λ i. cond (some i) None (Some (less i)))
 
-word_reads : (w : Closing) (c x : ℕ) → cell_in w c ≡ Some x → get_or w.words (cell_at c) 0 ≡ x + 1
+word_reads : (w : ClosedWords) (c x : ℕ) → cell_in w c ≡ Some x
+    → get_or w.words (cell_at c) 0 ≡ x + 1
 word_reads w c x e =
     let n : ℕ = get_or w.words (cell_at c) 0 in elim (cases_eq n 0) [
       | inl z ↦ (let empty : cell_in w c ≡ None = ap (λ (b : Bool). cond b None (Some (n - 1)))
@@ -79,7 +81,7 @@ some_filled : (o : Option ℕ) → is_some o ≡ true → (x : ℕ) × (o ≡ So
 some_filled None e = cc
 some_filled (Some x) e = (x, refl)
 
-least_reads : (w : Closing) (l : ℕ) → least_in w ≡ Some l → (get_or w.words 0 0 ≡ l)
+least_reads : (w : ClosedWords) (l : ℕ) → least_in w ≡ Some l → (get_or w.words 0 0 ≡ l)
     × (get_or w.words 0 0 ≢ w.strands)
 least_reads w l e =
     let n : ℕ = get_or w.words 0 0 in elim (cases_eq n w.strands) [
@@ -91,7 +93,7 @@ least_reads w l e =
           (ap (λ (o : Option ℕ). unwrap_or o l) (sym full ∙ e), ne))
     ]
 
-module _ (f : Flow) (done refused : List ℕ) (w : Closing) (h : IsClosed f done refused w) where
+module _ (f : Flow) (done refused : List ℕ) (w : ClosedWords) (h : IsClosed f done refused w) where
   abbrev core : State
   core = h.closes.core
 

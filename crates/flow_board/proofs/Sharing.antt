@@ -59,14 +59,16 @@ cuts f id v free many t r at = let o = r.seats id v at in let n = set t.views id
           }) (at_snoc n (cut_from v) u j e);
       holder = λ k j a b e. let x = r.holder k j a b e in
           let ne = holder_else t id k j a b v x.0 at free x.1 x.2 in
-          (x.0, at_longer n (cut_from v ∷ []) j x.0 (set_else t.views id j (after_split v) ne ∙ x.1), x.2);
+          let there = set_else t.views id j (after_split v) ne ∙ x.1 in
+          (x.0, at_longer n (cut_from v ∷ []) j x.0 there, x.2);
       done_is = λ k. let g : View → ℕ = λ u. times k u.done in
           let m = total-set g t.views id v (after_split v) at in
           let a = total-append g n (cut_from v ∷ []) in let d = r.done_is k in omega arith;
       refused_is = λ k. let g : View → ℕ = λ u. times k u.refused in
           let m = total-set g t.views id v (after_split v) at in
           let a = total-append g n (cut_from v ∷ []) in let d = r.refused_is k in omega arith;
-      shares = let g : View → ℕ = λ u. u.share in let m = total-set g t.views id v (after_split v) at in
+      shares = let g : View → ℕ = λ u. u.share in
+          let m = total-set g t.views id v (after_split v) at in
           let a = total-append g n (cut_from v ∷ []) in let d = r.shares in omega arith;
     } in (next, refl)
 
@@ -86,7 +88,8 @@ pub takes_in : (f : Flow) (id other : ℕ) (v w : View) → v.holding ≡ None �
     } r.core
 takes_in f id other v w free free' live live' t r at apart there' = let o = r.seats id v at in
     let n = set t.views id (joined_with v w) in
-    let there : get_elem? n other ≡ some w = set_else t.views id other (joined_with v w) apart ∙ there' in
+    let there : get_elem? n other ≡ some w =
+    set_else t.views id other (joined_with v w) apart ∙ there' in
     let o' = r.seats other w there' in
     let next : Ruled f record { words = t.words; homes = t.homes; views = set n other spent } =
     record {
@@ -117,7 +120,8 @@ takes_in f id other v w free free' live live' t r at apart there' = let o = r.se
       holder = λ k j a b e. let x = r.holder k j a b e in
           let ne = holder_else t id k j a b v x.0 at free x.1 x.2 in
           let ne' = holder_else t other k j a b w x.0 there' free' x.1 x.2 in
-          (x.0, set_else n other j spent ne' ∙ set_else t.views id j (joined_with v w) ne ∙ x.1, x.2);
+          let here = set_else t.views id j (joined_with v w) ne ∙ x.1 in
+          (x.0, set_else n other j spent ne' ∙ here, x.2);
       done_is = λ k. let g : View → ℕ = λ u. times k u.done in
           let m = total-set g t.views id v (joined_with v w) at in
           let m' = total-set g n other w spent there in let a = times-append k v.done w.done in
@@ -126,7 +130,8 @@ takes_in f id other v w free free' live live' t r at apart there' = let o = r.se
           let m = total-set g t.views id v (joined_with v w) at in
           let m' = total-set g n other w spent there in
           let a = times-append k v.refused w.refused in let d = r.refused_is k in omega arith;
-      shares = let g : View → ℕ = λ u. u.share in let m = total-set g t.views id v (joined_with v w) at in
+      shares = let g : View → ℕ = λ u. u.share in
+          let m = total-set g t.views id v (joined_with v w) at in
           let m' = total-set g n other w spent there in let d = r.shares in omega arith;
     } in (next, refl)
 

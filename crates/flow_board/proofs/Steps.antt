@@ -34,7 +34,7 @@ use Rattle.flow_board.specs.Rule.{done_mark, refused_mark, HasNumbers, Ruled}
 use Rattle.flow_board.specs.Events.{Becomes, Shown, Evolves, WordSteps, taking}
 use Rattle.flow_board.specs.Views.{one_published, one_released, with_held, after_step, after_take}
 use Rattle.flow_board.specs.Views.{after_look}
-use Rattle.flow_board.specs.Plays.{Sat, Reads, CanPublish, CanRelease, CanFinish, CanRefuse}
+use Rattle.flow_board.specs.Plays.{SeatState, Reads, CanPublish, CanRelease, CanFinish, CanRefuse}
 use Rattle.flow_board.specs.Plays.{read_play, publish_play, release_play, take_play, finish_play}
 use Rattle.flow_board.specs.Plays.{refuse_play, look_play}
 use Rattle.flow_board.proofs.Kept.{Makes, take_made, publish_made, release_made, finish_made}
@@ -119,7 +119,7 @@ least_told f s h (Some l) e =
       λ _. h.answers_kept.refused_refuses l is,
     )
 
-module _ (f : Flow) (slots id : ℕ) (m : Sat) (live : 0 < m.0.share) where
+module _ (f : Flow) (slots id : ℕ) (m : SeatState) (live : 0 < m.0.share) where
   flow_is : (t : Board) (r : Ruled f t) → get_elem? t.views id ≡ some m.0 → m.0.flow ≡ f
   flow_is t r at = (r.seats id m.0 at).same_flow live
 
@@ -263,7 +263,8 @@ module _ (f : Flow) (slots id : ℕ) (m : Sat) (live : 0 < m.0.share) where
       let e : Some (hold k (a + 1) b) ≡ one_published m.0.holding =
       ap one_published (sym p.holds) in
       let numbers = one_filled r.core.cells c x (omega arith) small r.numbers in
-      let next = holds_on t r at k a b (a + 1) b (cell_at c) (x + 1) p.holds (set r.core.cells c (Some x))
+      let next = holds_on t r at k a b (a + 1) b (cell_at c) (x + 1) p.holds
+      (set r.core.cells c (Some x))
       r.core.missing (set t.words (cell_at c) (x + 1)) near.1 made.kept numbers shows in (
         record (after_step m.0 (cell_at c) (x + 1)) { holding = Some (hold k (a + 1) b) },
         next.0,
@@ -441,7 +442,7 @@ module _ (f : Flow) (slots id : ℕ) (m : Sat) (live : 0 < m.0.share) where
         ),
       )
 
-  abbrev Goes : (t : Board) → Ruled f t → ℕ → Option Event → (ℕ → Sat → Type 0) → ℕ → Type 0
+  abbrev Goes : (t : Board) → Ruled f t → ℕ → Option Event → (ℕ → SeatState → Type 0) → ℕ → Type 0
   Goes t r i event then n =
       (w : View) × (next : Ruled f (stepped t i n id m.1 w keeps))
       × Becomes f r.core event next.core
@@ -454,7 +455,7 @@ module _ (f : Flow) (slots id : ℕ) (m : Sat) (live : 0 < m.0.share) where
       let o = r.seats id m.0 at in
       let i : ℕ = counter_at f k in let n : ℕ = get_or t.words i 0 in
       let each = r.kept.sound.fits.phase_each in
-      let then : ℕ → Sat → Type 0 = take_play (step slots i 0 TAKEN (some k)) m in
+      let then : ℕ → SeatState → Type 0 = take_play (step slots i 0 TAKEN (some k)) m in
       let w : View = after_take m.0 i n k (n == 0) in
       let told : then n (w, m.1) = λ k' said.
       let k-is : k ≡ k' = some-injective k k' said in
@@ -495,7 +496,7 @@ module _ (f : Flow) (slots id : ℕ) (m : Sat) (live : 0 < m.0.share) where
       let B : Bool → Type 0 = λ b. Becomes f r.core (cond b (Some (Take id k)) None) next.0.core in
       (w, next.0, subst B test next.1, told))
 
-pub word_steps : (f : Flow) (slots id : ℕ) (m : Sat) → 0 < m.0.share → WordSteps f slots id m
+pub word_steps : (f : Flow) (slots id : ℕ) (m : SeatState) → 0 < m.0.share → WordSteps f slots id m
 word_steps f slots id m live = record {
   read = reads_cell f slots id m live;
   look = looks f slots id m live;

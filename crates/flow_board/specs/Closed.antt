@@ -14,7 +14,7 @@ use Rattle.flow_board.specs.Rule.{done_mark, refused_mark, HasNumbers}
 
 -- the words show a state that keeps the core's invariant, in which no strand is held, and the done
 -- and refused strands are the two lists
-pub record Closes (f : Flow) (done refused ws : List ℕ) : Type 0 where
+pub record ShowsEnd (f : Flow) (done refused ws : List ℕ) : Type 0 where
   pub core : State
   pub narrow : f.net.strands < 2 ^ 32
   pub net : IsNet f.net
@@ -27,41 +27,41 @@ pub record Closes (f : Flow) (done refused ws : List ℕ) : Type 0 where
   pub refused_is : (k : ℕ) → times k refused ≡ refused_mark (phase_of core k)
 
 -- the closed words of a board
-pub record Closing : Type 0 where
+pub record ClosedWords : Type 0 where
   pub cells : ℕ
   pub strands : ℕ
   pub words : List ℕ
 
-abbrev pub closing : ℕ → ℕ → List ℕ → Closing
-closing c k ws = record { cells = c; strands = k; words = ws }
+abbrev pub closed_words : ℕ → ℕ → List ℕ → ClosedWords
+closed_words c k ws = record { cells = c; strands = k; words = ws }
 
 -- each cell's word has a number of the field, if any
-pub record IsClosing (w : Closing) : Type 0 where
+pub record AreInRange (w : ClosedWords) : Type 0 where
   pub wide : length w.words ≡ 1 + w.cells + w.strands
   pub cells_below : (c : ℕ) → c < w.cells → slice_index w.words (cell_at c) ≤ P
   pub least_below : slice_index w.words 0 ≤ w.strands
   pub narrow : w.strands < 4294967296
 
 -- a cell's value, a strand that is taken, and the least refused strand
-abbrev pub cell_in : Closing → ℕ → Option ℕ
+abbrev pub cell_in : ClosedWords → ℕ → Option ℕ
 cell_in w c = cond (slice_index w.words (cell_at c) == 0) None
     (Some (slice_index w.words (cell_at c) - 1))
 
-abbrev pub done_in : Closing → ℕ → Bool
+abbrev pub done_in : ClosedWords → ℕ → Bool
 done_in w k = slice_index w.words (1 + w.cells + k) == TAKEN
 
-abbrev pub least_in : Closing → Option ℕ
+abbrev pub least_in : ClosedWords → Option ℕ
 least_in w = cond (slice_index w.words 0 == w.strands) None (Some (slice_index w.words 0))
 
 -- the words are those of a board over the flow, with its done and refused strands
-pub record IsClosed (f : Flow) (done refused : List ℕ) (w : Closing) : Type 0 where
-  pub closes : Closes f done refused w.words
+pub record IsClosed (f : Flow) (done refused : List ℕ) (w : ClosedWords) : Type 0 where
+  pub closes : ShowsEnd f done refused w.words
   pub cells_are : w.cells ≡ f.net.cells
   pub strands_are : w.strands ≡ f.net.strands
 
 -- a strand below the least refused one whose word is TAKEN is done, so its answer is a list, and
 -- each cell that it writes has its value of that
-pub record IsDoneBelow (f : Flow) (done : List ℕ) (w : Closing) (k : ℕ) : Type 0 where
+pub record IsDoneBelow (f : Flow) (done : List ℕ) (w : ClosedWords) (k : ℕ) : Type 0 where
   pub listed : IsIn k done
   pub values : List ℕ
   pub gives : answer_of f k ≡ Gives values
@@ -70,7 +70,7 @@ pub record IsDoneBelow (f : Flow) (done : List ℕ) (w : Closing) (k : ℕ) : Ty
 
 -- a start cell has its value, a cell that has one has the flow's, and the least refused strand is
 -- one whose answer is a refusal
-pub record HasOnlyAnswers (f : Flow) (w : Closing) : Type 0 where
+pub record HasOnlyAnswers (f : Flow) (w : ClosedWords) : Type 0 where
   pub starts : (c x : ℕ) → start_of f c ≡ Some x → cell_in w c ≡ Some x
   pub values : (c x : ℕ) → c < f.net.cells → cell_in w c ≡ Some x → HasValue f c x
   pub least : (l : ℕ) → least_in w ≡ Some l → (l < f.net.strands) × (answer_of f l ≡ Refuses)

@@ -18,7 +18,7 @@ use Rattle.flow_board.specs.declared.rule.TheConstants.{TAKEN}
 use Rattle.flow_board.specs.Shows.{cell_at, counter_at}
 use Rattle.flow_board.specs.Views.{after_split, cut_from, joined_with, spent}
 use Rattle.flow_board.specs.Rule.{Ruled}
-use Rattle.flow_board.specs.Plays.{Sat, CanPublish, CanRelease, CanFinish, CanRefuse}
+use Rattle.flow_board.specs.Plays.{SeatState, CanPublish, CanRelease, CanFinish, CanRefuse}
 use Rattle.flow_board.specs.Plays.{read_play, publish_play, release_play, take_play, finish_play}
 use Rattle.flow_board.specs.Plays.{refuse_play, look_play}
 
@@ -34,7 +34,8 @@ Shown f t s = (r : Ruled f t) × (r.core ≡ s)
 -- Whatever the table is when the word i becomes g of the number that the seat finds there: the
 -- words and views show the state before, or that after the event of this number, and the seat is
 -- told what is promised
-abbrev pub Evolves : Flow → ℕ → Sat → ℕ → (ℕ → ℕ) → (ℕ → Option Event) → (ℕ → Sat → Type 0) → Type 0
+abbrev pub Evolves : Flow → ℕ → SeatState → ℕ → (ℕ → ℕ) → (ℕ → Option Event)
+    → (ℕ → SeatState → Type 0) → Type 0
 Evolves f id m i g event told =
     (t : table.State ℕ View) (r : Ruled f t) → get_elem? t.views id ≡ some m.0
     → slice_index t.words i < 18446744073709551616
@@ -47,7 +48,7 @@ abbrev pub taking : ℕ → ℕ → ℕ → Option Event
 taking id k n = cond (n == 0) (Some (Take id k)) None
 
 -- each kind of step on a word
-pub record WordSteps (f : Flow) (slots id : ℕ) (m : Sat) : Type 0 where
+pub record WordSteps (f : Flow) (slots id : ℕ) (m : SeatState) : Type 0 where
   pub read : (i : ℕ) → 0 < i → i < 1 + f.net.cells
       → Evolves f id m i (λ n. n) (λ _. None) (read_play (step slots i 0 0 none) m)
   pub look : Evolves f id m 0 (λ n. n) (λ _. None) (look_play (step slots 0 0 0 none) m)
@@ -72,8 +73,9 @@ pub record WordSteps (f : Flow) (slots id : ℕ) (m : Sat) : Type 0 where
 pub record SeatSteps (f : Flow) (t : table.State ℕ View) (r : Ruled f t) (id : ℕ)
     (v : View) : Type 0 where
   pub split : v.holding ≡ None → 2 ≤ v.share
-      → Shown f (record t { views = slice_set t.views id (after_split v) ++ cut_from v ∷ [] }) r.core
+      → Shown f (record t { views = slice_set t.views id (after_split v) ++ cut_from v ∷ [] })
+      r.core
   pub join : (other : ℕ) (w : View) → v.holding ≡ None → w.holding ≡ None → 0 < w.share → other ≢ id
       → get_elem? t.views other ≡ some w
-      → Shown f (record t { views = slice_set (slice_set t.views id (joined_with v w)) other spent })
-      r.core
+      → Shown f
+      (record t { views = slice_set (slice_set t.views id (joined_with v w)) other spent }) r.core

@@ -13,11 +13,12 @@ use Rattle.flow_board.specs.Shows.{cell_at}
 use Rattle.flow_board.specs.Views.{after_step, after_take, after_publish, after_release}
 use Rattle.flow_board.specs.Views.{after_look, after_finish, after_refuse}
 
-abbrev pub Sat : Type 0
-Sat = Me ℕ View
+-- a seat's view, and the slots that it holds, of which a board has none
+abbrev pub SeatState : Type 0
+SeatState = Me ℕ View
 
 abbrev pub Told : Type 1
-Told = Step ℕ → Sat → ℕ → Sat → Type 0
+Told = Step ℕ → SeatState → ℕ → SeatState → Type 0
 
 -- the strand that is held reads the cell
 abbrev pub Reads : Flow → Option Hold → ℕ → Type 0

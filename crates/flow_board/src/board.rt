@@ -1,4 +1,5 @@
-ghost use Rattle.std.specs.Prelude.{◌≡◌, ◌+◌, ◌<◌, ◌≤◌, ◌↔◌, min, None, IsTrue, IfSome, MatchOption};
+ghost use Rattle.std.specs.Prelude.{◌≡◌, ◌+◌, ◌<◌, ◌≤◌, ◌↔◌, min, None, IsTrue, IfSome};
+ghost use Rattle.std.specs.Prelude.{MatchOption};
 ghost use Rattle.flow_core.specs.Flow.{Refuses, answer_of, HasValue};
 ghost use Rattle.flow_board.specs.Shows.{cell_at, counter_at};
 ghost use Rattle.flow_board.specs.Views.{after_step, after_take, after_publish, after_release};

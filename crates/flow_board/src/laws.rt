@@ -7,11 +7,11 @@ ghost use Rattle.flow_core.specs.Flow.{Flow};
 ghost use Rattle.flow_board.specs.declared.view.View.{View as AView};
 ghost use Rattle.flow_core.specs.Events.{opening};
 ghost use Rattle.flow_core.specs.Quiet.{IsBelow};
-ghost use Rattle.flow_board.specs.Plays.{Sat};
+ghost use Rattle.flow_board.specs.Plays.{SeatState};
 ghost use Rattle.flow_board.specs.Views.{first};
 ghost use Rattle.flow_board.specs.Events.{Shown, WordSteps, SeatSteps};
 ghost use Rattle.flow_board.specs.Rule.{Ruled, SaysWho};
-ghost use Rattle.flow_board.specs.Closed.{Closing, IsClosed, IsDoneBelow, HasOnlyAnswers};
+ghost use Rattle.flow_board.specs.Closed.{ClosedWords, IsClosed, IsDoneBelow, HasOnlyAnswers};
 ghost use Rattle.flow_board.specs.Closed.{done_in, least_in};
 
 /// A board begins in the core's opening state: whatever words the first seat's table has under the
@@ -30,21 +30,21 @@ pub fn the_rule_says_who_has_a_strand()
 /// In the words of a closed board a strand below the least refused one whose word is TAKEN is done,
 /// and the cells that it writes have its answer's values.
 pub fn a_taken_strand_below_the_least_is_done()
-    ensures { (f : Flow) (done refused : List ℕ) (w : Closing) (k : ℕ)
+    ensures { (f : Flow) (done refused : List ℕ) (w : ClosedWords) (k : ℕ)
         → IsClosed f done refused w → k < f.net.strands
         → IsBelow (least_in w) k → IsTrue (done_in w k) → IsDoneBelow f done w k }
 {}
 
 /// The words of a closed board show the answers' values and refusals, and no others.
 pub fn closed_words_have_only_answers()
-    ensures { (f : Flow) (done refused : List ℕ) (w : Closing)
+    ensures { (f : Flow) (done refused : List ℕ) (w : ClosedWords)
         → IsClosed f done refused w → HasOnlyAnswers f w }
 {}
 
 /// Each step on a word that a board's calls make is one event of the core, or leaves its state as
 /// it was: a call's step must be allowed by the rule, and each that is stands here.
 pub fn each_step_is_one_event_or_none()
-    ensures { (f : Flow) (slots id : ℕ) (m : Sat) → 0 < m.0.share → WordSteps f slots id m }
+    ensures { (f : Flow) (slots id : ℕ) (m : SeatState) → 0 < m.0.share → WordSteps f slots id m }
 {}
 
 /// Cutting a seat in two and joining two into one leave the core's state as it was.

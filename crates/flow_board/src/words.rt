@@ -17,13 +17,14 @@ pub struct Words {
 impl Model for Words {
     ghost use Rattle.std.specs.Prelude.{◌≡◌, ◌+◌};
     ghost use Rattle.std.specs.Slots.{slots_items, slots_len, IsFull};
-    ghost use Rattle.flow_board.specs.Closed.{Closing, closing, IsClosing};
+    ghost use Rattle.flow_board.specs.Closed.{ClosedWords, closed_words, AreInRange};
 
-    ghost Value = { Closing };
+    ghost Value = { ClosedWords };
 
-    ghost view = { λ w. closing w.cells w.strands (slots_items w.closed.words) };
+    ghost view = { λ w. closed_words w.cells w.strands (slots_items w.closed.words) };
 
-    ghost invariant = { λ w. IsClosing (closing w.cells w.strands (slots_items w.closed.words))
+    ghost invariant = { λ w.
+        AreInRange (closed_words w.cells w.strands (slots_items w.closed.words))
         × IsFull w.closed.words × (slots_len w.closed.words ≡ 1 + w.cells + w.strands)
         × (slots_len w.closed.slots ≡ 0) };
 }
@@ -52,6 +53,7 @@ impl Words {
         requires { cell < self.now.cells }
         ensures { result ≡ cell_in self.now cell }
     {
+        // A look at a field opens the type, so that the proof has what it keeps.
         let _ = &self.cells;
         let word = self.word(1 + cell as usize);
         if word == 0 { None } else { Gold::new(word - 1) }

@@ -20,7 +20,7 @@ use Rattle.wit_code.specs.declared.Stop.TheVariants.{OutOfMemory}
 use Rattle.wit_flow.specs.declared.Outcome.TheVariants.{Done, Refused as RefusedAt}
 use Rattle.wit_flow.specs.OneThread.{IsStrandOut, IsOutcome, Ending, one_thread}
 use Rattle.flow_core.specs.Quiet.{IsBelow}
-use Rattle.flow_board.specs.Closed.{Closing, cell_in, done_in, least_in}
+use Rattle.flow_board.specs.Closed.{ClosedWords, cell_in, done_in, least_in}
 use Rattle.flow_board.proofs.Last.{done_below}
 use Rattle.flow_engine.specs.Task.{Task, IsTask, IsAnswer, answers_of, cells_at, end_at, read_at}
 use Rattle.flow_engine.specs.Task.{AreRead}
@@ -159,7 +159,7 @@ module _ (t : Task) (ok : IsTask t) (k : ℕ) (near : k < t.plan.graph.strands) 
       let O : Ending → Type 0 = IsOutcome t.plan.graph.cells (RefusedAt s stop new) in
       subst O (sym is) (refl, refl, known.1, (wide ∙ h.shows.0, λ c. ap (λ (b : Cells). b c) all))
 
-  pub copied_near : (w : Closing) → AreClosed (answers_of t) w → (ws : List ℕ)
+  pub copied_near : (w : ClosedWords) → AreClosed (answers_of t) w → (ws : List ℕ)
       → ws ≡ writes_of t.plan.graph k
       → (i : ℕ) → i < length ws → get_or ws i 0 < w.cells
   copied_near w h ws at i lt =
@@ -176,7 +176,7 @@ module _ (t : Task) (ok : IsTask t) (k : ℕ) (near : k < t.plan.graph.strands) 
       let W : List ℕ → Type 0 = λ cs. IsIn c cs in ok.plan.net.writes_near k c (subst W at here)
 
   -- a done strand's values are copied
-  pub done_comes : (w : Closing) → AreClosed (answers_of t) w → IsBelow (least_in w) k
+  pub done_comes : (w : ClosedWords) → AreClosed (answers_of t) w → IsBelow (least_in w) k
       → done_in w k ≡ true
       → (old new : List (Option ℕ)) (ws vs : List ℕ) → HasCome t k old
       → ws ≡ writes_of t.plan.graph k

@@ -9,7 +9,7 @@ use Rattle.flow_core.specs.Flow.{HasValue, start_of}
 use Rattle.flow_core.specs.Quiet.{IsBelow}
 use Rattle.flow_core.proofs.Totals.{is_in_at, place_of}
 use Rattle.flow_core.proofs.Nets.{in_range}
-use Rattle.flow_board.specs.Closed.{Closing, cell_in, done_in, least_in, IsDoneBelow}
+use Rattle.flow_board.specs.Closed.{ClosedWords, cell_in, done_in, least_in, IsDoneBelow}
 use Rattle.flow_board.specs.Closed.{HasOnlyAnswers}
 use Rattle.flow_board.proofs.Last.{done_below, only_answers}
 use Rattle.flow_board.proofs.Openings.{start_near}
@@ -25,7 +25,7 @@ cases_Option : (o : Option ℕ) → (o ≡ None) ⊎ ((x : ℕ) × (o ≡ Some x
 cases_Option None = inl refl
 cases_Option (Some x) = inr (x, refl)
 
-module _ (t : Task) (ok : IsTask t) (w : Closing) (h : AreClosed (answers_of t) w)
+module _ (t : Task) (ok : IsTask t) (w : ClosedWords) (h : AreClosed (answers_of t) w)
     (all : AreAllDone w) where
   only : HasOnlyAnswers (answers_of t) w
   only = only_answers (answers_of t) h.0 h.1 w h.2

@@ -2,7 +2,7 @@
 use Rattle.std.specs.Prelude.{◌≡◌, ℕ, ◌+◌, ◌<◌, IsTrue, List, Option, Some, None}
 use Rattle.wit_code.specs.declared.Stop.{Stop}
 use Rattle.flow_core.specs.Flow.{Flow, Gives, answer_of}
-use Rattle.flow_board.specs.Closed.{Closing, IsClosed, done_in, least_in}
+use Rattle.flow_board.specs.Closed.{ClosedWords, IsClosed, done_in, least_in}
 use Rattle.wit_flow.specs.declared.Outcome.TheVariants.{Refused as RefusedAt}
 use Rattle.wit_flow.specs.Cells.{Shows}
 use Rattle.wit_flow.specs.OneThread.{IsOutcome, one_thread}
@@ -13,11 +13,11 @@ abbrev pub GiveBelow : Task → ℕ → Type 0
 GiveBelow t k = (j : ℕ) → j < k → (xs : List ℕ) × (answer_of (answers_of t) j ≡ Gives xs)
 
 -- the words are those of a board over the flow
-abbrev pub AreClosed : Flow → Closing → Type 0
+abbrev pub AreClosed : Flow → ClosedWords → Type 0
 AreClosed f w = (done : List ℕ) × (refused : List ℕ) × IsClosed f done refused w
 
 -- no strand is refused, and each one's word is that of a strand that was taken
-pub record AreAllDone (w : Closing) : Type 0 where
+pub record AreAllDone (w : ClosedWords) : Type 0 where
   pub none_refused : least_in w ≡ None
   pub done : (k : ℕ) → k < w.strands → IsTrue (done_in w k)
 
