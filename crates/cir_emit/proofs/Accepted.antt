@@ -360,7 +360,8 @@ module _ (k : Context) (keeps : CallKeeps k.call) (both : CallBoth k.call) (fine
           stands.port_there n c is name j p x ec inside full ej ep ex in
           let h : (h : Home) × (home c is ≡ Some h) =
           subst (λ ds. HasHome There homes (Port n (offset ds is) name)) (same c is ec inside full)
-          (has is ks_are) there in
+          (has is ks_are (ap (is_inside (sources.components n)) ks_are ∙
+          ap (λ ds. is_inside ds (map Some is)) (same c is ec inside full) ∙ inside)) there in
           let no : None ≡ Some h.0 = sym eo ∙ h.1 in cc
       homed c is j p x ec ks_are inside full ej ep ex (Some h) eo = (
         stands.port n c is name h j p x ec inside full ej ep ex eo,

@@ -51,11 +51,12 @@ EndHas There homes (Named (meant.Variable n)) = HasHome There homes (Variable n)
 EndHas There homes (Named (meant.Signal direction n)) = HasHome There homes (Signal n)
 EndHas There homes _ = ⊤
 
--- a signal of the component that known indices mean
+-- a signal of the component that known indices inside its dimensions mean
 abbrev pub PortHas : (There : Name → Type 0) → Ground → Homes → Front → List (Option ℕ)
     → (name : List ℕ) → Type 0
 PortHas There g homes (Named (meant.Component n)) known name =
     (indices : List ℕ) → known ≡ map Some indices
+    → is_inside (g.components n) known ≡ true
     → HasHome There homes (Port n (offset (g.components n) indices) name)
 PortHas There g homes _ known name = ⊤
 

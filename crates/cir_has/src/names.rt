@@ -9,7 +9,7 @@ use crate::lack::Lack;
 use cir_arrays::all_known;
 use cir_ast::program::Meant;
 use wit_emit::{Front, Ground};
-use wit_sourced::{Scope, Sought, offset};
+use wit_sourced::{Scope, Sought, is_inside, offset};
 
 /// The arrays that a step has.
 pub trait Arrays {
@@ -50,7 +50,7 @@ pub fn has_end<A: Arrays>(arrays: &A, scope: &Scope, front: Front) -> Result<(),
     }
 }
 
-/// A signal of the component that known indices mean.
+/// A signal of the component that known indices inside its dimensions mean.
 pub fn has_port<A: Arrays>(
     arrays: &A,
     ground: &Ground,
@@ -68,6 +68,10 @@ pub fn has_port<A: Arrays>(
     let Some(indices) = all_known(ground.alloc, indices)? else {
         return Ok(());
     };
-    let element = offset(ground.component_dims(front), indices.as_slice())?;
+    let dims = ground.component_dims(front);
+    if !is_inside(dims, indices.as_slice()) {
+        return Ok(());
+    }
+    let element = offset(dims, indices.as_slice())?;
     has_home(arrays, scope, Sought::Port(n, element, name))
 }

@@ -39,7 +39,7 @@ module _ (More Less : Name → Type 0) (fewer : (x : Name) → Less x → More x
   port : (homes : Homes) (f : Front) (known : List (Option ℕ)) (name : List ℕ)
       → PortHas More g homes f known name → PortHas Less g homes f known name
   port homes (Named (meant.Component n)) known name has =
-      λ indices is. home homes _ (has indices is)
+      λ indices is inside. home homes _ (has indices is inside)
   port homes _ known name has = tt
 
   unless : (o : Option Numbers) (P Q : Type 0) → (P → Q) → UnlessKnown o P → UnlessKnown o Q

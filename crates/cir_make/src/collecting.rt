@@ -12,7 +12,7 @@ use crate::ports::port_array;
 use cir_frame::Frame;
 use std::alloc::{AllocError, Global};
 use wit_named::{Member, Naming};
-use wit_sourced::{CallValue, offset};
+use wit_sourced::{CallValue, is_inside, offset};
 
 /// Where a step stands.
 #[derive(Clone, Copy)]
@@ -87,7 +87,7 @@ fn add_member<'a>(
     add(arrays, array)
 }
 
-/// The element of the component that known indices mean.
+/// The element of the component that known indices inside its dimensions mean.
 fn element_of(
     alloc: Global,
     frame: &Frame,
@@ -104,7 +104,11 @@ fn element_of(
             None => return Ok(None),
         }
     }
-    let element = offset(entry.dims.as_slice(), indices.as_slice())?;
+    let dims = entry.dims.as_slice();
+    if !is_inside(dims, indices.as_slice()) {
+        return Ok(None);
+    }
+    let element = offset(dims, indices.as_slice())?;
     Ok(Some(element))
 }
 
