@@ -1,5 +1,5 @@
 //! The circuit of a program, with the code of its steps.
-ghost use Rattle.std.specs.Prelude.{◌↔◌, ◌++◌, ◌<◌, All, IfOk, List, map, vec_len};
+ghost use Rattle.std.specs.Prelude.{◌↔◌, ◌++◌, ◌<◌, All, Err, IfOk, List, map, vec_len};
 ghost use Rattle.gold_field.specs.Form.{Holds};
 ghost use Rattle.cir_lc.specs.Number.{Assignment};
 ghost use Rattle.cir_ast.specs.Program.{bare_main, bare_program};
@@ -23,7 +23,7 @@ use cir_arrays::Fault;
 use cir_ast::program::{Main, Program};
 use cir_frame::Sizes;
 use cir_homes::{homes_of, start_cells};
-use cir_inst::{Circuit, InstFault, circuit_of, main_of, placed};
+use cir_inst::{Circuit, InstFault, circuit_of, instantiate, main_of, placed};
 use cir_make::{Cast, Made, Whole};
 use cir_rules::CallTable;
 use std::alloc::{AllocError, Global};
@@ -52,7 +52,21 @@ pub fn circuit_code(alloc: Global, program: &Program) -> Result<(Circuit, Circui
 {
     match execute(alloc, program) {
         Ok(made) => Ok(made),
+        Err(Fault::OutOfMemory) => Err(without_code(alloc, program)),
         Err(fault) => Err(placed(alloc, program, fault)),
+    }
+}
+
+/// Why there is no code: a step is made before the limits of its statement are tested, so a program
+/// that passes one of them may first come to a step that can't be made.
+fn without_code(alloc: Global, program: &Program) -> InstFault
+    requires checked { IsChecked (bare_program program.now) }
+    requires free { AreFunctionsFree (bare_program program.now) }
+    ensures { Instantiates (bare_program program.now) (Err result) }
+{
+    match instantiate(alloc, program) {
+        Err(fault) => fault,
+        Ok(_) => InstFault::OutOfMemory,
     }
 }
 
