@@ -7,7 +7,6 @@ pub mod Statements
 pub mod Works
 pub mod Tasks
 pub mod Law
-pub mod Example
 pub mod KnownOperators
 pub mod Reached
 pub mod Standing

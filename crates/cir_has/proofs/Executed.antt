@@ -7,8 +7,8 @@ use Rattle.std.specs.List.{list_any, AllByRecursion}
 use Rattle.cir_ast.specs.declared.program.Meant.{Meant}
 use Rattle.cir_ast.specs.declared.program.Meant.TheVariants as meant
 use Rattle.cir_ast.specs.declared.program.Spot.{Spot}
-use Rattle.cir_ast.specs.Tree.{Assign, Set, Compound, Left, Increment, Decrement, Assigned, Ended}
-use Rattle.cir_ast.specs.Tree.{Expr, Statement, Assert}
+use Rattle.cir_ast.specs.Tree.{Assign, Set, Compound, Left, Increment, Decrement}
+use Rattle.cir_ast.specs.Tree.{Expr, Statement}
 use Rattle.cir_emit.specs.Sourced.{EndHas, HasAll, HasHome, PlainHas, StatementHas, TaskHas}
 use Rattle.cir_meaning.specs.Statement.{loop_of}
 use Rattle.cir_meaning.specs.Unknown.{assign_writes, declares, outer_assigned, rising, variable_of}
@@ -47,12 +47,6 @@ module _ (There : L.Name → Type 0) (g : L.Ground) (s : L.Scope) where
         (ap (list_any (λ m. m == n)) assigned_is ∙ e),
   )
 
-  -- an assertion touches no variable
-  pub asserts_has : (spot : Spot) (e : Expr Meant) → HasAll There g s.homes e
-      → TaskHas There g s (Executes (Assert spot e) [])
-  asserts_has spot e h =
-      executes_has (Assert spot e) [] [] [] refl refl tt tt h
-
   -- an assignment touches the variable that it writes
   end_home : (m : Meant) → EndHas There s.homes (L.Named m)
       → AllByRecursion (λ n. HasHome There s.homes (L.Variable n)) (outer [] (variable_of m))
@@ -70,13 +64,6 @@ module _ (There : L.Name → Type 0) (g : L.Ground) (s : L.Scope) where
   assigned_home (Left name m accessors arrow e) h = tt
   assigned_home (Increment name m accessors) h = end_home m h.0
   assigned_home (Decrement name m accessors) h = end_home m h.0
-
-  pub assigns_has : (spot : Spot) (a : Assign Meant) (targets : List Element)
-      → PlainHas There g s.homes (plain a)
-      → TaskHas There g s (Executes (Ended spot (Assigned a)) targets)
-  assigns_has spot a targets h =
-      executes_has (Ended spot (Assigned a)) targets [] (outer [] (assign_writes a)) refl refl tt
-      (assigned_home a h) h
 
   -- the loop that is left of a `for`
   pub repeats_has : (spot step_spot : Spot) (c : Expr Meant) (body : Statement Spot Meant)

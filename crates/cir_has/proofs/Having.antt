@@ -26,10 +26,6 @@ pub unless_skipped : (o : Option ℕ) (A : Type 0) → is_some o ≡ true → Un
 unless_skipped None A e = cc
 unless_skipped (Some n) A e = tt
 
-pub unless_needed : (o : Option ℕ) (A : Type 0) → A → UnlessSkipped o A
-unless_needed None A h = h
-unless_needed (Some n) A h = tt
-
 pub first_side : (n : ℕ) (A B : Type 0) → (n ≡ 0 → ⊥) → A → Sides (Some n) A B
 first_side zero A B other h = absurd (other refl)
 first_side (suc n) A B other h = h

@@ -156,16 +156,6 @@ module _ (p : List Key) (i : Inside) (w : Whole) (d : Emitted) (world : World)
     shows_world p i w d world shows e,
   )
 
-  pub known_rests : (g : Emission → Tried Emitted) → Knows i w world d go
-      → world.constraints.items ≡ w.world.constraints.items
-      → Rests p i (with_world w world) (go_on d (λ x. then_emit (emit_known go x) g)) g
-  known_rests g h e = (
-    seen d (state_of i.frame world (equations_in d.state)),
-    known_next d (go (known_in d.state)) g
-        ∙ ap (λ m. next m (λ s. go_on (seen d s) g)) (ap go shows.state ∙ h),
-    shows_world p i w d world shows e,
-  )
-
   pub known_stops : (e : Fault)
       → IsRefusal e (go (state_of i.frame w.world (equations_in d.state)))
       → IsRefusal e (go_on d (emit_known go))

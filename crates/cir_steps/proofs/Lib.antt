@@ -1,4 +1,3 @@
-pub mod Example
 pub mod Sized
 pub mod Rising
 pub mod Emptied

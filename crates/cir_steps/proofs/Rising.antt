@@ -119,10 +119,6 @@ more_world x c d e l h = omega arith
 same_added : (x c d e : ℕ) → e ≡ d → standing x ≤ standing (c + d) → standing x ≤ standing (c + e)
 same_added x c d e is h = omega arith
 
-pub more_added : (x c d e n : ℕ) → e ≡ standing (d + n) → standing x ≤ standing (c + d)
-    → standing (x + n) ≤ standing (c + e)
-more_added x c d e n is h = omega arith
-
 cond_same : (count : Counts → ℕ) (b : Bool) (x y : Counts) → count x ≡ count y
     → count (cond b x y) ≡ count y
 cond_same count true x y e = e

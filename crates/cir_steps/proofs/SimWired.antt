@@ -42,9 +42,6 @@ free_cell : (o : Option ℕ) (cells : Cells) → cells 0 ≡ Some 1 → cells (u
 free_cell (Some c) cells h e = refl
 free_cell None cells h e = let none : ◌≡◌ {A = Option ℕ} (Some 1) None = sym h ∙ e in cc
 
-one_free : (t v : ℕ) (cells : Cells) → cells t ≡ None → AreFree (t ∷ []) cells
-one_free t v cells h = (h, tt)
-
 still_free : (t v : ℕ) (ts : List ℕ) (cells : Cells) → Apart t ts → AreFree ts cells
     → AreFree ts (put_cell t v cells)
 still_free t v [] cells h g = tt

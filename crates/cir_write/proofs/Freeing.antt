@@ -26,16 +26,6 @@ use Rattle.cir_write.proofs.Waits.{LeavesParts, made_behind, ports_put, waiting_
 use Rattle.cir_write.proofs.Waits.{waiting_written}
 
 -- ---- freed components
-pub freed_fed : (j : ℕ) (o : Option Part) (x : Emission) → freed j true o x ≡ []
-freed_fed j None x = refl
-freed_fed j (Some p) x = refl
-
-pub freed_unfed : (j : ℕ) (w : Bool) (o : Option Part) (x : Emission)
-    → is_fed (part_signals o) ≡ false → freed j w o x ≡ []
-freed_unfed j w None x h = refl
-freed_unfed j true (Some p) x h = refl
-freed_unfed j false (Some p) x h = ap (λ (b : Bool). cond b (waiting_steps x j) []) h
-
 pub freed_now : (j : ℕ) (p : Part) (o : Option Part) (steps : List Step) (x : Emission)
     → o ≡ Some p → is_fed p.signals ≡ true → slice_get x.bodies j ≡ Some steps
     → freed j false o x ≡ steps

@@ -27,9 +27,6 @@ listed_put zero l (x ∷ xs) = refl
 listed_put (suc n) l [] = listed_put n l []
 listed_put (suc n) l (x ∷ xs) = listed_put n l xs
 
-none_listed : (m : ℕ) → listed [] m ≡ []
-none_listed m = refl
-
 pub listed_other : (n m : ℕ) (l : List S.Source) (xs : List (List S.Source)) → m ≢ n
     → listed (put_sources n l xs) m ≡ listed xs m
 listed_other zero zero l xs ne = absurd (ne refl)

@@ -92,12 +92,6 @@ module _ {A : Type 0} (k : Setting) (Q : A → State → Type 0) where
   misses s = record { by = λ o h. absurd (never_missing h.as_stop h.number) }
 
   -- a test of the machine is one of the meaning
-  pub does_if : (b : Bool) (s t u : State) (m n : Result A ℕ)
-      → takes k s ≡ cond b (Goes t) (Goes u) → (b ≡ true → Does k t m Q)
-      → (b ≡ false → Does k u n Q) → Does k s (cond b m n) Q
-  does_if true s t u m n e f g = goes s t m e (f refl)
-  does_if false s t u m n e f g = goes s u n e (g refl)
-
   pub does_need : (b : Bool) (stop : Stop) (x : ℕ) (s t : State) (m : Result A ℕ)
       → takes k s ≡ unless stop b (Goes t) → stop_number stop ≡ Some x
       → (b ≡ true → Does k t m Q) → Does k s (cond b m (Err x)) Q

@@ -83,11 +83,6 @@ pub row_below : (top : ℕ) (f g : List ℕ) (a n : ℕ) → Below top f g → a
 row_below top f g a n b le =
     row_from f g a a n (λ k l. b.under (a + k) (omega (arith, l, le)))
 
-pub row_over : (f g : List ℕ) (to from m a n : ℕ) → Copied f g to from m → to + m ≤ a
-    → row g a n ≡ row f a n
-row_over f g to from m a n c le =
-    row_from f g a a n (λ k l. c.over (a + k) (omega (arith, le)))
-
 pub row_got : (f g : List ℕ) (to from n : ℕ) → Copied f g to from n → row g to n ≡ row f from n
 row_got f g to from n c = row_from f g to from n c.got
 

@@ -19,7 +19,6 @@ pub mod Knowing
 pub mod Listed
 pub mod CellsRead
 pub mod Loading
-pub mod Example
 pub mod Counting
 pub mod Inner
 pub mod CountedStep

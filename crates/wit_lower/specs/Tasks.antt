@@ -9,8 +9,7 @@ use Rattle.wit_code.specs.Table.{Outcome, Wrote, Stopped, stop_number}
 use Rattle.cir_ast.specs.declared.program.Spot.{Spot}
 use Rattle.cir_ast.specs.declared.program.Meant.{Meant}
 use Rattle.cir_ast.specs.Program.{Program}
-use Rattle.cir_ast.specs.Tree.{Expr, Left, LogArgument, Words, LogValue, Simple, Assigned}
-use Rattle.cir_ast.specs.Tree.{Constrain, Right, Statement, Log, Ended}
+use Rattle.cir_ast.specs.Tree.{Expr, LogArgument, Words, LogValue, Statement}
 use Rattle.cir_meaning.specs.Tried.{next}
 use Rattle.cir_meaning.specs.Bodies.{most_open}
 use Rattle.cir_meaning.specs.Costs.{Made}
@@ -27,22 +26,10 @@ use Rattle.wit_lower.specs.Sources.{Sources, scope_of, cells_read, sources_code,
 use Rattle.wit_lower.specs.Sources.{store_of}
 use Rattle.wit_lower.specs.Known.{changes, number_known}
 
--- where a number that is written goes: to the cell of a signal, or to a new cell, for an element of
--- a variable or for a line of the log
-pub data Target : Type 0 where
-  OfSignal : (cell : ℕ) → Target
-  OfVariable : (variable element : ℕ) → Target
-  Logged : Target
-
 -- an element of a variable
 pub record Element : Type 0 where
   pub variable : ℕ
   pub element : ℕ
-
-abbrev pub elements_of : List Target → List Element
-elements_of [] = []
-elements_of (OfVariable n k ∷ ts) = record { variable = n; element = k } ∷ elements_of ts
-elements_of (_ ∷ ts) = elements_of ts
 
 -- a write of signals gives its value; two sides that are to be equal give nothing; a `log` gives
 -- its numbers; and a statement that is executed gives elements of variables as they are behind it
@@ -57,17 +44,6 @@ abbrev pub logged : List (LogArgument Meant) → List (Expr Meant)
 logged [] = []
 logged (Words text ∷ rest) = logged rest
 logged (LogValue e ∷ rest) = e ∷ logged rest
-
-abbrev pub simple_task : Spot → Simple Meant → List Target → Task
-simple_task spot (Assigned (Left name m accessors arrow e)) targets = Gives e
-simple_task spot (Right e arrow name m accessors) targets = Gives e
-simple_task spot (Constrain a b) targets = Equal a b
-simple_task spot x targets = Executes (Ended spot x) (elements_of targets)
-
-abbrev pub task_of : Statement Spot Meant → List Target → Task
-task_of (Ended spot x) targets = simple_task spot x targets
-task_of (Log spot arguments) targets = Logs (logged arguments)
-task_of a targets = Executes a (elements_of targets)
 
 abbrev pub numbers_wanted : Environment → Store → List (Expr Meant) → ℕ → Ran (List ℕ)
 numbers_wanted env store [] units = gives [] units

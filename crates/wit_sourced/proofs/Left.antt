@@ -41,13 +41,6 @@ behind_same s = record {
   begins = take_all (length s.homes.items) s.homes.items (omega arith);
 }
 
-pub behind_then : (a b c : Scope) (x y : L.Scope) → IsBehind a b x → IsBehind b c y
-    → IsBehind a c y
-behind_then a b c x y first second = record {
-  shows = second.shows;
-  begins = begins_then a.homes.items b.homes.items c.homes.items first.begins second.begins;
-}
-
 pub shows_left : (a b : Scope) → IsLeft a b → scope_of b ≡ scope_of a
 shows_left a b left =
     ap (λ (ps : List Placed). made ps b.top) left.homes

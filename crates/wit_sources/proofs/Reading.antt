@@ -1,5 +1,5 @@
 -- What is read while sources are found is the same over those that are found later.
-use Rattle.std.proofs.Common.{◌≡◌, ◌∙◌, ℕ, zero, suc, true, false, List, [], ◌∷◌, ◌++◌, Option}
+use Rattle.std.proofs.Common.{◌≡◌, ◌∙◌, ℕ, zero, suc, false, List, [], ◌∷◌, ◌++◌, Option}
 use Rattle.std.proofs.Common.{Some, None, refl, ap, ap₂, sym, subst, append-nil}
 use Rattle.std.specs.Prelude.{filter, flat_map, is_some, not}
 use Rattle.std.specs.List.{AllByRecursion}
@@ -117,19 +117,6 @@ module _ (s : Setting) (shapes : List R.Shape) (offer : Offer) where
       → Then one three (E.expr_reads (ground three.list) homes e ++ second)
   expr_then e one two three second x y =
       reads_then (λ xs. E.expr_reads (ground xs) homes e) (expr_steady e) one two three second x y
-
-  pub left_read : (o : BinaryOp) (a b : Expr Meant) (one two : Seen)
-      → is_some (decided (operator_of o) ((ground two.list).known a)) ≡ true
-      → Then one two (E.expr_reads (ground two.list) homes a)
-      → Then one two (E.expr_reads (ground two.list) homes (Binary o a b))
-  left_read o a b one two told x =
-      at (decided (operator_of o) ((ground two.list).known a))
-      (E.expr_reads (ground two.list) homes a) (E.expr_reads (ground two.list) homes b) told x
-    where
-      at : (d : Option ℕ) (left right : List E.Reading) → is_some d ≡ true → Then one two left
-          → Then one two (left ++ E.unless_skipped d right)
-      at None left right e x = cc
-      at (Some n) left right e x = subst (Then one two) (sym (append-nil left)) x
 
   pub binary_read : (o : BinaryOp) (a b : Expr Meant) (one two three : Seen)
       → decided (operator_of o) ((ground two.list).known a) ≡ None

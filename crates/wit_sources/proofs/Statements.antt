@@ -1,15 +1,10 @@
 -- Statements that are assignments, and others.
-use Rattle.std.proofs.Common.{◌≡◌, List, [], ◌++◌, Some, None, refl, ap, sym}
-use Rattle.std.specs.Prelude.{flat_map}
+use Rattle.std.proofs.Common.{◌≡◌, [], Some, ap, sym}
 use Rattle.cir_ast.specs.declared.program.Meant.{Meant}
 use Rattle.cir_ast.specs.declared.program.Spot.{Spot}
 use Rattle.cir_ast.specs.Tree.{Assign, Vars, Signals, Declared, Created, Assigned, Constrain, Right}
 use Rattle.cir_ast.specs.Tree.{TargetLeft, TargetRight, Alone, Statement, Block, If, IfElse, While}
 use Rattle.cir_ast.specs.Tree.{For, Return, Assert, Log, Ended}
-use Rattle.wit_lower.specs.Homes as L
-use Rattle.wit_lower.specs.Known.{changes}
-use Rattle.wit_lower.specs.Tasks as T
-use Rattle.cir_emit.specs.Reads as E
 use Rattle.wit_sources.specs.Statements.{assign_in}
 
 pub record IsAssign (a : Statement Spot Meant) (x : Assign Meant) : Type 0 where
@@ -37,26 +32,3 @@ assign_is (For spot first_spot f t step_spot step body) x e = cc
 assign_is (Return spot y) x e = cc
 assign_is (Assert spot y) x e = cc
 assign_is (Log spot arguments) x e = cc
-
-pub other_kept : (g : L.Ground) (homes : L.Homes) (a : Statement Spot Meant)
-    (targets : List T.Element) → None ≡ assign_in a → E.kept g homes a targets
-    ≡ flat_map (λ n. E.part_of (L.Variable n) (L.find (L.Variable n) homes) []) (changes a)
-    ++ E.targets_kept targets
-other_kept g homes (Ended spot (Assigned y)) targets e = cc
-other_kept g homes (Ended spot (Vars vs)) targets e = refl
-other_kept g homes (Ended spot (Signals direction ds)) targets e = refl
-other_kept g homes (Ended spot (Declared cs)) targets e = refl
-other_kept g homes (Ended spot (Created name m y)) targets e = refl
-other_kept g homes (Ended spot (Constrain y f)) targets e = refl
-other_kept g homes (Ended spot (Right y arrow name m accessors)) targets e = refl
-other_kept g homes (Ended spot (TargetLeft t arrow y)) targets e = refl
-other_kept g homes (Ended spot (TargetRight y arrow t)) targets e = refl
-other_kept g homes (Ended spot (Alone parallel name m arguments inputs)) targets e = refl
-other_kept g homes (Block spot ss) targets e = refl
-other_kept g homes (If spot t y) targets e = refl
-other_kept g homes (IfElse spot t y z) targets e = refl
-other_kept g homes (While spot t y) targets e = refl
-other_kept g homes (For spot first_spot f t step_spot step body) targets e = refl
-other_kept g homes (Return spot y) targets e = refl
-other_kept g homes (Assert spot y) targets e = refl
-other_kept g homes (Log spot arguments) targets e = refl

@@ -15,8 +15,6 @@ use Rattle.wit_sources.specs.Collected.{ground_with, homes_in, seen, shapes_in}
 use Rattle.wit_sources.proofs.Reading.{all_read, binary_read, choice_read, expr_then, index_read}
 use Rattle.wit_sources.proofs.Reading.{member_read, none_of, reads_none, side_first}
 use Rattle.wit_sources.proofs.Trees.{reads_array, reads_call, reads_known_call, reads_place}
-use Rattle.wit_sources.proofs.values.+collecting.Goals.{collect_place-in-Index+in_ok-collect-in-Index+in_ok-index-in-Index+in_ok-push-in-Index}
-use Rattle.wit_sources.proofs.values.+collecting.Goals.{collect_place-in-Member+in_ok-front-in-Member}
 use Rattle.wit_sources.proofs.values.+collecting.Goals as goal
 
 -- ---- calls
@@ -296,7 +294,8 @@ collect_place-loop-accessor-preserved g t c =
     c.accessor-item.is in
     let rest_list = drop (i + 1) list in
     elim c.match-accessor.branch [
-      | collect_place-in-Index+in_ok-collect-in-Index+in_ok-index-in-Index+in_ok-push-in-Index w ↦
+      | goal.collect_place-in-Index+in_ok-collect-in-Index+in_ok-index-in-Index+in_ok-push-in-Index
+          w ↦
           let e = bare w.in-Index.e in
           let two = seen w.collect.new.found in
           let known : w.in_ok-index-in-Index.index ≡ (ground_with s shapes two.list).known e =
@@ -311,7 +310,7 @@ collect_place-loop-accessor-preserved g t c =
                 (subst (λ k. Reads homes offer two u (E.place_reads (ground_with s shapes u.list)
                 homes front (indices ++ k ∷ []) (as_accessors rest_list))) known rest))),
           )
-      | collect_place-in-Member+in_ok-front-in-Member w ↦
+      | goal.collect_place-in-Member+in_ok-front-in-Member w ↦
           let name = w.in-Member.name in
           let port : front_of w.in_ok-front-in-Member.front
           ≡ E.Reached (port_by (components_in s.components.now) front indices name) =
