@@ -10,6 +10,7 @@ mod checks;
 mod compiling;
 mod proving;
 mod running;
+mod stepping;
 
 // Three sections: the sizes, the constraint (-a) * b = -c, the labels.
 static R1CS: [u8; 168] = [
