@@ -1,6 +1,7 @@
 // `witness` of one body after the other: what its steps give, and where they stop.
 use super::checks::same;
-use super::{run_words, says, sources, wtns};
+use super::compiling::with_library;
+use super::{put_file, run_words, says, sources, wtns};
 use out_io::MemStore;
 use std::process::Abort;
 use std::sync::Wait;
@@ -18,13 +19,15 @@ template Inverse() { signal input x; signal output y;
 y <-- 1 / x; }
 ";
 
-static HEAD: &str = "include \"lib.circom\";  template T() {
-signal input a; signal input b; signal input v[3]; signal output o;
-";
-
 // The template with this body, which begins at line 3, and its input: a, b and v = [10, 20, 30].
 fn with_body<R: AllocGlobal + Abort>(rt: &R, body: &str, a: u64, b: u64) -> MemStore {
-    let source = format!(in rt.alloc(); "{HEAD}{body}\n}} component main = T();\n");
+    let source = format!(in rt.alloc();
+        "include \"lib.circom\"; template T() {{
+signal input a; signal input b; signal input v[3]; signal output o;
+{body}
+}} component main = T();
+"
+    );
     let source = source.expect(rt, "memory");
     let input = format!(in rt.alloc(); "{{\"a\":{a},\"b\":{b},\"v\":[10,20,30]}}");
     let input = input.expect(rt, "memory");
@@ -83,7 +86,7 @@ static UNKNOWN_INDICES: [(&str, u64, u64, u64); 5] = [
     ),
 ];
 
-// The second loop has two turns whose condition is known.
+// The condition of the second loop is known in its first two turns.
 static UNKNOWN_CONDITIONS: [(&str, u64, u64, u64); 6] = [
     (
         "var w[2] = [1, 2]; if (a > 3) { w[0] = a; } else { w[1] = a; } o <-- 10*w[0] + w[1];",
@@ -171,6 +174,53 @@ fn steps_give_their_values(rt: HostRuntime) {
     all_give(&rt, UNKNOWN_CONDITIONS.as_slice());
     all_give(&rt, ARGUMENTS.as_slice());
     all_give(&rt, COMPONENTS.as_slice());
+}
+
+// At --O0 each signal has a wire: the output, the inputs, and the others in the order in which they
+// are made.
+static SIGNALS: [(&str, &str, &str, &[u64]); 3] = [
+    ("= Table()", "{\"a\":3}", "witness: values 3\n", &[1, 22, 3]),
+    (
+        "= Anonymous()",
+        "{\"x\":2,\"y\":5}",
+        "witness: values 10\n",
+        &[1, 30, 2, 5, 2, 5, 10, 4, 5, 20],
+    ),
+    (
+        "= Tuples()",
+        "{\"in\":[3,8]}",
+        "witness: values 15\n",
+        &[
+            1,
+            11,
+            5,
+            3,
+            8,
+            3,
+            8,
+            3,
+            8,
+            11,
+            18446744069414584316,
+            8,
+            3,
+            11,
+            5,
+        ],
+    ),
+];
+
+#[test]
+fn every_signal_has_its_value(rt: HostRuntime) {
+    for (main, input, text, values) in SIGNALS.as_slice() {
+        let mut store = with_library(&rt, main);
+        put_file(&rt, &mut store, "i.json", input.as_bytes());
+        let words = "witness t.circom i.json w.wtns --O0";
+        says(&rt, words, &mut store, 0, text);
+        let bytes = store.files.get("w.wtns").expect(&rt, "a file");
+        let wanted = wtns(&rt, values);
+        same(&rt, bytes.as_slice(), wanted.as_slice());
+    }
 }
 
 // Where it stops no file is written.
