@@ -9,6 +9,4 @@ mod simple;
 mod statement;
 mod undecided;
 
-pub use bodies::cast_template;
 pub use circuit::circuit_code;
-pub use statement::execute_all;

@@ -12,6 +12,4 @@ mod tasks;
 mod values;
 
 pub use keys::add_keys;
-pub use lack::Lack;
 pub use names::Arrays;
-pub use tasks::has_task;

@@ -20,6 +20,7 @@ use cir_evaluate::{Here, dims_in};
 use cir_frame::{Frame, World};
 use cir_make::{Body, Cast, Inside, Whole};
 
+/// Declares components, none of which is created yet.
 pub fn components<C, M>(
     body: &Body<C, M>,
     spot: Spot,

@@ -34,6 +34,7 @@ pub fn number_of<C>(here: &Here<C>, meant: Meant) -> Result<u32, Fault>
     }
 }
 
+/// Declares signals one after the other, and writes those that have a value.
 pub fn signals<C, M>(
     body: &Body<C, M>,
     spot: Spot,

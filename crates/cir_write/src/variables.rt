@@ -21,6 +21,7 @@ use cir_evaluate::{Here, dims_in};
 use cir_frame::{Frame, World};
 use cir_make::{Body, Cast, Inside, VariableCells, Whole};
 
+/// Declares variables one after the other, and assigns those that have a value.
 pub fn variables<C, M>(
     body: &Body<C, M>,
     spot: Spot,
