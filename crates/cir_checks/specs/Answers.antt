@@ -18,8 +18,8 @@ use Rattle.cir_checks.specs.declared.table.Table.{Table as CodeTable}
 use Rattle.cir_checks.specs.declared.table.Callee.{Callee as CodeCallee}
 use Rattle.cir_checks.specs.declared.table.Callee.TheVariants as callee
 use Rattle.cir_checks.specs.Faults.{Names, and_names}
-use Rattle.cir_checks.specs.Heads.{Head, Table, Callee, TemplateOf, FunctionOf, Undefined, Unknown}
-use Rattle.cir_checks.specs.Heads.{head_of, templates_among, functions_among}
+use Rattle.cir_checks.specs.Heads.{Head, Table, Callee, TemplateOf, FunctionOf, OnlyDeclared}
+use Rattle.cir_checks.specs.Heads.{Unknown, head_of, templates_among, functions_among}
 
 -- what is in a set of names
 unfoldable pub contained : NameSet → Names
@@ -66,7 +66,7 @@ table_with t ds =
 abbrev pub callee_in : CodeCallee → Callee
 callee_in (callee.Template h) = TemplateOf (head_in h.now)
 callee_in (callee.Function n) = FunctionOf n
-callee_in callee.Undefined = Undefined
+callee_in callee.OnlyDeclared = OnlyDeclared
 callee_in callee.Unknown = Unknown
 
 -- a check finds the fault, or ends well where there is none; want of memory is free
@@ -74,3 +74,9 @@ abbrev pub Finds : {F : Type 0} → Result (Unit {0}) (Stop F) → Option F → 
 Finds (Ok u) found = found ≡ None
 Finds (Err (At fault)) found = found ≡ Some fault
 Finds (Err OutOfMemory) found = ⊤
+
+-- and a check that takes no memory
+abbrev pub Tells : {F : Type 0} → Result (Unit {0}) (Stop F) → Option F → Type 0
+Tells (Ok u) found = found ≡ None
+Tells (Err (At fault)) found = found ≡ Some fault
+Tells (Err OutOfMemory) found = ⊥

@@ -64,12 +64,12 @@ table_of templates functions =
 pub data Callee : Type 0 where
   TemplateOf : Head → Callee
   FunctionOf : (parameters : ℕ) → Callee
-  -- a name that is only declared
-  Undefined : Callee
+  -- a variable, a signal or a component
+  OnlyDeclared : Callee
   Unknown : Callee
 
 abbrev pub callee : Table → Meant → Callee
 callee t meant.Other = Unknown
 callee t (meant.Template n) = unwrap_or (option_map TemplateOf (slice_get t.templates n)) Unknown
 callee t (meant.Function n) = unwrap_or (option_map FunctionOf (slice_get t.functions n)) Unknown
-callee t _ = Undefined
+callee t _ = OnlyDeclared

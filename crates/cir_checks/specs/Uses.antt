@@ -18,7 +18,7 @@ use Rattle.cir_checks.specs.declared.calls.Access.TheVariants.{Read, Write, Driv
 use Rattle.cir_checks.specs.declared.positions.Room.{Room}
 use Rattle.cir_checks.specs.declared.positions.Room.TheVariants.{Allowed, Misplaced, Barred}
 use Rattle.cir_checks.specs.Faults.{◌⨾◌, unless, Names, no_names, and_name}
-use Rattle.cir_checks.specs.Heads.{Table, Callee, TemplateOf, FunctionOf, Undefined, Unknown}
+use Rattle.cir_checks.specs.Heads.{Table, Callee, TemplateOf, FunctionOf, OnlyDeclared, Unknown}
 use Rattle.cir_checks.specs.Heads.{callee}
 
 -- in an index, a dimension or an argument, right of `&&` and `||`, and in the branches of `?:`
@@ -72,7 +72,7 @@ name_fault _ access dots = Some kind.WrongKind
 -- it has parameters.
 abbrev pub call_fault : Callee → (component : Bool) → ℕ → Option Kind
 call_fault Unknown component arguments = Some kind.UnknownName
-call_fault Undefined component arguments = Some kind.WrongKind
+call_fault OnlyDeclared component arguments = Some kind.WrongKind
 call_fault (FunctionOf parameters) component arguments =
     unless (arguments == parameters) kind.Arity ⨾ unless (not component) kind.WrongKind
 call_fault (TemplateOf h) component arguments =

@@ -4,7 +4,7 @@ ghost use Rattle.cir_ast.specs.Tree.{as_accessors};
 ghost use Rattle.cir_checks.specs.Faults.{unless};
 ghost use Rattle.cir_checks.specs.Uses.{members, name_fault, call_fault, anonymous_fault};
 ghost use Rattle.cir_checks.specs.Uses.{inputs_in};
-ghost use Rattle.cir_checks.specs.Answers.{Finds, callee_in};
+ghost use Rattle.cir_checks.specs.Answers.{Tells, callee_in};
 
 use crate::positions::Room;
 use crate::stop::{Checked, Stop};
@@ -24,7 +24,7 @@ pub enum Access {
 
 /// A fault where this doesn't hold.
 pub(crate) fn unless(holds: bool, kind: Kind) -> Checked
-    ensures { Finds result (unless holds kind) }
+    ensures { Tells result (unless holds kind) }
 {
     if holds { Ok(()) } else { Err(Stop::At(kind)) }
 }
@@ -44,7 +44,7 @@ pub(crate) fn members(accessors: &[Accessor]) -> usize
 
 /// The fault of a name that is used so, with so many members behind it.
 pub(crate) fn name_fault(meant: Meant, access: Access, dots: usize) -> Checked
-    ensures { Finds result (name_fault meant access dots) }
+    ensures { Tells result (name_fault meant access dots) }
 {
     match (meant, access) {
         (Meant::Other, _) => Err(Stop::At(Kind::UnknownName)),
@@ -61,11 +61,11 @@ pub(crate) fn name_fault(meant: Meant, access: Access, dots: usize) -> Checked
 impl Callee<'_, '_> {
     /// The fault of a call, for a component or for its value.
     pub(crate) fn call(&self, component: bool, arguments: usize) -> Checked
-        ensures { Finds result (call_fault (callee_in self.now) component arguments) }
+        ensures { Tells result (call_fault (callee_in self.now) component arguments) }
     {
         match self {
             Callee::Unknown => Err(Stop::At(Kind::UnknownName)),
-            Callee::Undefined => Err(Stop::At(Kind::WrongKind)),
+            Callee::OnlyDeclared => Err(Stop::At(Kind::WrongKind)),
             Callee::Function(parameters) => {
                 unless(arguments == *parameters, Kind::Arity)?;
                 unless(!component, Kind::WrongKind)
@@ -79,7 +79,7 @@ impl Callee<'_, '_> {
 
     /// The fault of an anonymous component, once it is called.
     pub(crate) fn anonymous(&self, room: Room, whole: bool, inputs: usize) -> Checked
-        ensures { Finds result (anonymous_fault (callee_in self.now) room whole inputs) }
+        ensures { Tells result (anonymous_fault (callee_in self.now) room whole inputs) }
     {
         match self {
             Callee::Template(head) => {

@@ -8,7 +8,7 @@ ghost use Rattle.cir_checks.specs.Statements.{returns, last_returns, function_fa
 ghost use Rattle.cir_checks.specs.Statements.{publics_fault, main_fault};
 ghost use Rattle.cir_checks.specs.Checks.{no_main, mains_among, mains_fault, use_fault};
 ghost use Rattle.cir_checks.specs.Checks.{first_fault};
-ghost use Rattle.cir_checks.specs.Answers.{Finds, table_in, callee_in};
+ghost use Rattle.cir_checks.specs.Answers.{Finds, Tells, table_in, callee_in};
 
 use crate::calls::unless;
 use crate::positions::{Position, Room};
@@ -52,7 +52,7 @@ fn last_returns(block: &Block) -> bool
 impl Callee<'_, '_> {
     /// The fault of the public names of a main component, where its template is known.
     fn publics(&self, names: &[Text]) -> Checked
-        ensures { Finds result (publics_fault (callee_in self.now) names.now) }
+        ensures { Tells result (publics_fault (callee_in self.now) names.now) }
     {
         match self {
             Callee::Template(head) => {
@@ -61,7 +61,7 @@ impl Callee<'_, '_> {
                 }
                 Ok(())
             }
-            Callee::Function(_) | Callee::Undefined | Callee::Unknown => Ok(()),
+            Callee::Function(_) | Callee::OnlyDeclared | Callee::Unknown => Ok(()),
         }
     }
 }
@@ -78,7 +78,7 @@ fn no_main(file: u32, spot: Spot) -> Stop<Found>
 
 /// The fault where there is no main component, or a second one.
 fn mains(definitions: &[Definition]) -> Result<(), Stop<Found>>
-    ensures { Finds result (mains_fault (mains_among (map bare_definition definitions.now))) }
+    ensures { Tells result (mains_fault (mains_among (map bare_definition definitions.now))) }
 {
     let mut one = false;
     for definition in definitions {

@@ -1,6 +1,6 @@
 //! Where statements and expressions stand, and which may not stand there.
 ghost use Rattle.std.specs.Prelude.{◌≡◌};
-ghost use Rattle.cir_checks.specs.Answers.{Finds};
+ghost use Rattle.cir_checks.specs.Answers.{Tells};
 ghost use Rattle.cir_checks.specs.Uses.{inward, on_the_right, room_fault};
 ghost use Rattle.cir_checks.specs.Statements.{inside, in_loop, value_room, other_room, in_function};
 ghost use Rattle.cir_checks.specs.Statements.{only_in_template, declaration_fault};
@@ -56,7 +56,7 @@ impl Room {
     }
 
     pub(crate) fn fault(self) -> Checked
-        ensures { Finds result (room_fault self) }
+        ensures { Tells result (room_fault self) }
     {
         match self {
             Room::Allowed => Ok(()),
@@ -122,14 +122,14 @@ impl Position {
     }
 
     pub(crate) fn only_in_template(self) -> Checked
-        ensures { Finds result (only_in_template self) }
+        ensures { Tells result (only_in_template self) }
     {
         unless(!self.in_function(), Kind::WrongKind)
     }
 
-    /// Whether components and inner signals may be declared there.
-    pub(crate) fn may_declare(self) -> Checked
-        ensures { Finds result (declaration_fault self) }
+    /// The fault of a declaration of components or inner signals there.
+    pub(crate) fn declaration_fault(self) -> Checked
+        ensures { Tells result (declaration_fault self) }
     {
         match self {
             Position::InFunction => Err(Stop::At(Kind::WrongKind)),
@@ -138,13 +138,14 @@ impl Position {
         }
     }
 
-    pub(crate) fn may_declare_signal(self, direction: Direction) -> Checked
-        ensures { Finds result (signal_place_fault self direction) }
+    /// The fault of a declaration of signals there.
+    pub(crate) fn signal_place_fault(self, direction: Direction) -> Checked
+        ensures { Tells result (signal_place_fault self direction) }
     {
         match (self, direction) {
             (Position::Inner, Direction::Input) => Err(Stop::At(DECLARATION_PLACE)),
             (Position::Inner, Direction::Output) => Err(Stop::At(DECLARATION_PLACE)),
-            _ => self.may_declare(),
+            _ => self.declaration_fault(),
         }
     }
 }

@@ -1,9 +1,10 @@
 //! The faults of statements.
 ghost use Rattle.std.specs.Prelude.{◌≡◌, map};
 ghost use Rattle.cir_ast.specs.Tree as tree;
+ghost use Rattle.cir_ast.specs.declared.marked.Simple.TheVariants as form;
 ghost use Rattle.cir_checks.specs.Faults.{first_in};
 ghost use Rattle.cir_checks.specs.Statements as faults;
-ghost use Rattle.cir_checks.specs.Answers.{Finds, table_in};
+ghost use Rattle.cir_checks.specs.Answers.{Finds, Tells, table_in};
 
 use crate::calls::{Access, members, unless};
 use crate::expressions::is_call;
@@ -13,7 +14,7 @@ use crate::table::{Callee, Table};
 use cir_ast::Kind;
 use cir_ast::program::{
     Assign, Block, Components, DeclaredVariable, Direction, Expr, FirstForm, LogArgument, Meant,
-    Place, SignalValue, Simple, Slot, Source, Statement, StatementForm, Target,
+    Place, SignalValue, Signals, Simple, Slot, Source, Statement, StatementForm, Target,
 };
 
 /// The slots behind the first one.
@@ -60,6 +61,34 @@ impl Table<'_> {
             (SignalValue::Given(_, value), _) => self.value(position.value_room(), value),
         }
     }
+
+    fn signals(&self, position: Position, signals: &Signals) -> Checked
+        ensures { Finds result (faults.simple_fault (table_in self.now) position
+            (tree.Signals signals.now.direction (map tree.bare_signal signals.now.signals))) }
+    {
+        position.signal_place_fault(signals.direction)?;
+        for signal in signals.signals.as_slice() {
+            self.values(position.other_room(), signal.dimensions.as_slice())?;
+            self.signal_value(position, signals.direction, &signal.value)?;
+        }
+        Ok(())
+    }
+
+    fn components(&self, position: Position, components: &Components) -> Checked
+        ensures { Finds result (faults.simple_fault (table_in self.now) position
+            (tree.bare_simple (form.Components components.now))) }
+    {
+        position.declaration_fault()?;
+        match components {
+            Components::Declared(components) => {
+                for component in components.as_slice() {
+                    self.values(position.other_room(), component.dimensions.as_slice())?;
+                }
+                Ok(())
+            }
+            Components::Created(_, _, value) => self.created(position.other_room(), value),
+        }
+    }
 }
 
 // Assignments.
@@ -102,7 +131,7 @@ impl Table<'_> {
 impl Table<'_> {
     /// One value for so many slots.
     fn one(&self, slots: usize, value: &Expr) -> Checked
-        ensures { Finds result (faults.one_fault (table_in self.now) slots (tree.bare value.now)) }
+        ensures { Tells result (faults.one_fault (table_in self.now) slots (tree.bare value.now)) }
     {
         match value {
             Expr::Anonymous(anonymous) => match self.callee(anonymous.meant) {
@@ -117,7 +146,7 @@ impl Table<'_> {
 
     /// A tuple takes as many values as it has slots.
     fn tuple(&self, target: &Target, source: &Source) -> Checked
-        ensures { Finds result (faults.tuple_fault (table_in self.now) (tree.bare_target target.now)
+        ensures { Tells result (faults.tuple_fault (table_in self.now) (tree.bare_target target.now)
             (tree.bare_source source.now)) }
     {
         match (target, source) {
@@ -192,25 +221,8 @@ impl Table<'_> {
     {
         match simple {
             Simple::Vars(vars) => self.variables(position, vars.variables.as_slice()),
-            Simple::Signals(signals) => {
-                position.may_declare_signal(signals.direction)?;
-                for signal in signals.signals.as_slice() {
-                    self.values(position.other_room(), signal.dimensions.as_slice())?;
-                    self.signal_value(position, signals.direction, &signal.value)?;
-                }
-                Ok(())
-            }
-            Simple::Components(Components::Declared(components)) => {
-                position.may_declare()?;
-                for component in components.as_slice() {
-                    self.values(position.other_room(), component.dimensions.as_slice())?;
-                }
-                Ok(())
-            }
-            Simple::Components(Components::Created(_, _, value)) => {
-                position.may_declare()?;
-                self.created(position.other_room(), value)
-            }
+            Simple::Signals(signals) => self.signals(position, signals),
+            Simple::Components(components) => self.components(position, components),
             Simple::Assign(assign) => self.assign(position, assign),
             Simple::Constrain(left, right) => {
                 position.only_in_template()?;

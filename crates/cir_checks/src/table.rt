@@ -36,8 +36,8 @@ pub struct Table<'p> {
 pub enum Callee<'t, 'p> {
     Template(&'t Head<'p>),
     Function(usize),
-    /// A name that is only declared.
-    Undefined,
+    /// A variable, a signal or a component.
+    OnlyDeclared,
     Unknown,
 }
 
@@ -112,7 +112,7 @@ impl<'p> Table<'p> {
                 Some(parameters) => Callee::Function(*parameters),
                 None => Callee::Unknown,
             },
-            _ => Callee::Undefined,
+            _ => Callee::OnlyDeclared,
         }
     }
 
