@@ -3,6 +3,7 @@ use Rattle.std.proofs.Common.{◌≡◌, ℕ, ◌+◌, ◌≤◌, List, ◌++◌
 use Rattle.std.specs.Prelude.{map}
 use Rattle.cir_resolve.specs.Definitions.{Definition}
 use Rattle.cir_sources.specs.declared.source.Source.{Source as CodeSource}
+use Rattle.cir_sources.specs.Faults.{most_files}
 use Rattle.cir_sources.specs.Includes.{seen}
 use Rattle.cir_names.specs.Programs.{tree_of, definitions_from, names_of}
 
@@ -12,4 +13,4 @@ pub record IsGathered (sources : List CodeSource) (files : List (List ℕ))
   pub names_are : files ++ names_of (map seen rest) ≡ names_of (map seen sources)
   pub definitions_are : definitions ++ definitions_from (length files) (map tree_of rest)
       ≡ definitions_from 0 (map tree_of sources)
-  pub few : length files + length (map seen rest) ≤ 1024
+  pub few : length files + length (map seen rest) ≤ most_files

@@ -1,6 +1,7 @@
 //! The definitions of source files, in the order of loading.
-ghost use Rattle.std.specs.Prelude.{◌≡◌, ◌<◌, ◌≤◌, ◌^◌, ◌++◌, ◌∷◌, [], length, map, IfOk, OnOk};
+ghost use Rattle.std.specs.Prelude.{◌≡◌, ◌<◌, ◌≤◌, ◌++◌, ◌∷◌, [], length, map, IfOk, OnOk};
 ghost use Rattle.cir_resolve.specs.Definitions.{bare_definition, definitions_of};
+ghost use Rattle.cir_sources.specs.Faults.{most_files};
 ghost use Rattle.cir_sources.specs.Includes.{seen};
 ghost use Rattle.cir_names.specs.Programs.{tree_of, definitions_from, names_of};
 
@@ -20,7 +21,7 @@ pub(crate) struct Gathered {
 impl Gathered {
     // Adds the definitions of one more source.
     fn add(&mut self, source: Source) -> Result<(), AllocError>
-        requires { length self.old.files < 2 ^ 16 }
+        requires { length self.old.files < most_files }
         ensures files { OnOk result (self.new.files ≡ self.old.files ++ source.name ∷ []) }
         ensures definitions { OnOk result (map bare_definition self.new.definitions.items
             ≡ map bare_definition self.old.definitions.items
@@ -35,7 +36,7 @@ impl Gathered {
 
 /// The definitions of sources.
 pub(crate) fn gather(alloc: Global, sources: Vec<Source>) -> Result<Gathered, AllocError>
-    requires { length (map seen sources.items) ≤ 1024 }
+    requires { length (map seen sources.items) ≤ most_files }
     ensures files { IfOk result (λ g. g.files ≡ names_of (map seen sources.items)) }
     ensures definitions { IfOk result (λ g. map bare_definition g.definitions.items
         ≡ definitions_from 0 (map tree_of sources.items)) }

@@ -7,5 +7,5 @@ pub mod laws;
 mod loading;
 mod splitting;
 
-pub use cir_sources::{LoadFault, MAX_FILES, MAX_SOURCE};
+pub use cir_sources::LoadFault;
 pub use loading::{Known, Loaded, load, load_all};

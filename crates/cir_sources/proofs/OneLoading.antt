@@ -19,7 +19,8 @@ use Rattle.cir_parse.specs.Marks.{spot_before}
 use Rattle.cir_parse.proofs.Files.{same_marked, unread_no_tree, one_first_unread}
 use Rattle.cir_sources.specs.Places.{Token, Spot, spots_of, spot_of, most_bytes}
 use Rattle.cir_sources.specs.Includes.{Contents, PlainFile, Site, Source, IsFile, IsRead, IsSource}
-use Rattle.cir_sources.specs.Includes.{other_version, includes_of, chosen, is_loaded, skipped}
+use Rattle.cir_sources.specs.Includes.{other_version, includes_of, included_name, is_loaded}
+use Rattle.cir_sources.specs.Includes.{sites_to_follow}
 use Rattle.cir_sources.specs.Includes.{follow, left_after}
 use Rattle.cir_sources.specs.Faults.{Refusal, IsUnfit, LeftOut, NoTree, OtherVersion, IsFault, Long}
 use Rattle.cir_sources.specs.Faults.{NoTokens, Unfit, IsStop, Absent, Full, Fault, most_files}
@@ -135,7 +136,7 @@ module _ (files : Contents) (library : Option (List ℕ)) where
 
   -- an include that names a source can be followed while there are fewer files than there may be
   no_stop : (count : ℕ) (site : Site) (r : Refusal) (s : Source) → IsStop files library count site r
-      → chosen files library site ≡ Some s.name → count < most_files
+      → included_name files library site ≡ Some s.name → count < most_files
       → IsSource files s → ⊥
   no_stop count site r s (Absent h) is few source = cc (h, is)
   no_stop count site r s (Full m h g) is few source = omega (arith, g, few)
@@ -150,10 +151,10 @@ module _ (files : Contents) (library : Option (List ℕ)) where
   followed : (name : List ℕ) (sites left : List Site) (go : List Site → Option (List Site))
       → follow files library name sites go ≡ Some left
       → (site : Site) × (rest : List Site) × (sites ≡ site ∷ rest)
-      × (chosen files library site ≡ Some name) × (go rest ≡ Some left)
+      × (included_name files library site ≡ Some name) × (go rest ≡ Some left)
   followed name [] left go h = cc
   followed name (site ∷ rest) left go h =
-      let x = named_by (chosen files library site) h in (site, rest, refl, x.0, x.1)
+      let x = named_by (included_name files library site) h in (site, rest, refl, x.0, x.1)
     where
       by_test : (n : List ℕ) (b : Bool) → bytes_eq name n ≡ b
           → cond (b || false) (go rest) None ≡ Some left
@@ -169,7 +170,7 @@ module _ (files : Contents) (library : Option (List ℕ)) where
   -- no source can follow where these includes are left
   abbrev IsEnd : List Site → Type 0
   IsEnd left = (site : Site) (rest : List Site) (s : Source) → left ≡ site ∷ rest
-      → chosen files library site ≡ Some s.name → IsSource files s → ⊥
+      → included_name files library site ≡ Some s.name → IsSource files s → ⊥
 
   no_further : (sites l m : List Site) (s : Source) (go : List Site → Option (List Site))
       → Some sites ≡ Some l → follow files library s.name sites go ≡ Some m → IsSource files s
@@ -187,14 +188,14 @@ module _ (files : Contents) (library : Option (List ℕ)) where
       → (length ts < length ss → IsEnd m) → (ss ≡ ts) × (l ≡ m)
   one_way loaded sites [] [] l m h k ps qs x y = (refl, cc)
   one_way loaded sites [] (t ∷ ts) l m h k ps qs x y =
-      absurd (no_further (skipped files library loaded sites) l m t _ h k
+      absurd (no_further (sites_to_follow files library loaded sites) l m t _ h k
       (All-head (IsSource files) t ts qs) (x (omega arith)))
   one_way loaded sites (s ∷ ss) [] l m h k ps qs x y =
-      absurd (no_further (skipped files library loaded sites) m l s _ k h
+      absurd (no_further (sites_to_follow files library loaded sites) m l s _ k h
       (All-head (IsSource files) s ss ps) (y (omega arith)))
   one_way loaded sites (s ∷ ss) (t ∷ ts) l m h k ps qs x y =
-      let f = followed s.name (skipped files library loaded sites) l _ h in
-      let g = followed t.name (skipped files library loaded sites) m _ k in
+      let f = followed s.name (sites_to_follow files library loaded sites) l _ h in
+      let g = followed t.name (sites_to_follow files library loaded sites) m _ k in
       let both : f.0 ∷ f.1 ≡ g.0 ∷ g.1 = sym f.2 ∙ g.2 in
       let names : s.name ≡ t.name = cc (both, f.3, g.3) in
       let rest : f.1 ≡ g.1 = cc both in

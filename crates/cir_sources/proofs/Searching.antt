@@ -10,29 +10,29 @@ use Rattle.std.proofs.lemmas.Str.{is_utf8-from_IsUtf8, IsUtf8-from_is_utf8}
 use Rattle.out_io.specs.Contents.{Finds}
 use Rattle.out_io.proofs.Telling.{answer_here, others_stay, with_answer}
 use Rattle.cir_sources.specs.declared.search.Target.TheVariants.{Loaded, Absent, Found}
-use Rattle.cir_sources.specs.Includes.{Contents, Site, IsSource, Source, chosen, held}
+use Rattle.cir_sources.specs.Includes.{Contents, Site, IsSource, Source, included_name, bytes_at}
 use Rattle.cir_sources.specs.Loading.{Global}
 use Rattle.cir_sources.specs.Steps.{BTreeSet, contains_text, Target, AreHeld, AreMissing, Fits}
 use Rattle.cir_sources.specs.Steps.{Learns, Looks, Targets}
 
-pub held_at : (files : Contents) (name : List ℕ) → IsUtf8 name → held files name ≡ files name
+pub held_at : (files : Contents) (name : List ℕ) → IsUtf8 name → bytes_at files name ≡ files name
 held_at files name text = ap (λ b. cond b (files name) None) (is_utf8-from_IsUtf8 name text)
 
 -- what is held is there
-pub held_there : (files : Contents) (name bytes : List ℕ) → held files name ≡ Some bytes
+pub held_there : (files : Contents) (name bytes : List ℕ) → bytes_at files name ≡ Some bytes
     → files name ≡ Some bytes
 held_there files name bytes =
     cond_both (is_utf8 name) (files name) None (λ o. o ≡ Some bytes → files name ≡ Some bytes)
     (λ _ e. e) (λ _ e. cc)
 
 -- a name that isn't UTF-8 has no file
-pub no_text : (files : Contents) (name : List ℕ) → ¬ IsUtf8 name → held files name ≡ None
+pub no_text : (files : Contents) (name : List ℕ) → ¬ IsUtf8 name → bytes_at files name ≡ None
 no_text files name isnt =
     ap (λ b. cond b (files name) None)
     (false_from_ne_true (is_utf8 name) (λ e. isnt (IsUtf8-from_is_utf8 name e)))
 
 -- nor has one that isn't there
-pub none_held : (files : Contents) (name : List ℕ) → files name ≡ None → held files name ≡ None
+pub none_held : (files : Contents) (name : List ℕ) → files name ≡ None → bytes_at files name ≡ None
 none_held files name none =
     cond_both (is_utf8 name) (files name) None (λ o. o ≡ None) (λ _. none) (λ _. refl)
 
@@ -42,7 +42,7 @@ module _ (files : Contents) (name : List ℕ) (answer : Option (List ℕ)) (none
     abbrev more : Contents
     more = with_answer name answer files
 
-    held_stays : (q : List ℕ) → ¬ (name ≡ q) → held more q ≡ held files q
+    held_stays : (q : List ℕ) → ¬ (name ≡ q) → bytes_at more q ≡ bytes_at files q
     held_stays q other =
         ap (λ (o : Option (List ℕ)). cond (is_utf8 q) o None)
         (others_stay name answer files q other)
@@ -86,7 +86,7 @@ module _ (contents : Option Contents) (names old : BTreeSet (String Global)) (te
       one_more all files none fits = record {
         sources = fits.sources;
         missing = λ q e. cond_both (bytes_eq text q) true (contains_text old q)
-            (λ b. b ≡ true → held files q ≡ None)
+            (λ b. b ≡ true → bytes_at files q ≡ None)
             (λ same _. none_held files q (ap files (sym ((bytes_eq-Decides text q).0 same)) ∙ none))
             (λ _. fits.missing q) (sym (now q) ∙ e);
         there = tt;
@@ -130,8 +130,8 @@ learns_found contents names missing found bytes utf8 fresh unasked finds = recor
 -- what was looked up is what the include names, where it names that name if it has a file
 pub looked : (files : Contents) (names : BTreeSet (String Global)) (library : Option (List ℕ))
     (site : Site) (name : List ℕ) (target : Target)
-    → ((b : List ℕ) → held files name ≡ Some b → chosen files library site ≡ Some name)
-    → (held files name ≡ None → chosen files library site ≡ None)
+    → ((b : List ℕ) → bytes_at files name ≡ Some b → included_name files library site ≡ Some name)
+    → (bytes_at files name ≡ None → included_name files library site ≡ None)
     → AreHeld files names → Looks files names name target
     → Targets files names library site target
 looked files names library site name Loaded some none are looks =

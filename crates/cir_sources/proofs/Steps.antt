@@ -17,7 +17,8 @@ use Rattle.out_io.specs.Calls.{Told}
 use Rattle.out_io.proofs.Telling.{no_files, found_told, rose_on, told_on}
 use Rattle.cir_sources.specs.declared.search.Target.TheVariants.{Loaded, Absent, Found}
 use Rattle.cir_sources.specs.declared.fault.LoadFault.TheVariants as fault
-use Rattle.cir_sources.specs.Includes.{Contents, Site, IsRead, IsSource, Source, chosen, is_among}
+use Rattle.cir_sources.specs.Includes.{Contents, Site, IsRead, IsSource, Source, included_name}
+use Rattle.cir_sources.specs.Includes.{is_among}
 use Rattle.cir_sources.specs.Includes.{is_loaded, left_after, seen}
 use Rattle.cir_sources.specs.Faults.{Refusal, IsFault, IsStop, most_files}
 use Rattle.cir_sources.specs.Loading.{Global, CodeSource, LoadFault, AreAll, AreReached, AreSources}
@@ -33,7 +34,8 @@ use Rattle.cir_sources.proofs.Searching.{learns_found}
 
 -- an include whose file is loaded changes nothing
 left_skips : (files : Contents) (library : Option (List ℕ)) (loaded : List (List ℕ)) (site : Site)
-    (sites : List Site) (new : List Source) → is_loaded loaded (chosen files library site) ≡ true
+    (sites : List Site) (new : List Source)
+    → is_loaded loaded (included_name files library site) ≡ true
     → left_after files library loaded (site ∷ sites) new ≡ left_after files library loaded sites new
 left_skips files library loaded site sites [] e = rw e
 left_skips files library loaded site sites (s ∷ ss) e = rw e
@@ -262,22 +264,23 @@ module _ {contents : Option Contents} {name : List ℕ} {library : Option (List 
 
   -- what it names, where that isn't loaded
   fresh : (files : Contents) (t : Target) → target ≡ t → ¬ (t ≡ Loaded)
-      → Fits (all_of old) missing t files → (chosen files library site ≡ chosen_as t)
-      × (is_loaded (names_of (all_of old)) (chosen files library site) ≡ false)
+      → Fits (all_of old) missing t files → (included_name files library site ≡ chosen_as t)
+      × (is_loaded (names_of (all_of old)) (included_name files library site) ≡ false)
   fresh files Loaded is new fits = absurd (new refl)
   fresh files Absent is new fits =
-      let none : chosen files library site ≡ None =
+      let none : included_name files library site ≡ None =
       rw is at (targets files fits.sources fits.missing) in
       (none, rw none)
   fresh files (Found found bytes) is new fits =
       let t = rw is at (targets files fits.sources fits.missing) in
-      let here : chosen files library site ≡ Some (string_bytes found) = t.1 bytes.items fits.there
+      let here : included_name files library site ≡ Some (string_bytes found) =
+      t.1 bytes.items fits.there
       in (here, rw here (sym (begun.names_are (string_bytes found)) ∙ t.0))
 
   -- it can't be followed
   pub stops : (failed : Type 0) (P : Refusal → Type 0) (e : LoadFault) (t : Target) → target ≡ t
       → ¬ (t ≡ Loaded) → ((r : Refusal) → P r → (files : Contents) → IsThere files t
-      → chosen files library site ≡ chosen_as t
+      → included_name files library site ≡ chosen_as t
       → IsStop files library (length old.sources.items) site r)
       → Refuses P e → Loads contents name library failed (Err e)
   stops failed P e t is new why =
@@ -333,9 +336,10 @@ module _ {contents : Option Contents} {name : List ℕ} {library : Option (List 
             All-pop (IsSource files) (all_of old ++ seen source ∷ []) (all_of old)
             (Some (seen source)) refl sources in
             let t = rw is at (targets files both.0 are) in
-            let here : chosen files library site ≡ Some source.name =
+            let here : included_name files library site ≡ Some source.name =
             t.1 both.1.bytes (rw (← named) both.1.there) ∙ ap Some (sym named) in
-            let unloaded : is_loaded (names_of (all_of old)) (chosen files library site) ≡ false =
+            let unloaded
+            : is_loaded (names_of (all_of old)) (included_name files library site) ≡ false =
             rw (here, named) (sym (begun.names_are (string_bytes found)) ∙ t.0) in
             let on = loading.leads files both.0 (learns.more files are) (seen source ∷ n) in
             rw (append_assoc begun.more (seen source ∷ []) n, on, unloaded, here)

@@ -14,8 +14,8 @@ use Rattle.cir_expression.specs.Answers.{kinds}
 use Rattle.cir_parse.specs.Contract.{IsTree, IsFirstUnread}
 use Rattle.cir_parse.specs.LeftOut.{first_left_out}
 use Rattle.cir_sources.specs.Places.{Token, Spot, spots_of, spot_of, most_bytes}
-use Rattle.cir_sources.specs.Includes.{Contents, PlainFile, Site, IsFile, other_version, chosen}
-use Rattle.cir_sources.specs.Includes.{held}
+use Rattle.cir_sources.specs.Includes.{Contents, PlainFile, Site, IsFile, other_version, bytes_at}
+use Rattle.cir_sources.specs.Includes.{included_name}
 
 -- the files that a program may have
 abbrev pub most_files : ℕ
@@ -54,13 +54,13 @@ pub data IsFault (name bytes : List ℕ) : Refusal → Type 0 where
 pub data IsStop (files : Contents) (library : Option (List ℕ)) (count : ℕ) (site : Site)
     : Refusal → Type 0 where
   -- there is no such file
-  Absent : chosen files library site ≡ None
+  Absent : included_name files library site ≡ None
       → IsStop files library count site (refusal_at site.file Include site.spot)
   -- there are as many files as there may be
-  Full : (name : List ℕ) → chosen files library site ≡ Some name → count ≡ most_files
+  Full : (name : List ℕ) → included_name files library site ≡ Some name → count ≡ most_files
       → IsStop files library count site
       (refusal_at site.file (Limit Files (count + 1)) site.spot)
   -- the file has a fault
-  Fault : (name bytes : List ℕ) (r : Refusal) → chosen files library site ≡ Some name
-      → count < most_files → held files name ≡ Some bytes → IsFault name bytes r
+  Fault : (name bytes : List ℕ) (r : Refusal) → included_name files library site ≡ Some name
+      → count < most_files → bytes_at files name ≡ Some bytes → IsFault name bytes r
       → IsStop files library count site r

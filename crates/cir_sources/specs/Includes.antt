@@ -54,13 +54,13 @@ pub record IsRead (bytes : List ℕ) (tree : PlainFile Spot) : Type 0 where
 
 -- The bytes under a name, where it can be asked for. A name that isn't UTF-8 has none; the lexer
 -- refuses a source with such a name in it anyway.
-abbrev pub held : Contents → List ℕ → Option (List ℕ)
-held files name = if is_utf8 name then files name else None
+abbrev pub bytes_at : Contents → List ℕ → Option (List ℕ)
+bytes_at files name = if is_utf8 name then files name else None
 
 -- the source is read from the file of its name
 pub record IsSource (files : Contents) (s : Source) : Type 0 where
   pub bytes : List ℕ
-  pub there : held files s.name ≡ Some bytes
+  pub there : bytes_at files s.name ≡ Some bytes
   pub read : IsRead bytes s.tree
 
 -- the includes among these items of the file with this name
@@ -86,11 +86,11 @@ in_library (Some folder) site = Some (resolved (in_folder folder site.name))
 -- this name, where there is a file of it
 abbrev pub if_held : Contents → Option (List ℕ) → Option (List ℕ)
 if_held files None = None
-if_held files (Some name) = if is_some (held files name) then Some name else None
+if_held files (Some name) = if is_some (bytes_at files name) then Some name else None
 
 -- the name of the included file: beside the including one, else in the folder of libraries
-abbrev pub chosen : Contents → Option (List ℕ) → Site → Option (List ℕ)
-chosen files library site = if is_some (held files (beside site)) then Some (beside site)
+abbrev pub included_name : Contents → Option (List ℕ) → Site → Option (List ℕ)
+included_name files library site = if is_some (bytes_at files (beside site)) then Some (beside site)
     else if_held files (in_library library site)
 
 -- the name is among these
@@ -103,24 +103,25 @@ is_loaded loaded None = false
 is_loaded loaded (Some name) = is_among loaded name
 
 -- without the includes at the front whose file is loaded already
-abbrev pub skipped : Contents → Option (List ℕ) → List (List ℕ) → List Site → List Site
-skipped files library loaded [] = []
-skipped files library loaded (site ∷ sites) = if is_loaded loaded (chosen files library site)
-    then skipped files library loaded sites else site ∷ sites
+abbrev pub sites_to_follow : Contents → Option (List ℕ) → List (List ℕ) → List Site → List Site
+sites_to_follow files library loaded [] = []
+sites_to_follow files library loaded (site ∷ sites) =
+    if is_loaded loaded (included_name files library site)
+    then sites_to_follow files library loaded sites else site ∷ sites
 
 -- what follows for the includes behind the first, where the first one names this file
 abbrev pub follow : Contents → Option (List ℕ) → List ℕ → List Site
     → (List Site → Option (List Site)) → Option (List Site)
 follow files library name [] go = None
 follow files library name (site ∷ sites) go =
-    if is_loaded (name ∷ []) (chosen files library site) then go sites else None
+    if is_loaded (name ∷ []) (included_name files library site) then go sites else None
 
 -- The includes that are left to follow, once these new sources are loaded one after the other: each
 -- is the one that the first include names whose file isn't loaded yet, and its own includes come
 -- before those that follow.
 abbrev pub left_after : Contents → Option (List ℕ) → List (List ℕ) → List Site → List Source
     → Option (List Site)
-left_after files library loaded sites [] = Some (skipped files library loaded sites)
+left_after files library loaded sites [] = Some (sites_to_follow files library loaded sites)
 left_after files library loaded sites (s ∷ ss) =
-    follow files library s.name (skipped files library loaded sites)
+    follow files library s.name (sites_to_follow files library loaded sites)
     (λ rest. left_after files library (loaded ++ s.name ∷ []) (includes_of s ++ rest) ss)

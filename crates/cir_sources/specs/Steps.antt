@@ -14,8 +14,8 @@ pub use Rattle.cir_sources.specs.declared.loading.Loading.{Loading}
 use Rattle.cir_sources.specs.declared.fault.LoadFault.TheVariants as fault
 use Rattle.cir_sources.specs.Places.{Token, Spot, most_bytes}
 use Rattle.cir_sources.specs.Includes.{Contents, Site, Source, seen_items, seen, IsFile, IsRead}
-use Rattle.cir_sources.specs.Includes.{IsSource, includes_of, other_version, held, chosen, is_among}
-use Rattle.cir_sources.specs.Includes.{left_after}
+use Rattle.cir_sources.specs.Includes.{IsSource, includes_of, other_version, bytes_at, is_among}
+use Rattle.cir_sources.specs.Includes.{included_name, left_after}
 use Rattle.cir_sources.specs.Faults.{Refusal, IsUnfit, IsFault, most_files}
 use Rattle.cir_sources.specs.Loading.{Global, CodeSource, LoadFault, Loads}
 
@@ -49,11 +49,11 @@ Decodes name bytes (Err e) = Refuses (IsFault name bytes) e
 -- none of these names has a file
 abbrev pub AreMissing : Contents → BTreeSet (String Global) → Type 0
 AreMissing files missing =
-    (q : List ℕ) → contains_text missing q ≡ true → held files q ≡ None
+    (q : List ℕ) → contains_text missing q ≡ true → bytes_at files q ≡ None
 
 -- the file that was found, if one was, is there with its bytes
 abbrev pub IsThere : Contents → Target → Type 0
-IsThere files (Found name bytes) = held files (string_bytes name) ≡ Some bytes.items
+IsThere files (Found name bytes) = bytes_at files (string_bytes name) ≡ Some bytes.items
 IsThere files _ = ⊤
 
 -- the name is one of these, or that of the file that was found
@@ -90,7 +90,7 @@ pub record Learns (contents : Option Contents) (names old new : BTreeSet (String
 -- what is known of the file of this name: it is loaded, there is none, or it was read
 abbrev pub Looks : Contents → BTreeSet (String Global) → List ℕ → Target → Type 0
 Looks files names name Loaded = contains_text names name ≡ true
-Looks files names name Absent = held files name ≡ None
+Looks files names name Absent = bytes_at files name ≡ None
 Looks files names name (Found found bytes) =
     (string_bytes found ≡ name) × (contains_text names name ≡ false)
 
@@ -98,17 +98,18 @@ Looks files names name (Found found bytes) =
 -- if that is there
 abbrev pub Targets : Contents → BTreeSet (String Global) → Option (List ℕ) → Site → Target → Type 0
 Targets files names library site Loaded =
-    (name : List ℕ) × (chosen files library site ≡ Some name) × (contains_text names name ≡ true)
-Targets files names library site Absent = chosen files library site ≡ None
+    (name : List ℕ) × (included_name files library site ≡ Some name)
+    × (contains_text names name ≡ true)
+Targets files names library site Absent = included_name files library site ≡ None
 Targets files names library site (Found name bytes) =
     (contains_text names (string_bytes name) ≡ false)
-    × ((some : List ℕ) → held files (string_bytes name) ≡ Some some
-    → chosen files library site ≡ Some (string_bytes name))
+    × ((some : List ℕ) → bytes_at files (string_bytes name) ≡ Some some
+    → included_name files library site ≡ Some (string_bytes name))
 
 -- each of these names has a file
 abbrev pub AreHeld : Contents → BTreeSet (String Global) → Type 0
 AreHeld files names =
-    (q : List ℕ) → contains_text names q ≡ true → (bytes : List ℕ) × (held files q ≡ Some bytes)
+    (q : List ℕ) → contains_text names q ≡ true → (bytes : List ℕ) × (bytes_at files q ≡ Some bytes)
 
 -- what the search for an include's file answers, of all files that are as it has learned
 abbrev pub FindsTarget : BTreeSet (String Global) → BTreeSet (String Global) → Option (List ℕ)

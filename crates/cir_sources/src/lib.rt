@@ -12,5 +12,5 @@ mod search;
 mod source;
 
 pub use fault::LoadFault;
-pub use loading::{Reached, reach, sources};
-pub use source::{MAX_FILES, MAX_SOURCE, Site, Source};
+pub use loading::{Reached, reach};
+pub use source::{Site, Source};

@@ -4,7 +4,7 @@ ghost use Rattle.std.specs.Option.{option_copied};
 ghost use Rattle.out_io.specs.Faults.{Rose};
 ghost use Rattle.cir_sources.specs.Includes.{seen};
 ghost use Rattle.out_io.specs.Calls.{OnlyReads};
-ghost use Rattle.cir_sources.specs.Loading.{Loads, AreSources};
+ghost use Rattle.cir_sources.specs.Loading.{AreSources};
 ghost use Rattle.cir_sources.specs.Resting.{Reaches, RestOn};
 ghost use Rattle.cir_sources.specs.Steps.{Adds, Follows, to_go};
 
@@ -89,26 +89,6 @@ pub struct Reached {
 /// The source files of the program whose first file has this name: the ones that it reaches by
 /// includes, depth first, each once. An include's file is looked for beside its own file, and then
 /// in the folder of libraries.
-pub fn sources<S: Store>(
-    alloc: Global,
-    store: &mut S,
-    name: &str,
-    library: Option<&str>,
-) -> Result<Vec<Source>, LoadFault>
-    ensures loads { Loads (S.contents store.old) name.now (option_copied library.entry)
-        (Rose (S.faults store.old) (S.faults store.new)) result }
-    ensures read { IfOk result (λ v. AreSources (map seen v.items)) }
-    ensures store { OnlyReads (S.contents store.old) (S.contents store.new)
-        (S.faults store.old) (S.faults store.new) (S.never_fails store.old)
-        (S.never_fails store.new) }
-{
-    match reach(alloc, store, name, library) {
-        Ok(reached) => Ok(reached.sources),
-        Err(fault) => Err(fault),
-    }
-}
-
-/// The same, with the names that were asked for and have no file.
 pub fn reach<S: Store>(
     alloc: Global,
     store: &mut S,

@@ -4,10 +4,10 @@ use cir_ast::marked::File;
 use cir_ast::program::{Meant, Spot};
 
 /// The number of bytes that a source file may have.
-pub const MAX_SOURCE: usize = 16_777_216;
+pub(crate) const MAX_SOURCE: usize = 16_777_216;
 
 /// The number of source files that a program may have.
-pub const MAX_FILES: usize = 1_024;
+pub(crate) const MAX_FILES: usize = 1_024;
 
 /// A source file: its name, and the tree of its tokens with their places. What names mean isn't
 /// known yet.

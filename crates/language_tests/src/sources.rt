@@ -1,7 +1,7 @@
 use crate::checks::same;
 use crate::loading::{expect_at, write};
 use cir_ast::Kind;
-use cir_sources::{LoadFault, sources};
+use cir_sources::{LoadFault, reach};
 use cir_token::LexCause;
 use out_io::MemStore;
 use std::process::Abort;
@@ -9,7 +9,7 @@ use std::process::Abort;
 #[test]
 fn answers_that_the_first_file_is_missing(rt: HostRuntime) {
     let mut store = MemStore::new(rt.alloc());
-    let answer = sources(rt.alloc(), &mut store, "a.circom", None);
+    let answer = reach(rt.alloc(), &mut store, "a.circom", None);
     assert!(rt; matches!(answer, Err(LoadFault::Missing)));
 }
 
@@ -18,7 +18,7 @@ fn refuses_a_byte_that_begins_no_token(rt: HostRuntime) {
     let mut store = MemStore::new(rt.alloc());
     write(&rt, &mut store, "dir/a.circom", b"pragma\n  #");
     let cause = LexCause::BadChar;
-    match sources(rt.alloc(), &mut store, "dir/a.circom", Some("inc")) {
+    match reach(rt.alloc(), &mut store, "dir/a.circom", Some("inc")) {
         Err(LoadFault::Refused(refusal)) => {
             expect_at(&rt, &refusal, Kind::Lexical { cause }, 2, 3, "dir/a.circom");
             same(&rt, refusal.place.path.as_slice(), b"-".as_slice());
@@ -31,15 +31,15 @@ fn refuses_a_byte_that_begins_no_token(rt: HostRuntime) {
 fn answers_that_the_store_failed(rt: HostRuntime) {
     let mut store = MemStore::new(rt.alloc());
     store.fail.push(0).expect(&rt, "memory");
-    let answer = sources(rt.alloc(), &mut store, "a.circom", None);
+    let answer = reach(rt.alloc(), &mut store, "a.circom", None);
     assert!(rt; matches!(answer, Err(LoadFault::Fault)));
     same(&rt, store.faults, 1);
 }
 
 // The sources of a program without libraries have these names, each followed by a blank.
 fn have_names<R: AllocGlobal + Abort>(rt: &R, store: &mut MemStore, name: &str, wanted: &[u8]) {
-    let found = sources(rt.alloc(), store, name, None).ok();
-    let found = found.expect(rt, "sources");
+    let found = reach(rt.alloc(), store, name, None).ok();
+    let found = found.expect(rt, "sources").sources;
     let mut names = Vec::new(rt.alloc());
     for source in found.as_slice() {
         names

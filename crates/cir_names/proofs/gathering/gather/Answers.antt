@@ -14,7 +14,10 @@ loop-source-init c =
     }
 
 pub add-requires : goal.add-requires
-add-requires c = omega (arith, c.loop-source.invariant.few)
+add-requires c = omega (
+  arith,
+  rw c.in-Some.ensures.steps.0 at c.loop-source.invariant.few,
+)
 
 pub loop-source-preserved : goal.loop-source-preserved
 loop-source-preserved c =

@@ -1,6 +1,6 @@
 use Rattle.std.proofs.Common.{◌≡◌, ◌∙◌, List, None, Some, ℕ, ap}
 use Rattle.cir_sources.specs.Names.{in_folder, resolved}
-use Rattle.cir_sources.specs.Includes.{beside, held}
+use Rattle.cir_sources.specs.Includes.{beside, bytes_at}
 use Rattle.cir_sources.proofs.Searching.{looked}
 use Rattle.cir_sources.proofs.search.search.Goals as goal
 
@@ -21,7 +21,7 @@ returns-in-Absent-Some-clause-targets g c =
     ∙ ap (λ (f : List ℕ). resolved (in_folder f c.args.site.now.name)) c.as_bytes.ensures.value)
     at c.in_ok-target-in-Absent-Some.ensures.looks in
     rw c.in-Absent-Some.is-1 (λ files are missing.
-    let absent : held files (beside c.args.site.now) ≡ None =
+    let absent : bytes_at files (beside c.args.site.now) ≡ None =
     near files (c.in_ok-target-in-Absent-Some.ensures.learns.more files missing) in
     looked files c.args.names.now (Some c.in-Absent-Some.folder.now) c.args.site.now _
     c.in_ok-target-in-Absent-Some.target (λ b e. rw (absent, e)) (λ e. rw (absent, e)) are
