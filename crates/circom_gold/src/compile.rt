@@ -2,7 +2,7 @@ ghost use Rattle.std.specs.Prelude.{◌≡◌, IfOk, IsErrOf, Ok};
 ghost use Rattle.out_io.specs.Calls.{OnlyReads, Told};
 ghost use Rattle.out_io.specs.Faults.{Rose};
 ghost use Rattle.out_io.specs.declared.fault.IoFault.TheVariants.{Failed};
-ghost use Rattle.iden_files.specs.File.{File, InLimits};
+ghost use Rattle.iden_files.specs.File.{InLimits};
 ghost use Rattle.iden_files.specs.ReadR1cs.{r1cs_of};
 ghost use Rattle.iden_files.specs.Spelling.{r1cs_bytes};
 ghost use Rattle.circom_gold.specs.Compile.{Compiles};
@@ -52,7 +52,7 @@ fn file_in<S: Store>(
     name: &str,
     options: Options<'_>,
 ) -> Result<R1cs, Stop>
-    ensures step { StepsTo (λ (f : File). f) (S.contents store.old)
+    ensures step { StepsTo (λ f. f) (S.contents store.old)
         (λ files found. Compiles files name.now (meant_options options.entry) found)
         (Rose (S.faults store.old) (S.faults store.new)) result }
     ensures limits { IfOk result InLimits }

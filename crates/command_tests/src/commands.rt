@@ -279,7 +279,7 @@ static CALLS: [(&str, u32, bool, u8, &str); 9] = [
         3,
         false,
         2,
-        "rejected: 2 Malformed at byte 8\n",
+        "rejected: 2 Malformed at byte 0\n",
     ),
     (
         "audit m.r1cs m.r1cs m.bytes",
