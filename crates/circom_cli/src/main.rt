@@ -25,7 +25,7 @@ fn main(rt: HostRuntime) -> ExitCode {
     let outcome = match rt.clone() {
         Ok(inner) => on_a_deep_stack(&rt, move || -> Result<u8, AllocError> {
             match devices(&inner) {
-                Ok((mut store, mut out)) => outcome(&inner, &mut store, &mut out),
+                Ok((mut store, mut out)) => run_words(&inner, &mut store, &mut out),
                 Err(error) => Err(error),
             }
         }),
@@ -81,7 +81,8 @@ fn devices(
     Ok((RealStore::new(rt.clone()?), RealSink::new(rt.clone()?)))
 }
 
-fn outcome<R: Threads + Wait + Env + AllocGlobal + Sync, S: Store, K: Sink>(
+// Does what the words of the command line ask for.
+fn run_words<R: Threads + Wait + Env + AllocGlobal + Sync, S: Store, K: Sink>(
     rt: &R,
     store: &mut S,
     out: &mut K,
