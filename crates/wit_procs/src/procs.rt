@@ -191,8 +191,7 @@ impl<'p> Procs<'p> {
 
     /// The number of the procedure of a function for arguments of these shapes, which is the same
     /// at each call; with all that it calls it gets one where it has none. After an error the table
-    /// isn't used again. A function isn't lowered, as if there were no memory, where a function
-    /// that it calls with an array of more than 300 dimensions breaks a rule.
+    /// isn't used again.
     pub fn lower_function(
         &mut self,
         function: u32,
@@ -218,9 +217,7 @@ impl<'p> Procs<'p> {
         Ok(number(place)?)
     }
 
-    /// The procedures of these keys and of all that they reach, which is added behind them. There
-    /// is none, as if there were no memory, where a function that is called with an array of more
-    /// than 300 dimensions breaks a rule.
+    /// The procedures of these keys and of all that they reach, which is added behind them.
     pub fn of(alloc: Global, program: &'p Program, keys: CallTable) -> Result<Procs<'p>, LowerFault>
         ensures whole { AreRunnable (bare_program program.now) → IfOk result (λ t. IsWhole t) }
         ensures table { AreRunnable (bare_program program.now) → IfOk result (λ t.
