@@ -74,7 +74,8 @@ pub fn run<R: Threads + Wait + AllocGlobal + Sync, S: Store, K: Sink>(
         (S.contents store.old) (S.contents store.new)) }
 
     // `audit` has the status 0, and says `accepted`, exactly where the files hold what is accepted;
-    // else the status is 3, which comes only where a call failed.
+    // else the status is 3, which comes only where a call failed. Where the store doesn't tell what
+    // it holds, this is so of some files.
     ensures audited { (r1cs publics proof : List ℕ)
         → command_of (texts words.now) ≡ Some (audit r1cs publics proof)
         → IfOk result (λ exit. (exit ≡ 3) ⊎ Told (S.contents store.old)
@@ -91,7 +92,8 @@ pub fn run<R: Threads + Wait + AllocGlobal + Sync, S: Store, K: Sink>(
         (S.contents store.old) (S.contents store.new)) }
 
     // Its status is 0 exactly where the source compiles, the input is read, and the run of the
-    // source's program doesn't stop; else it is 3, which comes only where a call failed.
+    // source's program doesn't stop; else it is 3, which comes only where a call failed. This and
+    // the next clause speak of stores that tell what they hold.
     ensures has_witness { (source input out_name : List ℕ) (options : Options)
         (running : RunOptions)
         → command_of (texts words.now) ≡ Some (witness source input out_name options running)
