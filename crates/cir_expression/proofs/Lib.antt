@@ -1,5 +1,5 @@
+pub mod Combinators
 pub mod Front
-pub mod Items
 pub mod Lists
 pub mod Sound
 pub mod Steps

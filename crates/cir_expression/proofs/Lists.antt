@@ -17,10 +17,10 @@ use Rattle.cir_ast.specs.Plain.{PlainInputs as Inputs, plain_exprs, plain_named}
 use Rattle.cir_ast.specs.Height.{height_of, exprs_height, accessors_height, named_height, highest}
 use Rattle.cir_expression.specs.declared.measured.Reading.{Reading}
 use Rattle.cir_expression.specs.declared.reader.Stop.{Stop}
-use Rattle.cir_expression.specs.Front.{Tokens, next, tail, begins, behind, name_at}
+use Rattle.cir_expression.specs.Front.{Tokens, tail, begins, behind, name_at}
+use Rattle.cir_expression.specs.Combinators.{next, listed_to}
 use Rattle.cir_expression.specs.Reading.{Found, Input, input_at, as_inputs, inputs_by, called_by}
-use Rattle.cir_expression.specs.Reading.{named_input, named_inputs_by, arguments_by, listed_to}
-use Rattle.cir_expression.specs.Reading.{accessors_by}
+use Rattle.cir_expression.specs.Reading.{named_input, named_inputs_by, arguments_by, accessors_by}
 use Rattle.cir_expression.specs.Answers.{Stops, seen, seen_exprs, seen_accessors, seen_named}
 use Rattle.cir_expression.specs.Answers.{seen_inputs, begins_input}
 use Rattle.cir_expression.specs.Measured.{IsAbove}
@@ -39,7 +39,7 @@ module _ {A : Type 0} {close : Symbol} {read : Tokens → Option (A × Tokens)} 
   turn = omega arith
 
   pub no_item : (stop : Stop) → Stops stop (read ts) → Stops stop all
-  no_item stop s = rw (so_far.is, turn) (stops_next _ _ stop s)
+  no_item stop s = rw (so_far.is, turn) (stops_next _ _ stop (stops_next _ _ stop s))
 
   pub no_end : (stop : Stop) (rest : Tokens) (x : A) → read ts ≡ Some (x, rest)
       → begins Comma rest ≡ false → Stops stop (behind close rest) → Stops stop all

@@ -14,7 +14,8 @@ use Rattle.cir_ast.specs.Shape.{level_of}
 use Rattle.cir_ast.specs.Height.{height_of}
 use Rattle.cir_expression.specs.declared.reader.Stop.{Stop}
 use Rattle.cir_expression.specs.declared.reader.Stop.TheVariants.{NoTree, OutOfMemory}
-use Rattle.cir_expression.specs.Front.{Tokens, next, otherwise, tail, begins, name_at}
+use Rattle.cir_expression.specs.Front.{Tokens, tail, begins, name_at}
+use Rattle.cir_expression.specs.Combinators.{next, otherwise}
 use Rattle.cir_expression.specs.Reading.{Found, continues, within, chain, choice, climb, operand_by}
 use Rattle.cir_expression.specs.Reading.{expression, continued, whole, place, place_by}
 use Rattle.cir_expression.specs.Reading.{accessors_by}

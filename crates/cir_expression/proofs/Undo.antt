@@ -1,7 +1,7 @@
 -- Reading undoes printing: a tree that is shaped and low enough is read from the tokens that it
 -- prints.
-use Rattle.std.proofs.Common.{◌≡◌, ◌≢◌, ℕ, zero, suc, ◌+◌, ◌-◌, ◌<◌, ◌≤◌, max, List, [], ◌∷◌, ◌++◌}
-use Rattle.std.proofs.Common.{length, Option, Some, None, Bool, true, false, refl, ap, ◌∙◌, sym}
+use Rattle.std.proofs.Common.{◌≡◌, ◌≢◌, ℕ, zero, suc, ◌+◌, ◌-◌, ◌<◌, ◌≤◌, List, [], ◌∷◌, ◌++◌}
+use Rattle.std.proofs.Common.{length, Some, None, Bool, true, false, refl, ap, ◌∙◌, sym}
 use Rattle.std.proofs.Common.{arith, append_assoc, length-append}
 use Rattle.std.proofs.lemmas.Bool.{le-leb}
 use Rattle.cir_token.specs.declared.token.TokenKind.TheVariants as token
@@ -24,15 +24,17 @@ use Rattle.cir_ast.specs.Shape.{level_of, Fits, AllFit, AreFitAccessors, AreFitI
 use Rattle.cir_ast.specs.Shape.{Each}
 use Rattle.cir_ast.specs.Height.{height_of, exprs_height, accessors_height, inputs_height}
 use Rattle.cir_ast.specs.Height.{named_height}
-use Rattle.cir_expression.specs.Front.{Tokens, next, begins}
+use Rattle.cir_expression.specs.Front.{Tokens, begins}
+use Rattle.cir_expression.specs.Combinators.{next, listed_to}
 use Rattle.cir_expression.specs.Reading.{Found, Input, input_at, as_inputs, named_input, inputs_by}
-use Rattle.cir_expression.specs.Reading.{named_inputs_by, called_by, continues, listed_to}
-use Rattle.cir_expression.specs.Reading.{arguments_by, accessors_by, operand_by, chain, climb}
-use Rattle.cir_expression.specs.Reading.{expression, place, arguments, goes_on, starts}
+use Rattle.cir_expression.specs.Reading.{named_inputs_by, called_by, continues, arguments_by}
+use Rattle.cir_expression.specs.Reading.{accessors_by, operand_by, chain, climb, expression, place}
+use Rattle.cir_expression.specs.Reading.{arguments, goes_on, starts}
 use Rattle.cir_expression.proofs.Front.{tighter, none_at_all, none_so_tight, no_operator, not_on}
 use Rattle.cir_expression.proofs.Front.{not_start, levels, continues_at, expression_starts}
 use Rattle.cir_expression.proofs.Front.{input_is, no_input}
-use Rattle.cir_expression.proofs.Items.{Closes, IsReadBack, list_undo}
+use Rattle.cir_expression.proofs.Combinators.{Undoes, ends_parenthesis, ends_bracket, Closes}
+use Rattle.cir_expression.proofs.Combinators.{list_undo}
 use Rattle.cir_expression.proofs.Steps.{behind_whole, behind_operand, climb_is, chain_is}
 use Rattle.cir_expression.proofs.Steps.{chain_ends, choice_ends}
 use Rattle.cir_expression.proofs.Sound.{listed_as, named_input_tokens, named_as}
@@ -79,7 +81,7 @@ settled m n k e rest ends nothing asked so_far =
 -- before tokens that don't go on
 read_back : (n : ℕ) (e : Expr)
     → ((rest : Tokens) → Ends 1 rest → Climbs n 1 e rest (tokens_of e ++ rest))
-    → IsReadBack tokens_of (climb n 1) e
+    → (rest : Tokens) → goes_on rest ≡ false → climb n 1 (tokens_of e ++ rest) ≡ Some (e, rest)
 read_back n e so_far rest ends =
     settled 1 n 1 e rest (ends_where 1 rest ends) (no_operator 1 rest ends)
     (λ l. not_on Question rest ends refl) (so_far rest)
@@ -155,25 +157,25 @@ as_inputs_of (tree.named name a e is) = ap (tree.named name a e) (as_inputs_of i
 
 -- what operands are read from what they print
 exprs_undo : (close : Symbol) (read : Tokens → Found) → Closes close → (es : Exprs) (rest : Tokens)
-    → es ≢ tree.none → Each (IsReadBack tokens_of read) (list_of es)
+    → es ≢ tree.none → Each (Undoes tokens_of read) (list_of es)
     → listed_to close (length (listed es ++ token.Symbol close ∷ rest)) read []
     (listed es ++ token.Symbol close ∷ rest) ≡ Some (list_of es, rest)
 exprs_undo close read closes es rest some each =
     rw (ap listed (sym (as_list es)) ∙ listed_as (list_of es))
-    (list_undo tokens_of close read closes
+    (list_undo tokens_of read close closes
     (list_of es) rest (λ empty. some (sym (as_list es) ∙ ap as_exprs empty)) each)
 
 named_undo : (read : Tokens → Found) (is : NamedInputs) (rest : Tokens) → is ≢ tree.unnamed
-    → Each (IsReadBack named_input_tokens (named_input read)) (inputs_of is)
+    → Each (Undoes named_input_tokens (named_input read)) (inputs_of is)
     → named_inputs_by read (named_tokens is ++ token.Symbol CloseParenthesis ∷ rest)
     ≡ Some (inputs_of is, rest)
 named_undo read is rest some each =
     rw (ap named_tokens (sym (as_inputs_of is)) ∙ named_as (inputs_of is)) (list_undo
-    named_input_tokens CloseParenthesis (named_input read) (refl, refl, λ rest. refl) (inputs_of is)
-    rest (λ empty. some (sym (as_inputs_of is) ∙ ap as_inputs empty)) each)
+    named_input_tokens (named_input read) CloseParenthesis (refl, refl, ends_parenthesis)
+    (inputs_of is) rest (λ empty. some (sym (as_inputs_of is) ∙ ap as_inputs empty)) each)
 
 arguments_found : (es : Exprs) (read : Tokens → Found) (rest : Tokens)
-    → Each (IsReadBack tokens_of read) (list_of es)
+    → Each (Undoes tokens_of read) (list_of es)
     → arguments_by read (listed es ++ token.Symbol CloseParenthesis ∷ rest)
     ≡ Some (list_of es, rest)
 arguments_found tree.none read rest each = refl
@@ -181,7 +183,7 @@ arguments_found (tree.more e es) read rest each =
     let begun : starts (listed (tree.more e es) ++ token.Symbol CloseParenthesis ∷ rest) ≡ true =
     rw append_assoc (expression_starts e _) in
     rw (not_start CloseParenthesis _ begun refl)
-    (exprs_undo CloseParenthesis read (refl, refl, λ rest. refl) (tree.more e es) rest
+    (exprs_undo CloseParenthesis read (refl, refl, ends_parenthesis) (tree.more e es) rest
     (λ empty. absurd (cc empty)) each)
 
 -- listed inputs don't begin as named ones
@@ -192,7 +194,7 @@ no_input_listed (tree.more e tree.none) rest = rw append_assoc (no_input e _ ref
 no_input_listed (tree.more e (tree.more f es)) rest = rw append_assoc (no_input e _ refl)
 
 named_found : (is : NamedInputs) (read : Tokens → Found) (rest : Tokens) → is ≢ tree.unnamed
-    → Each (IsReadBack named_input_tokens (named_input read)) (inputs_of is)
+    → Each (Undoes named_input_tokens (named_input read)) (inputs_of is)
     → inputs_by read (named_tokens is ++ token.Symbol CloseParenthesis ∷ rest)
     ≡ Some (tree.Named is, rest)
 named_found tree.unnamed read rest some each = absurd (some refl)
@@ -252,7 +254,7 @@ mutual
       (token.Symbol CloseParenthesis ∷ rest) refl in
       first_operand n level _ _ rest (omega arith) (rw (append_assoc, inner) refl)
   undo (tree.Array es) n m level high fits low rest ends =
-      let elements = exprs_undo CloseBracket (climb (n - 1) 1) (refl, refl, λ rest. refl) es rest
+      let elements = exprs_undo CloseBracket (climb (n - 1) 1) (refl, refl, ends_bracket) es rest
       fits.0 (undo_list es (n - 1) (omega arith) fits.1) in
       first_operand n level _ _ rest (omega arith) (rw (append_assoc, elements, as_list es) refl)
   undo (tree.Unary op a) n m level high fits low rest ends =
@@ -293,21 +295,22 @@ mutual
       named_found is (climb room 1) rest fits.0 (undo_named is room high fits.1)
 
   undo_named : (is : NamedInputs) (room : ℕ) → named_height is ≤ room → AllNamedFit is
-      → Each (IsReadBack named_input_tokens (named_input (climb room 1))) (inputs_of is)
+      → Each (Undoes named_input_tokens (named_input (climb room 1))) (inputs_of is)
   undo_named tree.unnamed room high fits = tt
   undo_named (tree.named name a e is) room high fits = (
     λ rest ends.
         let value =
-        read_back room e (undo e room 1 1 (omega arith) fits.0 (omega arith)) rest ends in
+        read_back room e (undo e room 1 1 (omega arith) fits.0 (omega arith)) rest ends.goes in
         rw (input_is name a (tokens_of e ++ rest), value) refl,
     undo_named is room (omega arith) fits.1,
   )
 
   undo_list : (es : Exprs) (room : ℕ) → exprs_height es ≤ room → AllFit es
-      → Each (IsReadBack tokens_of (climb room 1)) (list_of es)
+      → Each (Undoes tokens_of (climb room 1)) (list_of es)
   undo_list tree.none room high fits = tt
   undo_list (tree.more e es) room high fits = (
-    read_back room e (undo e room 1 1 (omega arith) fits.0 (omega arith)),
+    λ rest ends.
+        read_back room e (undo e room 1 1 (omega arith) fits.0 (omega arith)) rest ends.goes,
     undo_list es room (omega arith) fits.1,
   )
 
@@ -354,36 +357,3 @@ unfolding arguments expression
 arguments_undo es room rest fits high =
     arguments_found (as_exprs es) (climb room 1) rest (undo_list (as_exprs es) room high fits)
     ∙ rw (list_as es) refl
-
--- what is read from the same tokens is the same
-one_reading : (A : Type 0) (read : Tokens → Option (A × Tokens)) (s t x y : Tokens) (a b : A)
-    → read s ≡ Some (a, x) → read t ≡ Some (b, y) → s ≡ t → (a ≡ b) × (x ≡ y)
-one_reading A read s t x y a b first second same =
-    let pair : ◌≡◌ {A = A × Tokens} (a, x) (b, y) = cc (first, second, same) in
-    (ap (λ (p : A × Tokens). p.0) pair, ap (λ (p : A × Tokens). p.1) pair)
-
--- two expressions that print the same before tokens that don't go on are one
-pub one_expression : (a b : Expr) (x y : Tokens) → Fits 1 a → Fits 1 b → goes_on x ≡ false
-    → goes_on y ≡ false → tokens_of a ++ x ≡ tokens_of b ++ y → (a ≡ b) × (x ≡ y)
-one_expression a b x y fits_a fits_b ends_x ends_y same =
-    let room : ℕ = max (height_of a) (height_of b) in
-    one_reading Expr (expression room) _ _ _ _ _ _
-    (expression_undo a room x fits_a (omega arith) ends_x)
-    (expression_undo b room y fits_b (omega arith) ends_y) same
-
-pub one_place : (n m : List ℕ) (a b : Accessors) (x y : Tokens) → AreFitAccessors a
-    → AreFitAccessors b → goes_on x ≡ false → goes_on y ≡ false
-    → tokens_of (tree.Place n tt a) ++ x ≡ tokens_of (tree.Place m tt b) ++ y
-    → (n ≡ m) × (a ≡ b) × (x ≡ y)
-one_place n m a b x y fits_a fits_b ends_x ends_y same =
-    let is = one_expression (tree.Place n tt a) (tree.Place m tt b) x y fits_a fits_b ends_x ends_y
-    same in (cc is.0, cc is.0, is.1)
-
-pub one_list : (a b : List Expr) (x y : Tokens) → AllFit (as_exprs a) → AllFit (as_exprs b)
-    → listed (as_exprs a) ++ token.Symbol CloseParenthesis ∷ x
-    ≡ listed (as_exprs b) ++ token.Symbol CloseParenthesis ∷ y → (a ≡ b) × (x ≡ y)
-one_list a b x y fits_a fits_b same =
-    let room : ℕ = max (exprs_height (as_exprs a)) (exprs_height (as_exprs b)) in
-    one_reading (List Expr) (arguments room) _ _ x y a b
-    (arguments_undo a room x fits_a (omega arith))
-    (arguments_undo b room y fits_b (omega arith)) same

@@ -15,7 +15,8 @@ use Rattle.cir_expression.specs.declared.expressions.Grouped.{Grouped as CodeGro
 use Rattle.cir_expression.specs.declared.expressions.Grouped.TheVariants as group
 use Rattle.cir_expression.specs.declared.reader.Stop.{Stop}
 use Rattle.cir_expression.specs.declared.reader.Stop.TheVariants.{NoTree, OutOfMemory}
-use Rattle.cir_expression.specs.Front.{Tokens, otherwise}
+use Rattle.cir_expression.specs.Front.{Tokens}
+use Rattle.cir_expression.specs.Combinators.{otherwise}
 use Rattle.cir_expression.specs.Reading.{Input, input_at, as_inputs, Grouped, Whole, Tuple}
 
 abbrev pub kinds : List Token → List TokenKind

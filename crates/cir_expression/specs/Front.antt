@@ -12,14 +12,6 @@ use Rattle.cir_token.specs.contracts.token.Symbol.{the_type as symbol_type}
 abbrev pub Tokens : Type 0
 Tokens = List TokenKind
 
-abbrev pub next : {A B : Type 0} → Option A → (A → Option B) → Option B
-next None go = None
-next (Some x) go = go x
-
-abbrev pub otherwise : {A B : Type 0} → Option A → B → (A → B) → B
-otherwise None end go = end
-otherwise (Some x) end go = go x
-
 abbrev pub tail : Tokens → Tokens
 tail [] = []
 tail (t ∷ ts) = ts
@@ -46,3 +38,16 @@ behind_word w ts = if begins_word w ts then Some (tail ts) else None
 abbrev pub name_at : Tokens → Option (List ℕ × Tokens)
 name_at (token.Name name ∷ ts) = Some (name, ts)
 name_at _ = None
+
+abbrev pub words_at : Tokens → Option (List ℕ × Tokens)
+words_at (token.Str words ∷ ts) = Some (words, ts)
+words_at _ = None
+
+abbrev pub number_at : Tokens → Option (ℕ × Tokens)
+number_at (token.Number n ∷ ts) = Some (n, ts)
+number_at _ = None
+
+-- what the symbol at the front means
+abbrev pub symbol_at : {A : Type 0} → (Symbol → Option A) → Tokens → Option A
+symbol_at meaning (token.Symbol s ∷ ts) = meaning s
+symbol_at meaning _ = None

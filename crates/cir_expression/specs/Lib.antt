@@ -1,5 +1,5 @@
 pub mod Front
+pub mod Combinators
 pub mod Reading
-pub mod Groups
 pub mod Answers
 pub mod Measured

@@ -3,7 +3,7 @@
 -- A reading takes the tokens that are left, and answers the tree at their front with the tokens
 -- behind it. Where a number comes first, it is the height that the tree may have.
 use Rattle.std.specs.Prelude.{ℕ, zero, suc, ◌+◌, nat_le, Bool, true, false, if◌then◌else◌, List, []}
-use Rattle.std.specs.Prelude.{◌∷◌, ◌++◌, length, Option, Some, None}
+use Rattle.std.specs.Prelude.{◌∷◌, length, Option, Some, None}
 use Rattle.cir_token.specs.declared.token.TokenKind.TheVariants as token
 use Rattle.cir_token.specs.declared.token.Reserved.TheVariants.{Parallel}
 use Rattle.cir_token.specs.declared.token.Symbol.{Symbol}
@@ -20,8 +20,9 @@ use Rattle.cir_ast.specs.Plain.{PlainExpr as Expr, PlainAccessors as Accessors}
 use Rattle.cir_ast.specs.Plain.{PlainInputs as Inputs, PlainNamedInputs as NamedInputs}
 use Rattle.cir_ast.specs.Shape.{level_of}
 use Rattle.cir_ast.specs.Height.{height_of}
-use Rattle.cir_expression.specs.Front.{Tokens, next, otherwise, tail, begins, begins_underscore}
-use Rattle.cir_expression.specs.Front.{begins_word, behind, name_at}
+use Rattle.cir_expression.specs.Front.{Tokens, tail, begins, begins_underscore, begins_word, behind}
+use Rattle.cir_expression.specs.Front.{name_at, symbol_at}
+use Rattle.cir_expression.specs.Combinators.{next, otherwise, listed_to}
 
 -- an expression at the front, and the tokens behind it
 abbrev pub Found : Type 0
@@ -57,12 +58,10 @@ binary_of symbol.BarBar = Some binary.Or
 binary_of _ = None
 
 abbrev pub unary_at : Tokens → Option UnaryOp
-unary_at (token.Symbol s ∷ ts) = unary_of s
-unary_at _ = None
+unary_at = symbol_at unary_of
 
 abbrev pub binary_at : Tokens → Option BinaryOp
-binary_at (token.Symbol s ∷ ts) = binary_of s
-binary_at _ = None
+binary_at = symbol_at binary_of
 
 -- the operator of this level or a tighter one at the front
 abbrev pub continues : ℕ → Tokens → Option BinaryOp
@@ -71,17 +70,6 @@ continues level ts =
 
 abbrev pub within : ℕ → Expr → Option Expr
 within room e = if nat_le (height_of e) room then Some e else None
-
--- so many items at most with commas between them, behind those that were read before, and this
--- symbol
-abbrev pub listed_to : {A : Type 0} → Symbol → ℕ → (Tokens → Option (A × Tokens)) → List A → Tokens
-    → Option (List A × Tokens)
-listed_to close zero read before ts = None
-listed_to close (suc n) read before ts =
-    next (read ts) (λ x.
-    if begins symbol.Comma x.1
-    then listed_to close n read (before ++ x.0 ∷ []) (tail x.1)
-    else next (behind close x.1) (λ rest. Some (before ++ x.0 ∷ [], rest)))
 
 -- no expression or more, and `)`
 abbrev pub arguments_by : (Tokens → Found) → Tokens → Option (List Expr × Tokens)
@@ -121,8 +109,7 @@ arrow_of symbol.ConstrainLeft = Some arrows.Constrain
 arrow_of _ = None
 
 abbrev pub arrow_at : Tokens → Option Arrow
-arrow_at (token.Symbol s ∷ ts) = arrow_of s
-arrow_at _ = None
+arrow_at = symbol_at arrow_of
 
 -- an input's name and its arrow
 abbrev pub input_at : Tokens → Option ((List ℕ × Arrow) × Tokens)

@@ -3,9 +3,10 @@ ghost use Rattle.std.specs.Prelude.{IfSome, true};
 ghost use Rattle.cir_token.specs.declared.token.Symbol.TheVariants.{Question};
 ghost use Rattle.cir_expression.specs.Reading.{expression, place, arguments, climb, chain, choice};
 ghost use Rattle.cir_expression.specs.Reading.{operand_by, grouped_by, named_by, arguments_by};
-ghost use Rattle.cir_expression.specs.Reading.{called_by, listed_to, named_inputs_by, accessors_by};
-ghost use Rattle.cir_expression.specs.Reading.{element, elements_to, whole, group};
-ghost use Rattle.cir_expression.specs.Front.{next, begins};
+ghost use Rattle.cir_expression.specs.Reading.{called_by, named_inputs_by, accessors_by, element};
+ghost use Rattle.cir_expression.specs.Reading.{elements_to, whole, group};
+ghost use Rattle.cir_expression.specs.Combinators.{listed_to, next};
+ghost use Rattle.cir_expression.specs.Front.{begins};
 ghost use Rattle.cir_expression.specs.Answers.{kinds, Reads, seen, seen_element, seen_group, named};
 ghost use Rattle.cir_expression.specs.Answers.{seen_accessors, seen_input};
 ghost use Rattle.cir_expression.specs.Measured.{IsMeasured, IsMeasuredPath, IsMeasuredNaming};
@@ -32,8 +33,6 @@ pub enum Grouped<N> {
     Tuple(Vec<Option<Expr<N>>>),
 }
 
-// Below, a call that is given `room` reads what may be that high, and a call that is given `inner`
-// reads a node whose inner expressions may be that high.
 impl<'a> Reader<'a> {
     /// An expression that is at most this high.
     #[tactic(auto, unfolding(crate::specs::Reading::expression))]

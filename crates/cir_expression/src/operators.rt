@@ -45,7 +45,8 @@ impl<'a> Reader<'a> {
         }
     }
 
-    /// Whether no operator of this level or a tighter one comes next, and no `?`.
+    /// Whether no operator of this level or a tighter one comes next, and no `?`. It may say no
+    /// without need.
     pub fn ends(&self, level: u32) -> bool
         ensures operator { result ≡ true → continues level (kinds self.now.rest.now) ≡ None }
         ensures choice { result ≡ true → begins Question (kinds self.now.rest.now) ≡ false }

@@ -131,6 +131,7 @@ impl<'a> Reader<'a> {
             _ => Err(Stop::NoTree),
         }
     }
+
     /// The arrow to the left that comes next.
     pub fn arrow(&self) -> Option<Arrow>
         ensures { result ≡ arrow_at (kinds self.now.rest.now) }

@@ -18,7 +18,7 @@ use Rattle.cir_parse.specs.Limits.{most_height, inner_height}
 use Rattle.cir_parse.specs.Contract.{IsTree, NoItem, IsFirstUnread}
 use Rattle.cir_parse.specs.Marking.{marked, all_marked, marked_item, marked_items, marked_file}
 use Rattle.cir_parse.specs.Reading.{item}
-use Rattle.cir_parse.proofs.Sequence.{All, nothing, just, at}
+use Rattle.cir_expression.proofs.Combinators.{Sound, nothing, gives, at}
 use Rattle.cir_parse.proofs.Whole.{IsItem, item_sound, item_undo}
 
 -- trees without marks
@@ -121,9 +121,9 @@ item_ends i j rest si sj h =
 unread : (ts : Tokens) → NoItem ts → item unmark inner_height ts ≡ None
 unread ts none = from (item_sound unmark inner_height ts)
   where
-    from : {o : Option (Item Bare × Tokens)} → All (IsItem inner_height ts) o → o ≡ None
+    from : {o : Option (Item Bare × Tokens)} → Sound (IsItem inner_height ts) o → o ≡ None
     from nothing = refl
-    from (just {x = r} h) = absurd (none r.0 r.1 h.shaped h.low h.prints)
+    from (gives {x = r} h) = absurd (none r.0 r.1 h.shaped h.low h.prints)
 
 -- these items were read before these tokens
 pub record IsPart {S : Type 0} (mark : Tokens → S) (all : Tokens) (items : File S)

@@ -2,7 +2,6 @@ pub mod Files
 pub mod Nested
 pub mod Plainly
 pub mod Seen
-pub mod Sequence
 pub mod Steps
 pub mod Unnested
 pub mod Whole

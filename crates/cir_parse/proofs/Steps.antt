@@ -3,7 +3,8 @@ use Rattle.std.proofs.Common.{◌≡◌, ℕ, zero, suc, ◌<◌, List, [], ◌�
 use Rattle.std.proofs.Common.{refl, ◌∙◌, arith}
 use Rattle.std.specs.Prelude.{if◌then◌else◌}
 use Rattle.cir_token.specs.declared.token.Symbol.TheVariants.{CloseBrace}
-use Rattle.cir_expression.specs.Front.{Tokens, next, tail, begins}
+use Rattle.cir_expression.specs.Front.{Tokens, tail, begins}
+use Rattle.cir_expression.specs.Combinators.{next}
 use Rattle.cir_expression.specs.declared.reader.Stop.{Stop}
 use Rattle.cir_expression.specs.declared.reader.Stop.TheVariants.{NoTree, OutOfMemory}
 use Rattle.cir_expression.specs.Answers.{Stops}

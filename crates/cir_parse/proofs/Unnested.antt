@@ -13,12 +13,11 @@ use Rattle.cir_ast.specs.Plain.{PlainStatement as Statement, PlainStatements as 
 use Rattle.cir_ast.specs.Print as print
 use Rattle.cir_ast.specs.Shape as shape
 use Rattle.cir_ast.specs.Height as height
-use Rattle.cir_expression.specs.Front.{Tokens, begins, begins_word}
+use Rattle.cir_expression.specs.Front.{Tokens, begins, begins_word, words_at}
 use Rattle.cir_expression.specs.Reading.{starts}
 use Rattle.cir_expression.proofs.Front.{not_start, expression_starts}
 use Rattle.cir_expression.proofs.Undo.{expression_undo}
-use Rattle.cir_simple_statement.specs.Front.{words_at}
-use Rattle.cir_simple_statement.proofs.Parts.{Undoes, optional_undo, each_of}
+use Rattle.cir_expression.proofs.Combinators.{Undoes, any_number_undo, each_of}
 use Rattle.cir_simple_statement.proofs.Undone.{variables_undo, assign_undo, simple_undo}
 use Rattle.cir_parse.specs.Marking.{step_on, first_on, marked, all_marked}
 use Rattle.cir_parse.specs.Reading.{argument, first, condition, head, simply, plain, statements_by}
@@ -232,7 +231,7 @@ mutual
       (rw (condition_undo e room (token.Symbol symbol.Semicolon ∷ rest) shaped (omega arith)) refl)
   statement_undo mark (tree.Log r xs) (suc room) rest shaped low alone =
       simp append_assoc
-      (rw (optional_undo print.argument_tokens (argument room) xs
+      (rw (any_number_undo print.argument_tokens (argument room) xs
       (token.Symbol symbol.Semicolon ∷ rest)
       (each_of shape.FitsArgument (Undoes print.argument_tokens (argument room))
       height.argument_height room (λ a f l. argument_undo a room f l) xs shaped (omega arith))

@@ -17,57 +17,42 @@ use Rattle.cir_ast.specs.Print.{listed, list_tokens, name_tokens, block_tokens, 
 use Rattle.cir_ast.specs.Print.{enclosed as enclosed_tokens, item_tokens}
 use Rattle.cir_ast.specs.Shape.{AllFit, Each, AreShapedStatements, IsShapedItem}
 use Rattle.cir_ast.specs.Height.{exprs_height, statements_height, item_height}
-use Rattle.cir_expression.specs.Front.{Tokens, tail, behind, behind_word, name_at}
+use Rattle.cir_expression.specs.Front.{Tokens, tail, name_at}
 use Rattle.cir_expression.specs.Reading.{arguments}
-use Rattle.cir_expression.proofs.Front.{behind_all, behind_word_all, name_all}
-use Rattle.cir_expression.proofs.Sound.{AreArguments, arguments_sound}
+use Rattle.cir_expression.proofs.Combinators.{Sound, nothing, gives, Of, reads, sound_map, and_then}
+use Rattle.cir_expression.proofs.Combinators.{if_test, if_symbol, if_word, symbol_sound, word_sound}
+use Rattle.cir_expression.proofs.Combinators.{name_sound, words_sound, number_sound, closed_sound}
+use Rattle.cir_expression.proofs.Combinators.{after_sound, enclosed_sound, listed_sound, Undoes}
+use Rattle.cir_expression.proofs.Combinators.{any_number_sound, ends_bracket, separated_undo}
+use Rattle.cir_expression.proofs.Combinators.{any_number_undo}
+use Rattle.cir_expression.proofs.Sound.{arguments_sound}
 use Rattle.cir_expression.proofs.Undo.{arguments_undo}
-use Rattle.cir_simple_statement.specs.Front.{number_at}
-use Rattle.cir_simple_statement.proofs.Parts.{Of, number_all, Undoes, ends_bracket, separated_undo}
-use Rattle.cir_simple_statement.proofs.Parts.{optional_undo}
 use Rattle.cir_simple_statement.proofs.Undone.{exprs_list, exprs_same}
 use Rattle.cir_parse.specs.Marking.{all_marked, marked_item}
 use Rattle.cir_parse.specs.Reading.{parameters, language_at, pragma, definition, public_names}
 use Rattle.cir_parse.specs.Reading.{main, item}
-use Rattle.cir_parse.proofs.Sequence.{All, nothing, just, all, all_map, and_then, if_all, word_all}
-use Rattle.cir_parse.proofs.Sequence.{symbol_all, closed_all, after_all, Inside, enclosed_all}
-use Rattle.cir_parse.proofs.Sequence.{separated_all, optional_all}
-use Rattle.cir_parse.proofs.Nested.{string_all, block_sound}
+use Rattle.cir_parse.proofs.Nested.{block_sound}
 use Rattle.cir_parse.proofs.Unnested.{statements_same, enough, statements_undo}
 
 abbrev Any : {A : Type 0} → A → Type 0
 Any x = Unit {0}
 
-one_name : (ts : Tokens) → All (Of name_tokens Any ts) (name_at ts)
-one_name ts = all_map (all {P = λ r. ts ≡ token.Name r.0 ∷ r.1} (name_all ts)) λ r is.
-    record { prints = sym is; fine = tt }
-
-one_number : (ts : Tokens) → All (λ r. token.Number r.0 ∷ r.1 ≡ ts) (number_at ts)
-one_number ts =
-    all_map (all {P = λ r. ts ≡ token.Number r.0 ∷ r.1} (number_all ts)) λ r is. sym is
-
-symbol_sound : (s : Symbol) (ts : Tokens) → All (λ rest. token.Symbol s ∷ rest ≡ ts) (behind s ts)
-symbol_sound s ts =
-    all_map (all {P = λ rest. ts ≡ token.Symbol s ∷ rest} (behind_all s ts)) λ rest is. sym is
-
-word_sound : (w : Reserved) (ts : Tokens)
-    → All (λ rest. token.Reserved w ∷ rest ≡ ts) (behind_word w ts)
-word_sound w ts =
-    all_map (all {P = λ rest. ts ≡ token.Reserved w ∷ rest} (behind_word_all w ts))
-    λ rest is. sym is
+one_name : (ts : Tokens) → Sound (Of name_tokens Any ts) (name_at ts)
+one_name ts = and_then (name_sound ts) λ name is. reads is tt
 
 language_sound : (ts : Tokens)
-    → All (λ rest. token.Name (codes "circom") ∷ rest ≡ ts) (language_at ts)
+    → Sound (λ rest. token.Name (codes "circom") ∷ rest ≡ ts) (language_at ts)
 language_sound ts =
-    and_then (one_name ts) λ name h. if_all (bytes_eq name.0 (codes "circom"))
-    (λ e. just (ap (λ (n : List ℕ). token.Name n ∷ name.1)
+    and_then (one_name ts) λ name h. if_test (bytes_eq name.0 (codes "circom"))
+    (λ e. gives (ap (λ (n : List ℕ). token.Name n ∷ name.1)
     (sym ((bytes_eq-Decides name.0 (codes "circom")).0 e)) ∙ h.prints)) (λ e. nothing)
 
 -- the parentheses behind the name of a definition
 parameters_sound : (ts : Tokens)
-    → All (Inside (Of (list_tokens name_tokens) (Each Any)) ts) (parameters ts)
+    → Sound (λ r. Of (λ ps. token.Symbol symbol.OpenParenthesis ∷ list_tokens name_tokens ps)
+    (Each Any) ts (r.0, token.Symbol symbol.CloseParenthesis ∷ r.1)) (parameters ts)
 unfolding parameters
-parameters_sound ts = enclosed_all ts (optional_all one_name)
+parameters_sound ts = enclosed_sound (any_number_sound one_name) ts
 
 -- a name, parameters and a block
 abbrev definition_tokens : {S : Type 0} → List ℕ → List (List ℕ) → Statements S → Tokens
@@ -81,15 +66,15 @@ record IsDefinition {S : Type 0} (room : ℕ) (ts : Tokens)
   low : statements_height r.0.2 ≤ room
 
 definition_sound : {S : Type 0} (mark : Tokens → S) (room : ℕ) (ts : Tokens)
-    → All (IsDefinition room ts) (definition mark room ts)
+    → Sound (IsDefinition room ts) (definition mark room ts)
 unfolding definition
 definition_sound mark room ts =
     and_then (one_name ts) λ name is. and_then (parameters_sound name.1) λ ps ep.
     and_then (block_sound mark room ps.1) λ ss eb.
-    just record {
-      prints = simp (append_assoc, eb.2.prints, eb.1, ep.2.prints, ep.1) is.prints;
-      shaped = eb.2.shaped;
-      low = eb.2.low;
+    gives record {
+      prints = simp (append_assoc, eb.prints, ep.prints) is.prints;
+      shaped = eb.fine.0;
+      low = eb.fine.1;
     }
 
 public_is : (names : List (List ℕ)) → names ≢ []
@@ -99,18 +84,15 @@ public_is : (names : List (List ℕ)) → names ≢ []
 public_is [] some = absurd (some refl)
 public_is (name ∷ names) some = refl
 
-public_sound : (ts : Tokens) → All (λ r. public_tokens r.0 ++ r.1 ≡ ts) (public_names ts)
+public_sound : (ts : Tokens) → Sound (λ r. public_tokens r.0 ++ r.1 ≡ ts) (public_names ts)
 unfolding public_names
 public_sound ts =
-    symbol_all symbol.OpenBrace ts
+    if_symbol symbol.OpenBrace ts
     (λ is. and_then (word_sound word.Public (tail ts)) λ a ea.
-    all_map (closed_all symbol.CloseBrace (closed_all symbol.CloseBracket
-    (after_all symbol.OpenBracket a (separated_all one_name)))) λ r e.
-    rw (← public_is r.0 e.2.fine.0) (simp (append_assoc, e.2.prints, e.1, ea) is))
-    (λ none. just refl)
-
-arguments_all : (room : ℕ) (ts : Tokens) → All (AreArguments room ts) (arguments room ts)
-arguments_all room ts = all (arguments_sound room ts)
+    sound_map (closed_sound symbol.CloseBrace (closed_sound symbol.CloseBracket
+    (after_sound (listed_sound one_name) symbol.OpenBracket a))) λ r e.
+    rw (← public_is r.0 e.fine.0) (simp (append_assoc, e.prints, ea) is))
+    (gives refl)
 
 -- an item was read
 pub record IsItem {S : Type 0} (room : ℕ) (ts : Tokens) (r : Item S × Tokens) : Type 0 where
@@ -120,38 +102,38 @@ pub record IsItem {S : Type 0} (room : ℕ) (ts : Tokens) (r : Item S × Tokens)
 
 taken : {S : Type 0} {room : ℕ} {ts rest : Tokens} {i : Item S}
     → item_tokens i ++ rest ≡ ts → IsShapedItem i → item_height i ≤ room + 2
-    → All (IsItem room ts) (Some (i, rest))
-taken prints shaped low = just record { prints = prints; shaped = shaped; low = low }
+    → Sound (IsItem room ts) (Some (i, rest))
+taken prints shaped low = gives record { prints = prints; shaped = shaped; low = low }
 
 pub item_sound : {S : Type 0} (mark : Tokens → S) (room : ℕ) (ts : Tokens)
-    → All (IsItem room ts) (item mark room ts)
+    → Sound (IsItem room ts) (item mark room ts)
 unfolding item pragma main
 item_sound mark room ts =
-    word_all word.Pragma ts
+    if_word word.Pragma ts
     (λ is. and_then (language_sound (tail ts)) λ a ea.
-    and_then (closed_all symbol.Dot (one_number a)) λ major e1.
-    and_then (closed_all symbol.Dot (one_number major.1)) λ minor e2.
-    and_then (closed_all symbol.Semicolon (one_number minor.1)) λ patch e3.
+    and_then (closed_sound symbol.Dot (number_sound a)) λ major e1.
+    and_then (closed_sound symbol.Dot (number_sound major.1)) λ minor e2.
+    and_then (closed_sound symbol.Semicolon (number_sound minor.1)) λ patch e3.
     taken (rw (e3, e2, e1, ea) is) tt (omega arith))
-    (λ _. word_all word.Include ts
-    (λ is. and_then (closed_all symbol.Semicolon (string_all (tail ts))) λ name e.
+    (if_word word.Include ts
+    (λ is. and_then (closed_sound symbol.Semicolon (words_sound (tail ts))) λ name e.
     taken (rw e is) tt (omega arith))
-    (λ _. word_all word.Template ts
-    (λ is. word_all word.Parallel (tail ts)
+    (if_word word.Template ts
+    (λ is. if_word word.Parallel (tail ts)
     (λ parallel. and_then (definition_sound mark room (tail (tail ts))) λ d h.
     taken (rw (h.prints, parallel) is) h.shaped (omega (arith, h.low)))
-    (λ _. and_then (definition_sound mark room (tail ts)) λ d h.
+    (and_then (definition_sound mark room (tail ts)) λ d h.
     taken (rw h.prints is) h.shaped (omega (arith, h.low))))
-    (λ _. word_all word.Function ts
+    (if_word word.Function ts
     (λ is. and_then (definition_sound mark room (tail ts)) λ d h.
     taken (rw h.prints is) h.shaped (omega (arith, h.low)))
-    (λ _. and_then (word_sound word.Component ts) λ a ea.
+    (and_then (word_sound word.Component ts) λ a ea.
     and_then (word_sound word.Main a) λ b eb. and_then (public_sound b) λ names en.
-    and_then (after_all symbol.Equal names.1 one_name) λ name eq.
+    and_then (after_sound one_name symbol.Equal names.1) λ name eq.
     and_then (symbol_sound symbol.OpenParenthesis name.1) λ c ec.
-    and_then (closed_all symbol.Semicolon (arguments_all (room + 1) c)) λ es h.
-    taken (simp (append_assoc, h.prints, ec, eq.2.prints, eq.1, en, eb) ea) h.fits
-    (omega (arith, h.low))))))
+    and_then (closed_sound symbol.Semicolon (arguments_sound (room + 1) c)) λ es h.
+    taken (simp (append_assoc, h.prints, ec, eq.prints, en, eb) ea) h.fine.0
+    (omega (arith, h.fine.1))))))
 
 -- names are read from what they print
 names_each : (names : List (List ℕ)) → Each (Undoes name_tokens name_at) names
@@ -166,7 +148,7 @@ definition_undo : {R S : Type 0} (mark : Tokens → S) (name : List ℕ) (ps : L
 unfolding definition parameters
 definition_undo mark name ps ss room rest shaped low =
     simp append_assoc (rw (
-      optional_undo name_tokens name_at ps _ (names_each ps) (λ name after. refl),
+      any_number_undo name_tokens name_at ps _ (names_each ps) (λ name after. refl),
       statements_undo mark ss room _ [] rest shaped low (enough ss rest),
       statements_same (all_marked mark ss (token.Symbol symbol.CloseBrace ∷ rest)),
     ) refl)

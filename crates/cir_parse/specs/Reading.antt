@@ -14,11 +14,11 @@ use Rattle.cir_ast.specs.Tree.{Include, Template, Function, Main}
 use Rattle.cir_ast.specs.Plain.{PlainExpr as Expr, PlainAssign as Assign, PlainFirst as First}
 use Rattle.cir_ast.specs.Plain.{PlainLogArgument as LogArgument, PlainStatement as Statement}
 use Rattle.cir_ast.specs.Plain.{PlainStatements as Statements, PlainItem as Item}
-use Rattle.cir_expression.specs.Front.{Tokens, next, otherwise, tail, begins, begins_word, behind}
-use Rattle.cir_expression.specs.Front.{behind_word, name_at}
+use Rattle.cir_expression.specs.Front.{Tokens, tail, begins, begins_word, behind, behind_word}
+use Rattle.cir_expression.specs.Front.{name_at, words_at, number_at}
+use Rattle.cir_expression.specs.Combinators.{next, otherwise, after, closed, made, enclosed}
+use Rattle.cir_expression.specs.Combinators.{separated, any_number}
 use Rattle.cir_expression.specs.Reading.{expression, arguments}
-use Rattle.cir_simple_statement.specs.Front.{after, closed, made, enclosed, separated, optional}
-use Rattle.cir_simple_statement.specs.Front.{words_at, number_at}
 use Rattle.cir_simple_statement.specs.Reading.{variable, assign, simple}
 
 -- a string is a node
@@ -60,7 +60,7 @@ asserted spot room ts = made (Assert spot) (closed symbol.Semicolon (condition r
 
 abbrev pub logged : {S : Type 0} → S → ℕ → Tokens → Option (Statement S × Tokens)
 logged spot room ts =
-    made (Log spot) (closed symbol.Semicolon (enclosed (optional (argument room)) ts))
+    made (Log spot) (closed symbol.Semicolon (enclosed (any_number (argument room)) ts))
 
 -- a simple statement and its `;`
 abbrev pub simply : {S : Type 0} → S → ℕ → Tokens → Option (Statement S × Tokens)
@@ -129,7 +129,7 @@ abbrev pub block : {S : Type 0} → (Tokens → S) → ℕ → Tokens → Option
 block mark room ts = after symbol.OpenBrace (rest_by (statement mark room)) ts
 
 unfoldable pub parameters : Tokens → Option (List (List ℕ) × Tokens)
-parameters ts = enclosed (optional name_at) ts
+parameters ts = enclosed (any_number name_at) ts
 
 -- the word `circom`
 abbrev pub language_at : Tokens → Option Tokens

@@ -1,7 +1,8 @@
 //! Items, as functions that read on.
 ghost use Rattle.std.specs.Prelude.{◌<◌, ◌^◌, ◌+◌};
 ghost use Rattle.cir_expression.specs.Answers.{kinds, Reads, Takes, Passes};
-ghost use Rattle.cir_simple_statement.specs.Front.{closed, number_at};
+ghost use Rattle.cir_expression.specs.Combinators.{closed};
+ghost use Rattle.cir_expression.specs.Front.{number_at};
 ghost use Rattle.cir_parse.specs.Answers.{seen_definition, seen_item};
 ghost use Rattle.cir_parse.specs.Reading.{parameters, language_at, pragma, definition, template};
 ghost use Rattle.cir_parse.specs.Reading.{public_names, main, item};

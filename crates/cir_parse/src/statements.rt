@@ -5,8 +5,9 @@ ghost use Rattle.cir_expression.specs.Answers.{kinds, Reads, seen};
 ghost use Rattle.cir_token.specs.declared.token.Symbol.TheVariants.{Semicolon, OpenParenthesis};
 ghost use Rattle.cir_token.specs.declared.token.Symbol.TheVariants.{CloseParenthesis};
 ghost use Rattle.cir_expression.specs.Reading.{expression};
-ghost use Rattle.cir_simple_statement.specs.Front.{after, closed, made, separated, optional};
-ghost use Rattle.cir_simple_statement.specs.Front.{enclosed, words_at};
+ghost use Rattle.cir_expression.specs.Combinators.{after, closed, made, separated, any_number};
+ghost use Rattle.cir_expression.specs.Combinators.{enclosed};
+ghost use Rattle.cir_expression.specs.Front.{words_at};
 ghost use Rattle.cir_simple_statement.specs.Reading.{assign};
 ghost use Rattle.cir_parse.specs.Reading.{first, condition, marked_by, head, argument, returned};
 ghost use Rattle.cir_parse.specs.Reading.{asserted, logged, simply, plain, statement, if_by};
@@ -221,7 +222,7 @@ fn arguments<N: Blank + Drop>(
 ) -> Result<Vec<LogArgument<N>>, Stop>
     requires { room < 2 ^ 16 }
     ensures { Reads (λ v. map seen_argument v.items) result (kinds reader.new.rest.now)
-        (enclosed (optional (argument room)) (kinds reader.old.rest.now)) }
+        (enclosed (any_number (argument room)) (kinds reader.old.rest.now)) }
 {
     reader.behind(Symbol::OpenParenthesis)?;
     if reader.begins(Symbol::CloseParenthesis) {

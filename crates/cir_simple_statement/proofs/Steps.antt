@@ -10,8 +10,8 @@ use Rattle.std.proofs.lemmas.List.{length-map}
 use Rattle.cir_expression.specs.declared.reader.Stop.{Stop}
 use Rattle.cir_expression.specs.declared.reader.Stop.TheVariants.{NoTree, OutOfMemory}
 use Rattle.cir_expression.specs.Answers.{Stops, Reads, kinds}
-use Rattle.cir_expression.specs.Front.{Tokens, next, tail, begins}
-use Rattle.cir_simple_statement.specs.Front.{parted_by, separated_by, separated}
+use Rattle.cir_expression.specs.Front.{Tokens, tail, begins}
+use Rattle.cir_expression.specs.Combinators.{next, parted_by, separated_by, separated}
 use Rattle.cir_simple_statement.specs.Reading.{each_of}
 
 -- a refusal that is handed on

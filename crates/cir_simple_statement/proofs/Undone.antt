@@ -36,21 +36,22 @@ use Rattle.cir_ast.specs.Height.{height_of, exprs_height, highest, value_height,
 use Rattle.cir_ast.specs.Height.{signal_value_height, signal_height, component_height, place_height}
 use Rattle.cir_ast.specs.Height.{assign_height, slot_height, target_height, source_height}
 use Rattle.cir_ast.specs.Height.{simple_height}
-use Rattle.cir_expression.specs.Front.{Tokens, next, begins, tail, begins_word}
+use Rattle.cir_expression.specs.Front.{Tokens, begins, tail, begins_word}
+use Rattle.cir_expression.specs.Combinators.{next, made, parted_by, separated}
 use Rattle.cir_expression.specs.Reading.{expression, goes_on, arrow_at, starts, group, Grouped}
 use Rattle.cir_expression.specs.Reading.{Whole, Tuple}
-use Rattle.cir_expression.specs.Groups.{element_tokens, FitsElement}
-use Rattle.cir_expression.proofs.Undo.{expression_undo, place_undo}
-use Rattle.cir_expression.proofs.Front.{begins_word_is, expression_starts}
-use Rattle.cir_expression.proofs.Groups.{no_underscore, tuple_undo, whole_undo}
-use Rattle.cir_simple_statement.specs.Front.{made, parted_by, separated}
 use Rattle.cir_simple_statement.specs.Reading.{dimension, dimensions, value, variable, signal_value}
 use Rattle.cir_simple_statement.specs.Reading.{signal, direction_at, component, signals, components}
 use Rattle.cir_simple_statement.specs.Reading.{right_arrow_at, assignment, assign, slot, target}
 use Rattle.cir_simple_statement.specs.Reading.{values_of, slot_of, sourced, source, rightwards}
 use Rattle.cir_simple_statement.specs.Reading.{equation, tupled, simple, each_of}
-use Rattle.cir_simple_statement.proofs.Parts.{Ends, Undoes, ends_semicolon, separated_undo}
-use Rattle.cir_simple_statement.proofs.Parts.{ends_parenthesis, several_undo, each_of as each_fits}
+use Rattle.cir_expression.proofs.Undo.{expression_undo, place_undo}
+use Rattle.cir_expression.proofs.Front.{expression_starts}
+use Rattle.cir_expression.proofs.Groups.{element_tokens, FitsElement, no_underscore, tuple_undo}
+use Rattle.cir_expression.proofs.Groups.{whole_undo}
+use Rattle.cir_expression.proofs.Combinators.{begins_word_is, Ends, Undoes, ends_semicolon}
+use Rattle.cir_expression.proofs.Combinators.{ends_parenthesis, separated_undo, several_undo}
+use Rattle.cir_expression.proofs.Combinators.{each_of as each_fits}
 
 pub arrow_is : (a : Arrow) (ts : Tokens) → arrow_at (token.Symbol (left_symbol a) ∷ ts) ≡ Some a
 arrow_is arrow.Assign ts = refl

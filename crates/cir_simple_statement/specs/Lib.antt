@@ -1,3 +1,2 @@
-pub mod Front
 pub mod Reading
 pub mod Answers

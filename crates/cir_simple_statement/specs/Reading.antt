@@ -1,7 +1,6 @@
 -- How declarations and assignments are read, as functions of their tokens. The number `room` is the
 -- height that an expression inside may have.
 use Rattle.std.specs.Prelude.{ℕ, if◌then◌else◌, List, [], ◌∷◌, length, Option, Some, None}
-use Rattle.cir_token.specs.declared.token.TokenKind.TheVariants as token
 use Rattle.cir_token.specs.declared.token.Reserved.TheVariants as word
 use Rattle.cir_token.specs.declared.token.Symbol.{Symbol}
 use Rattle.cir_token.specs.declared.token.Symbol.TheVariants as symbol
@@ -20,11 +19,12 @@ use Rattle.cir_ast.specs.Plain.{PlainVariable as Variable, PlainSignalValue as S
 use Rattle.cir_ast.specs.Plain.{PlainSignal as Signal, PlainComponent as Component}
 use Rattle.cir_ast.specs.Plain.{PlainAssign as Assign, PlainSlot as Slot, PlainTarget as Target}
 use Rattle.cir_ast.specs.Plain.{PlainSource as Source, PlainSimple as Simple}
-use Rattle.cir_expression.specs.Front.{Tokens, next, otherwise, tail, begins, begins_underscore}
-use Rattle.cir_expression.specs.Front.{begins_word, name_at}
+use Rattle.cir_expression.specs.Front.{Tokens, tail, begins, begins_underscore, begins_word}
+use Rattle.cir_expression.specs.Front.{name_at, symbol_at}
+use Rattle.cir_expression.specs.Combinators.{next, otherwise, closed, made, enclosed, parted_by}
+use Rattle.cir_expression.specs.Combinators.{separated, several}
 use Rattle.cir_expression.specs.Reading.{expression, place, arguments, arrow_at, group, Grouped}
 use Rattle.cir_expression.specs.Reading.{Whole, Tuple}
-use Rattle.cir_simple_statement.specs.Front.{closed, made, enclosed, parted_by, separated, several}
 
 -- an expression, and `]` behind it
 abbrev pub dimension : ℕ → Tokens → Option (Expr × Tokens)
@@ -99,11 +99,6 @@ compound_of symbol.AmpersandEqual = Some compound.And
 compound_of symbol.BarEqual = Some compound.Or
 compound_of symbol.CaretEqual = Some compound.Xor
 compound_of _ = None
-
--- what the symbol at the front means
-abbrev pub symbol_at : {A : Type 0} → (Symbol → Option A) → Tokens → Option A
-symbol_at meaning (token.Symbol s ∷ ts) = meaning s
-symbol_at meaning _ = None
 
 abbrev pub compound_at : Tokens → Option CompoundOp
 compound_at = symbol_at compound_of

@@ -4,13 +4,13 @@ ghost use Rattle.cir_ast.specs.Tree.{bare_signal, bare_component};
 ghost use Rattle.cir_ast.specs.Plain.{PlainExpr, PlainVariable, PlainSignal, PlainComponent};
 ghost use Rattle.cir_ast.specs.Plain.{plain_signal, plain_component};
 ghost use Rattle.cir_expression.specs.Front.{name_at};
-ghost use Rattle.cir_expression.specs.Answers.{kinds, Reads, seen};
-ghost use Rattle.cir_simple_statement.specs.Answers.{seen_value, seen_variable, seen_signal_value};
-ghost use Rattle.cir_simple_statement.specs.Answers.{seen_simple};
-ghost use Rattle.cir_simple_statement.specs.Front.{separated};
+ghost use Rattle.cir_expression.specs.Combinators.{separated};
 ghost use Rattle.cir_simple_statement.specs.Reading.{dimension, dimensions, value, variable};
 ghost use Rattle.cir_simple_statement.specs.Reading.{signal_value, signal, direction_at, component};
 ghost use Rattle.cir_simple_statement.specs.Reading.{signals, components};
+ghost use Rattle.cir_expression.specs.Answers.{kinds, Reads, seen};
+ghost use Rattle.cir_simple_statement.specs.Answers.{seen_value, seen_variable, seen_signal_value};
+ghost use Rattle.cir_simple_statement.specs.Answers.{seen_simple};
 
 use crate::lists::{Element, Read, separated, separated_behind};
 use cir_ast::marked::{

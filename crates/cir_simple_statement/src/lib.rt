@@ -1,4 +1,4 @@
-//! Declarations and assignments: the statements of the grammar that a semicolon ends.
+//! Declarations and assignments: the simple statements of the grammar.
 #![tactic(auto)]
 
 mod assignments;

@@ -1,8 +1,8 @@
 //! Lists with commas between their elements, as functions that read on.
 ghost use Rattle.std.specs.Prelude.{◌<◌, ◌^◌, ℕ, List, Option, map, length};
 ghost use Rattle.cir_expression.specs.Front.{Tokens, name_at};
+ghost use Rattle.cir_expression.specs.Combinators.{parted_by, separated};
 ghost use Rattle.cir_expression.specs.Answers.{kinds, Reads};
-ghost use Rattle.cir_simple_statement.specs.Front.{parted_by, separated};
 
 use cir_ast::Text;
 use cir_expression::{Reader, Stop};
@@ -65,7 +65,7 @@ pub fn separated_behind<E: Element>(
 }
 
 /// One element or more, with commas between them.
-#[tactic(auto, unfolding(crate::specs::Front::separated))]
+#[tactic(auto, unfolding(cir_expression::specs::Combinators::separated))]
 pub fn separated<E: Element>(alloc: Global, reader: &mut Reader, room: u32) -> Read<Vec<E>>
     requires { room < 2 ^ 16 }
     ensures { Reads (λ v. map E.seen v.items) result (kinds reader.new.rest.now)

@@ -2,11 +2,11 @@
 ghost use Rattle.std.specs.Prelude.{◌≡◌, ◌<◌, ◌^◌, Option, option_map, map};
 ghost use Rattle.cir_ast.specs.Tree.{Expr as BareExpr, Slot as BareSlot, bare, bare_slot};
 ghost use Rattle.cir_ast.specs.Plain.{PlainExpr, PlainSlot, plain, plain_slot};
-ghost use Rattle.cir_expression.specs.Front.{next};
+ghost use Rattle.cir_expression.specs.Combinators.{next};
 ghost use Rattle.cir_expression.specs.Reading.{group};
-ghost use Rattle.cir_expression.specs.Answers.{kinds, Reads, seen_element};
 ghost use Rattle.cir_simple_statement.specs.Reading.{right_arrow_at, slot, target, each_of};
 ghost use Rattle.cir_simple_statement.specs.Reading.{slot_of, source, tupled, behind_group};
+ghost use Rattle.cir_expression.specs.Answers.{kinds, Reads, seen_element};
 ghost use Rattle.cir_simple_statement.specs.Answers.{seen_target, seen_source, seen_simple, Are};
 
 use crate::assignments::equation;

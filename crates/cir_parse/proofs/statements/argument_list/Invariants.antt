@@ -3,7 +3,7 @@ use Rattle.std.specs.Prelude.{map}
 use Rattle.cir_parse.specs.Answers.{seen_argument}
 use Rattle.cir_parse.specs.Reading.{argument}
 use Rattle.cir_expression.specs.Answers.{kinds}
-use Rattle.cir_simple_statement.specs.Front.{separated, separated_by}
+use Rattle.cir_expression.specs.Combinators.{separated, separated_by}
 use Rattle.cir_parse.proofs.statements.argument_list.Given as goal
 
 abbrev pub invariant-loop : goal.invariant-loop

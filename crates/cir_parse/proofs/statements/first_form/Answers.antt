@@ -1,7 +1,7 @@
 use Rattle.std.proofs.Common.{refl, sym, ap, ◌∙◌}
 use Rattle.cir_ast.specs.Tree.{bare_variable}
 use Rattle.cir_ast.specs.Plain.{plain_variable}
-use Rattle.cir_simple_statement.specs.Front.{separated}
+use Rattle.cir_expression.specs.Combinators.{separated}
 use Rattle.cir_simple_statement.specs.Reading.{variable}
 use Rattle.cir_parse.specs.Reading.{first}
 use Rattle.cir_simple_statement.proofs.Seen.{seen_map}

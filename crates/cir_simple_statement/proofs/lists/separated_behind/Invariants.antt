@@ -1,6 +1,6 @@
 use Rattle.std.proofs.Common.{◌≡◌, ◌-◌, length, map}
 use Rattle.cir_expression.specs.Answers.{kinds}
-use Rattle.cir_simple_statement.specs.Front.{parted_by}
+use Rattle.cir_expression.specs.Combinators.{parted_by}
 use Rattle.cir_simple_statement.proofs.lists.separated_behind.Given as goal
 
 abbrev pub invariant-loop : goal.invariant-loop

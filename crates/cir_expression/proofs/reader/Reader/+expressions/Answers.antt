@@ -240,3 +240,10 @@ named_inputs-loop-preserved g t c = record {
 pub named_inputs-returns-clause-read : goal.named_inputs-returns-clause-read
 named_inputs-returns-clause-read g t c = no_item_left _ _ _ _ _ _ c.loop.invariant.read
     (omega arith)
+
+pub list-returns-clause-read : goal.list-returns-clause-read
+list-returns-clause-read g t c = no_item_left _ _ _ _ _ _ c.loop.invariant.read (omega arith)
+
+pub named-returns-then-begins-clause-read : goal.named-returns-then-begins-clause-read
+named-returns-then-begins-clause-read g t c =
+    rw (sym c.begins.ensures ∙ c.if-begins.true, ← c.skip.ensures) c.call.ensures.read

@@ -1,8 +1,8 @@
 use Rattle.std.proofs.Common.{◌≡◌, ◌≤◌, ◌+◌, ◌-◌, ◌*◌, suc, [], length, map}
 use Rattle.cir_token.specs.declared.token.Symbol.TheVariants.{CloseParenthesis}
 use Rattle.cir_ast.specs.Height.{height_of, highest}
-use Rattle.cir_expression.specs.Reading.{climb, chain, listed_to, named_input, named_inputs_by}
-use Rattle.cir_expression.specs.Reading.{accessors_by}
+use Rattle.cir_expression.specs.Reading.{climb, chain, named_input, named_inputs_by, accessors_by}
+use Rattle.cir_expression.specs.Combinators.{listed_to}
 use Rattle.cir_expression.specs.Answers.{kinds, seen, seen_input}
 use Rattle.cir_expression.proofs.Lists.{Onward, PathOnward, height_seen, accessor_height}
 use Rattle.cir_expression.proofs.Lists.{input_height}

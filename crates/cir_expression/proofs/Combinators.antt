@@ -1,23 +1,29 @@
--- What readings that are made of others read, and that they undo printing.
+-- What holds of what is read by readings that are made of others, and that they undo printing.
 use Rattle.std.proofs.Common.{◌≡◌, ◌≢◌, ℕ, zero, suc, ◌≤◌, max, List, [], ◌∷◌, ◌++◌, length}
-use Rattle.std.proofs.Common.{Option, Some, None, false, refl, ap, ◌∙◌, sym, subst, arith}
-use Rattle.std.proofs.Common.{append_assoc, append-nil, length-append}
+use Rattle.std.proofs.Common.{Option, Some, None, Bool, true, false, refl, ap, ◌∙◌, sym, subst}
+use Rattle.std.proofs.Common.{arith, append_assoc, append-nil, length-append}
 use Rattle.std.specs.Prelude.{if◌then◌else◌}
+use denote.Enum.Bare.{same_true}
 use Rattle.cir_token.specs.declared.token.TokenKind.{TokenKind}
 use Rattle.cir_token.specs.declared.token.TokenKind.TheVariants as token
 use Rattle.cir_token.specs.declared.token.Reserved.{Reserved}
+use Rattle.cir_token.specs.contracts.token.Reserved.{the_type as reserved_type}
 use Rattle.cir_token.specs.declared.token.Symbol.{Symbol}
 use Rattle.cir_token.specs.declared.token.Symbol.TheVariants as symbol
-use Rattle.cir_ast.specs.Print.{further_tokens, list_tokens, enclosed as print_enclosed}
+use Rattle.cir_token.specs.contracts.token.Symbol.{the_type as symbol_type}
+use Rattle.cir_ast.specs.Print.{further_tokens, list_tokens}
 use Rattle.cir_ast.specs.Shape.{Each}
 use Rattle.cir_ast.specs.Height.{highest}
-use Rattle.cir_expression.specs.Front.{Tokens, next, otherwise, tail, begins, begins_word}
+use Rattle.cir_expression.specs.Front.{Tokens, tail, begins, begins_word, begins_underscore, behind}
+use Rattle.cir_expression.specs.Front.{behind_word, name_at, words_at, number_at, symbol_at}
+use Rattle.cir_expression.specs.Combinators.{next, otherwise, after, closed, enclosed, separated_by}
+use Rattle.cir_expression.specs.Combinators.{separated, listed_to, several, any_number}
 use Rattle.cir_expression.specs.Reading.{goes_on, arrow_at}
-use Rattle.cir_expression.proofs.Front.{AllOf, all_map, if_all, begins_is, begins_word_is}
-use Rattle.cir_expression.proofs.Front.{behind_all}
-use Rattle.cir_simple_statement.specs.Front.{closed, enclosed, separated_by, separated}
-use Rattle.cir_simple_statement.specs.Front.{several, optional, words_at, number_at}
-use Rattle.cir_simple_statement.specs.Reading.{symbol_at}
+
+-- this holds of what is read, if anything is: as data, so that a proof shows what it speaks of
+pub data Sound {A : Type 0} (P : A → Type 0) : Option A → Type 0 where
+  nothing : Sound P None
+  gives : {x : A} → P x → Sound P (Some x)
 
 -- what was read prints the tokens that were taken, and is fine
 pub record Of {A : Type 0} (print : A → Tokens) (Fine : A → Type 0) (ts : Tokens)
@@ -25,99 +31,160 @@ pub record Of {A : Type 0} (print : A → Tokens) (Fine : A → Type 0) (ts : To
   pub prints : print r.0 ++ r.1 ≡ ts
   pub fine : Fine r.0
 
--- this holds of what is read, if anything is: as a record, so that a proof shows what it speaks of
-pub record Sound {A : Type 0} (P : A → Type 0) (o : Option A) : Type 0 where
-  pub all : AllOf P o
-
-pub gives : {A : Type 0} {P : A → Type 0} {x : A} → P x → Sound P (Some x)
-gives h = record { all = h }
-
 pub reads : {A : Type 0} {print : A → Tokens} {Fine : A → Type 0} {ts rest : Tokens} {x : A}
     → print x ++ rest ≡ ts → Fine x → Sound (Of print Fine ts) (Some (x, rest))
-reads prints fine = record { all = record { prints = prints; fine = fine } }
+reads prints fine = gives (record { prints = prints; fine = fine })
+
+pub at : {A : Type 0} {P : A → Type 0} {o : Option A} {x : A} → Sound P o → o ≡ Some x → P x
+at nothing e = absurd (cc e)
+at {P = P} {x = x} (gives {x = y} p) e = let same : y ≡ x = cc e in subst P same p
 
 pub sound_map : {A : Type 0} {P Q : A → Type 0} {o : Option A} → Sound P o
     → ((x : A) → P x → Q x) → Sound Q o
-sound_map {o = None} h k = record { all = tt }
-sound_map {o = Some x} h k = gives (k x h.all)
+sound_map nothing go = nothing
+sound_map (gives {x = x} p) go = gives (go x p)
 
 -- in order
 pub and_then : {A B : Type 0} {P : A → Type 0} {Q : B → Type 0} {o : Option A} {go : A → Option B}
     → Sound P o → ((x : A) → P x → Sound Q (go x)) → Sound Q (next o go)
-and_then {o = None} h k = record { all = tt }
-and_then {o = Some x} h k = k x h.all
+and_then nothing go = nothing
+and_then (gives {x = x} p) go = go x p
 
 -- this if it can be read, or that
 pub or_else : {A B : Type 0} {P : A → Type 0} {Q : B → Type 0} {o : Option A} {end : Option B}
     {go : A → Option B}
     → Sound P o → Sound Q end → ((x : A) → P x → Sound Q (go x)) → Sound Q (otherwise o end go)
-or_else {o = None} h end k = end
-or_else {o = Some x} h end k = k x h.all
+or_else nothing end go = end
+or_else (gives {x = x} p) end go = go x p
+
+-- the same, where the proof needs to know which
+pub or_else_is : {A B : Type 0} {Q : B → Type 0} {end : Option B} {go : A → Option B} (o : Option A)
+    → (o ≡ None → Sound Q end) → ((x : A) → o ≡ Some x → Sound Q (go x))
+    → Sound Q (otherwise o end go)
+or_else_is None end go = end refl
+or_else_is (Some x) end go = go x refl
+
+pub if_test : {B : Type 0} {Q : B → Type 0} {x y : Option B} (b : Bool) → (b ≡ true → Sound Q x)
+    → (b ≡ false → Sound Q y) → Sound Q (if b then x else y)
+if_test true there other = there refl
+if_test false there other = other refl
 
 -- by what stands at the front
+pub begins_is : (s : Symbol) (ts : Tokens) → begins s ts ≡ true → ts ≡ token.Symbol s ∷ tail ts
+begins_is s (token.Symbol t ∷ ts) h =
+    ap (λ (s : Symbol). token.Symbol s ∷ ts) (same_true symbol_type tt t s h)
+begins_is s _ h = absurd (cc h)
+
+pub begins_word_is : (w : Reserved) (ts : Tokens) → begins_word w ts ≡ true
+    → ts ≡ token.Reserved w ∷ tail ts
+begins_word_is w (token.Reserved t ∷ ts) h =
+    ap (λ (w : Reserved). token.Reserved w ∷ ts) (same_true reserved_type tt t w h)
+begins_word_is w _ h = absurd (cc h)
+
+underscore_is : (ts : Tokens) → begins_underscore ts ≡ true → ts ≡ token.Underscore ∷ tail ts
+underscore_is (token.Underscore ∷ ts) h = refl
+underscore_is _ h = absurd (cc h)
+
 pub if_symbol : {B : Type 0} {Q : B → Type 0} {x y : Option B} (s : Symbol) (ts : Tokens)
-    → (ts ≡ token.Symbol s ∷ tail ts → Sound Q x) → Sound Q y
+    → (token.Symbol s ∷ tail ts ≡ ts → Sound Q x) → Sound Q y
     → Sound Q (if begins s ts then x else y)
-if_symbol s ts h k = record {
-  all = if_all _ (begins s ts) _ _ (λ e. (h (begins_is s ts e)).all) (λ e. k.all);
-}
+if_symbol s ts there other =
+    if_test (begins s ts) (λ e. there (sym (begins_is s ts e))) (λ e. other)
 
 pub if_word : {B : Type 0} {Q : B → Type 0} {x y : Option B} (w : Reserved) (ts : Tokens)
-    → (ts ≡ token.Reserved w ∷ tail ts → Sound Q x) → Sound Q y
+    → (token.Reserved w ∷ tail ts ≡ ts → Sound Q x) → Sound Q y
     → Sound Q (if begins_word w ts then x else y)
-if_word w ts h k = record {
-  all = if_all _ (begins_word w ts) _ _ (λ e. (h (begins_word_is w ts e)).all) (λ e. k.all);
-}
+if_word w ts there other =
+    if_test (begins_word w ts) (λ e. there (sym (begins_word_is w ts e))) (λ e. other)
+
+pub if_underscore : {B : Type 0} {Q : B → Type 0} {x y : Option B} (ts : Tokens)
+    → (token.Underscore ∷ tail ts ≡ ts → Sound Q x) → Sound Q y
+    → Sound Q (if begins_underscore ts then x else y)
+if_underscore ts there other =
+    if_test (begins_underscore ts) (λ e. there (sym (underscore_is ts e))) (λ e. other)
+
+pub symbol_sound : (s : Symbol) (ts : Tokens)
+    → Sound (λ rest. token.Symbol s ∷ rest ≡ ts) (behind s ts)
+symbol_sound s ts = if_symbol s ts gives nothing
+
+pub word_sound : (w : Reserved) (ts : Tokens)
+    → Sound (λ rest. token.Reserved w ∷ rest ≡ ts) (behind_word w ts)
+word_sound w ts = if_word w ts gives nothing
+
+pub name_sound : (ts : Tokens) → Sound (λ r. token.Name r.0 ∷ r.1 ≡ ts) (name_at ts)
+name_sound (token.Name name ∷ ts) = gives refl
+name_sound _ = nothing
+
+pub words_sound : (ts : Tokens) → Sound (λ r. token.Str r.0 ∷ r.1 ≡ ts) (words_at ts)
+words_sound (token.Str words ∷ ts) = gives refl
+words_sound _ = nothing
+
+pub number_sound : (ts : Tokens) → Sound (λ r. token.Number r.0 ∷ r.1 ≡ ts) (number_at ts)
+number_sound (token.Number n ∷ ts) = gives refl
+number_sound _ = nothing
 
 -- what a symbol means, if it means one thing alone
-pub symbol_sound : {A : Type 0} (of : A → Symbol) (meaning : Symbol → Option A)
-    → ((s : Symbol) → AllOf (λ a. s ≡ of a) (meaning s)) → (ts : Tokens)
-    → Sound (λ a. ts ≡ token.Symbol (of a) ∷ tail ts) (symbol_at meaning ts)
-symbol_sound of meaning h [] = record { all = tt }
-symbol_sound of meaning h (token.Symbol s ∷ ts) = record {
-  all = all_map (λ a. s ≡ of a) _ (meaning s) (λ a e. ap (λ s. token.Symbol s ∷ ts) e) (h s);
-}
-symbol_sound of meaning h (_ ∷ ts) = record { all = tt }
+abbrev pub IsMeant : {A : Type 0} → (A → Symbol) → Symbol → Option A → Type 0
+IsMeant of s None = Unit {0}
+IsMeant of s (Some a) = s ≡ of a
+
+pub meaning_sound : {A : Type 0} (of : A → Symbol) (meaning : Symbol → Option A)
+    → ((s : Symbol) → IsMeant of s (meaning s)) → (ts : Tokens)
+    → Sound (λ a. token.Symbol (of a) ∷ tail ts ≡ ts) (symbol_at meaning ts)
+meaning_sound of meaning h (token.Symbol s ∷ ts) = from (meaning s) (h s)
+  where
+    from : (o : Option _) → IsMeant of s o
+        → Sound (λ a. token.Symbol (of a) ∷ ts ≡ token.Symbol s ∷ ts) o
+    from None e = nothing
+    from (Some a) e = gives (ap (λ (s : Symbol). token.Symbol s ∷ ts) (sym e))
+meaning_sound of meaning h _ = nothing
 
 -- with a symbol behind it
 pub closed_sound : {A : Type 0} {P : A × Tokens → Type 0} {o : Option (A × Tokens)} (s : Symbol)
     → Sound P o → Sound (λ r. P (r.0, token.Symbol s ∷ r.1)) (closed s o)
 closed_sound {P = P} s h =
-    and_then h (λ x first. and_then (record { all = behind_all s x.1 }) (λ rest is.
-    gives (subst (λ ts. P (x.0, ts)) is first)))
+    and_then h (λ x first. and_then (symbol_sound s x.1) (λ rest is.
+    gives (subst (λ (ts : Tokens). P (x.0, ts)) (sym is) first)))
 
 -- a list was read behind what was read before
-pub record Behind {A : Type 0} (print : List A → Tokens) (Fine : List A → Type 0)
+pub record Extends {A : Type 0} (print : List A → Tokens) (Fine : List A → Type 0)
     (before : List A) (ts : Tokens) (r : List A × Tokens) : Type 0 where
   pub found : List A
   pub behind : r.0 ≡ before ++ found
   pub read : Of print Fine ts (found, r.1)
 
+-- one element
+pub one_behind : {A : Type 0} {print : List A → Tokens} {Fine : List A → Type 0} {before : List A}
+    {ts rest : Tokens} (x : A) → print (x ∷ []) ++ rest ≡ ts → Fine (x ∷ [])
+    → Sound (Extends print Fine before ts) (Some (before ++ x ∷ [], rest))
+one_behind x prints fine = gives (record {
+  found = x ∷ [];
+  behind = refl;
+  read = record { prints = prints; fine = fine };
+})
+
 -- one element, and what was read behind it
 pub more_behind : {A : Type 0} {print : List A → Tokens} {Fine : List A → Type 0}
     {before : List A} {ts inner : Tokens} {x : A} {o : Option (List A × Tokens)}
-    → Sound (Behind print Fine (before ++ x ∷ []) inner) o
+    → Sound (Extends print Fine (before ++ x ∷ []) inner) o
     → ((xs : List A) (rest : Tokens) → Of print Fine inner (xs, rest)
     → Of print Fine ts (x ∷ xs, rest))
-    → Sound (Behind print Fine before ts) o
-more_behind {o = None} h k = record { all = tt }
-more_behind {before = before} {x = x} {o = Some r} h k = gives (record {
-  found = x ∷ h.all.found;
-  behind = h.all.behind ∙ append_assoc before (x ∷ []) h.all.found;
-  read = k h.all.found r.1 h.all.read;
+    → Sound (Extends print Fine before ts) o
+more_behind {before = before} {x = x} h k = sound_map h (λ r e. record {
+  found = x ∷ e.found;
+  behind = e.behind ∙ append_assoc before (x ∷ []) e.found;
+  read = k e.found r.1 e.read;
 })
 
 -- what was read before, and the list behind it
 pub whole_list : {A : Type 0} {print : List A → Tokens} {Fine Good : List A → Type 0}
     {before : List A} {ts inner : Tokens} {o : Option (List A × Tokens)}
-    → Sound (Behind print Fine before inner) o
+    → Sound (Extends print Fine before inner) o
     → ((xs : List A) (rest : Tokens) → Of print Fine inner (xs, rest)
     → Of print Good ts (before ++ xs, rest))
     → Sound (Of print Good ts) o
-whole_list {o = None} h k = record { all = tt }
-whole_list {print = print} {Good = Good} {ts = ts} {o = Some r} h k =
-    gives (subst (λ xs. Of print Good ts (xs, r.1)) (sym h.all.behind)
-    (k h.all.found r.1 h.all.read))
+whole_list {A = A} {print = print} {Good = Good} {ts = ts} h k = sound_map h (λ r e.
+    subst (λ (xs : List A). Of print Good ts (xs, r.1)) (sym e.behind) (k e.found r.1 e.read))
 
 further_is : {A : Type 0} (print : A → Tokens) (xs : List A) → xs ≢ []
     → further_tokens print xs ≡ token.Symbol symbol.Comma ∷ list_tokens print xs
@@ -125,8 +192,12 @@ further_is print [] h = absurd (h refl)
 further_is print (x ∷ xs) h = refl
 
 -- one or more
-abbrev AreSome : {A : Type 0} → (A → Type 0) → List A → Type 0
+abbrev pub AreSome : {A : Type 0} → (A → Type 0) → List A → Type 0
 AreSome Fine xs = (xs ≢ []) × Each Fine xs
+
+-- two or more
+abbrev pub AreSeveral : {A : Type 0} → (A → Type 0) → List A → Type 0
+AreSeveral Fine xs = (2 ≤ length xs) × Each Fine xs
 
 two_or_more : {A : Type 0} (x : A) (xs : List A) → xs ≢ [] → 2 ≤ length (x ∷ xs)
 two_or_more x [] some = absurd (some refl)
@@ -136,65 +207,62 @@ two_or_more x (y ∷ xs) some = omega arith
 module _ {A : Type 0} {print : A → Tokens} {Fine : A → Type 0}
     {read : Tokens → Option (A × Tokens)}
     (each : (ts : Tokens) → Sound (Of print Fine ts) (read ts)) where
+  -- behind a symbol, and in parentheses
+  pub after_sound : (s : Symbol) (ts : Tokens)
+      → Sound (Of (λ x. token.Symbol s ∷ print x) Fine ts) (after s read ts)
+  after_sound s ts =
+      and_then (symbol_sound s ts) (λ inner is.
+      sound_map (each inner) (λ r h. record { prints = rw h.prints is; fine = h.fine }))
+
+  pub enclosed_sound : (ts : Tokens)
+      → Sound (λ r. Of (λ x. token.Symbol symbol.OpenParenthesis ∷ print x) Fine ts
+      (r.0, token.Symbol symbol.CloseParenthesis ∷ r.1)) (enclosed read ts)
+  enclosed_sound ts =
+      closed_sound symbol.CloseParenthesis (after_sound symbol.OpenParenthesis ts)
+
   separated_by_sound : (n : ℕ) (before : List A) (ts : Tokens)
-      → Sound (Behind (list_tokens print) (AreSome Fine) before ts) (separated_by n read before ts)
-  separated_by_sound zero before ts = record { all = tt }
+      → Sound (Extends (list_tokens print) (AreSome Fine) before ts) (separated_by n read before ts)
+  separated_by_sound zero before ts = nothing
   separated_by_sound (suc n) before ts =
       and_then (each ts) (λ x first. if_symbol symbol.Comma x.1
       (λ comma. more_behind (separated_by_sound n (before ++ x.0 ∷ []) (tail x.1))
       (λ xs rest h. record {
-        prints = rw (append_assoc, further_is print xs h.fine.0, h.prints, ← comma) first.prints;
+        prints = rw (append_assoc, further_is print xs h.fine.0, h.prints, comma) first.prints;
         fine = ((λ e. absurd (cc e)), (first.fine, h.fine.1));
       }))
-      (gives (record {
-        found = x.0 ∷ [];
-        behind = refl;
-        read = record {
-          prints = rw append-nil first.prints;
-          fine = ((λ e. absurd (cc e)), (first.fine, tt));
-        };
-      })))
+      (one_behind x.0 (rw append-nil first.prints) ((λ e. absurd (cc e)), (first.fine, tt))))
+
+  pub separated_sound : (n : ℕ) (ts : Tokens)
+      → Sound (Of (list_tokens print) (AreSome Fine) ts) (separated_by n read [] ts)
+  separated_sound n ts = whole_list (separated_by_sound n [] ts) (λ xs rest h. h)
 
   pub listed_sound : (ts : Tokens)
       → Sound (Of (list_tokens print) (AreSome Fine) ts) (separated read ts)
   unfolding separated
-  listed_sound ts = whole_list (separated_by_sound (length ts) [] ts) (λ xs rest h. h)
+  listed_sound ts = separated_sound (length ts) ts
 
-  -- two or more
+  -- behind a first one and a comma
+  pub several_from : (n : ℕ) (x : A) (ts all : Tokens)
+      → print x ++ token.Symbol symbol.Comma ∷ ts ≡ all → Fine x
+      → Sound (Of (list_tokens print) (AreSeveral Fine) all) (separated_by n read (x ∷ []) ts)
+  several_from n x ts all prints fine =
+      whole_list (separated_by_sound n (x ∷ []) ts) (λ xs rest h. record {
+        prints = rw (append_assoc, further_is print xs h.fine.0, h.prints) prints;
+        fine = (two_or_more x xs h.fine.0, (fine, h.fine.1));
+      })
+
   pub several_sound : (ts : Tokens)
-      → Sound (Of (list_tokens print) (λ xs. (2 ≤ length xs) × Each Fine xs) ts) (several read ts)
+      → Sound (Of (list_tokens print) (AreSeveral Fine) ts) (several read ts)
   several_sound ts =
       and_then (closed_sound symbol.Comma (each ts)) (λ x first.
-      whole_list (separated_by_sound (length x.1) (x.0 ∷ []) x.1) (λ xs rest h. record {
-        prints = rw (append_assoc, further_is print xs h.fine.0, h.prints) first.prints;
-        fine = (two_or_more x.0 xs h.fine.0, (first.fine, h.fine.1));
-      }))
-
-  -- in parentheses
-  pub enclosed_sound : (ts : Tokens)
-      → Sound (Of (λ x. print_enclosed (print x)) Fine ts) (enclosed read ts)
-  enclosed_sound ts =
-      sound_map
-      (closed_sound {P = Of (λ x. token.Symbol symbol.OpenParenthesis ∷ print x) Fine ts}
-      symbol.CloseParenthesis
-      (and_then (record { all = behind_all symbol.OpenParenthesis ts }) (λ rest is.
-      sound_map (each rest) (λ x h. record { prints = rw h.prints (sym is); fine = h.fine }))))
-      (λ x h. record { prints = rw append_assoc h.prints; fine = h.fine })
-
--- the same of what is said without a record
-module _ {A : Type 0} (print : A → Tokens) (Fine : A → Type 0) (read : Tokens → Option (A × Tokens))
-    (each : (ts : Tokens) → AllOf (Of print Fine ts) (read ts)) where
-  pub separated_all : (ts : Tokens)
-      → AllOf (Of (list_tokens print) (λ xs. (xs ≢ []) × Each Fine xs) ts) (separated read ts)
-  separated_all ts = (listed_sound (λ ts. record { all = each ts }) ts).all
+      several_from (length x.1) x.0 x.1 ts first.prints first.fine)
 
   -- none or more
-  pub optional_all : (ts : Tokens)
-      → AllOf (Of (list_tokens print) (Each Fine) ts) (optional read ts)
-  optional_all ts =
-      (if_symbol symbol.CloseParenthesis ts (λ e. reads refl tt)
-      (sound_map (listed_sound (λ ts. record { all = each ts }) ts)
-      (λ r h. record { prints = h.prints; fine = h.fine.1 }))).all
+  pub any_number_sound : (ts : Tokens)
+      → Sound (Of (list_tokens print) (Each Fine) ts) (any_number read ts)
+  any_number_sound ts =
+      if_symbol symbol.CloseParenthesis ts (λ e. reads refl tt)
+      (sound_map (listed_sound ts) (λ r h. record { prints = h.prints; fine = h.fine.1 }))
 
 -- each is shaped and low enough
 pub each_shaped : {A : Type 0} (P : A → Type 0) (h : A → ℕ) (room : ℕ) (xs : List A)
@@ -218,14 +286,6 @@ each_of P U h room go (x ∷ xs) e low =
     let l : max (h x) (highest h xs) ≤ room = low in
     (go x e.0 (omega arith), each_of P U h room go xs e.1 (omega arith))
 
-pub words_all : (ts : Tokens) → AllOf (λ r. ts ≡ token.Str r.0 ∷ r.1) (words_at ts)
-words_all (token.Str words ∷ ts) = refl
-words_all _ = tt
-
-pub number_all : (ts : Tokens) → AllOf (λ r. ts ≡ token.Number r.0 ∷ r.1) (number_at ts)
-number_all (token.Number n ∷ ts) = refl
-number_all _ = tt
-
 -- an element of a list, or what is given to it, ends before these tokens
 pub record Ends (ts : Tokens) : Type 0 where
   pub goes : goes_on ts ≡ false
@@ -244,6 +304,12 @@ ends_parenthesis ts = record { goes = refl; bracket = refl; equal = refl; arrow 
 
 pub ends_bracket : (ts : Tokens) → Ends (token.Symbol symbol.CloseBracket ∷ ts)
 ends_bracket ts = record { goes = refl; bracket = refl; equal = refl; arrow = refl }
+
+-- a symbol that closes a list
+abbrev pub Closes : Symbol → Type 0
+Closes close = (begins symbol.Comma (token.Symbol close ∷ []) ≡ false)
+    × (begins close (token.Symbol close ∷ []) ≡ true)
+    × ((rest : Tokens) → Ends (token.Symbol close ∷ rest))
 
 -- it is read where it ends
 abbrev pub Undoes : {A : Type 0} → (A → Tokens) → (Tokens → Option (A × Tokens)) → A → Type 0
@@ -279,7 +345,7 @@ module _ {A : Type 0} (print : A → Tokens) (read : Tokens → Option (A × Tok
       ) refl
 
   -- behind what was read before
-  separated_from : (xs : List A) (t : TokenKind) (rest : Tokens) (before : List A) → xs ≢ []
+  pub separated_from : (xs : List A) (t : TokenKind) (rest : Tokens) (before : List A) → xs ≢ []
       → Each (Undoes print read) xs → Ends (t ∷ rest) → begins symbol.Comma (t ∷ rest) ≡ false
       → separated_by (length (list_tokens print xs ++ t ∷ rest)) read before
       (list_tokens print xs ++ t ∷ rest) ≡ Some (before ++ xs, t ∷ rest)
@@ -294,17 +360,34 @@ module _ {A : Type 0} (print : A → Tokens) (read : Tokens → Option (A × Tok
   separated_undo xs t rest = separated_from xs t rest []
 
   -- none or more, up to `)`
-  pub optional_undo : (xs : List A) (rest : Tokens) → Each (Undoes print read) xs
+  pub any_number_undo : (xs : List A) (rest : Tokens) → Each (Undoes print read) xs
       → ((x : A) (after : Tokens) → begins symbol.CloseParenthesis (print x ++ after) ≡ false)
-      → optional read (list_tokens print xs ++ token.Symbol symbol.CloseParenthesis ∷ rest)
+      → any_number read (list_tokens print xs ++ token.Symbol symbol.CloseParenthesis ∷ rest)
       ≡ Some (xs, token.Symbol symbol.CloseParenthesis ∷ rest)
-  optional_undo [] rest each opens = refl
-  optional_undo (x ∷ xs) rest each opens =
+  any_number_undo [] rest each opens = refl
+  any_number_undo (x ∷ xs) rest each opens =
       let close : TokenKind = token.Symbol symbol.CloseParenthesis in
       let no_close : begins symbol.CloseParenthesis (list_tokens print (x ∷ xs) ++ close ∷ rest)
       ≡ false = rw append_assoc (opens x (further_tokens print xs ++ close ∷ rest)) in
       rw no_close
       (separated_undo (x ∷ xs) close rest (λ e. absurd (cc e)) each (ends_parenthesis rest) refl)
+
+  -- and what closes them
+  pub list_from : (close : Symbol) → Closes close → (xs before : List A) (rest : Tokens) → xs ≢ []
+      → Each (Undoes print read) xs
+      → listed_to close (length (list_tokens print xs ++ token.Symbol close ∷ rest)) read before
+      (list_tokens print xs ++ token.Symbol close ∷ rest) ≡ Some (before ++ xs, rest)
+  list_from close closes xs before rest some each =
+      rw (
+        separated_from xs (token.Symbol close) rest before some each (closes.2 rest) closes.0,
+        closes.1,
+      ) refl
+
+  pub list_undo : (close : Symbol) → Closes close → (xs : List A) (rest : Tokens) → xs ≢ []
+      → Each (Undoes print read) xs
+      → listed_to close (length (list_tokens print xs ++ token.Symbol close ∷ rest)) read []
+      (list_tokens print xs ++ token.Symbol close ∷ rest) ≡ Some (xs, rest)
+  list_undo close closes xs = list_from close closes xs []
 
   -- two or more
   pub several_undo : (xs : List A) (t : TokenKind) (rest : Tokens) → 2 ≤ length xs
