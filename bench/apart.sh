@@ -1,16 +1,32 @@
 # Sourced by the scripts here that time a small program, mostly beside one in C. The program is made in a folder of its own,
 # outside the repository, and built once; that proves the crates below it, if they aren't proved on this machine yet.
 
-# make_program FOLDER_bench LINE ..: builds the program of bench/FOLDER over the crates of these lines of crates.txt,
-# and bench/FOLDER.c, if there is one. Sets work, and the two programs, ours and plain.
+# The lines of crates.txt of these crates and of those that they stand on, the lowest first.
+lines_of() {
+    awk -v names="$*" '
+        function visit(name, i, count, below) {
+            if (name in seen || !(name in line)) return
+            seen[name] = 1
+            count = split(uses[name], below, " ")
+            for (i = 1; i <= count; i++) visit(below[i])
+            print line[name]
+        }
+        /^[a-z]/ { split($0, half, ":"); line[half[1]] = $0; uses[half[1]] = half[2] }
+        END { count = split(names, wanted, " "); for (k = 1; k <= count; k++) visit(wanted[k]) }
+    ' "$top/crates.txt"
+}
+
+# make_program FOLDER_bench CRATE ..: builds the program of bench/FOLDER over these crates and those that
+# they stand on, and bench/FOLDER.c, if there is one. Sets work, and the two programs, ours and plain.
 make_program() {
     name=$1
     shift
     top=$(cd "$(dirname "$0")/.." && pwd)
     work=${TMPDIR:-/tmp}/$name.$(id -u)
     mkdir -p "$work/crates/$name/src"
-    for line in "$@"; do
-        crate=${line%%:*}
+    lines_of "$@" > "$work/crates.txt"
+    crates=$(sed 's/:.*//' "$work/crates.txt")
+    for crate in $crates; do
         mkdir -p "$work/crates/$crate"
         for part in src specs proofs; do
             rm -rf "$work/crates/$crate/$part"
@@ -20,10 +36,7 @@ make_program() {
     folder=${name%_bench}
     cp "$top/HANDLES" "$work/"
     cp "$top/bench/$folder/main.txt" "$work/crates/$name/src/main.rt"
-    printf '%s\n' "$@" > "$work/crates.txt"
-    printf '%s:' "$name" >> "$work/crates.txt"
-    for line in "$@"; do printf ' %s' "${line%%:*}"; done >> "$work/crates.txt"
-    echo >> "$work/crates.txt"
+    echo "$name:" $crates >> "$work/crates.txt"
     echo "building $name" >&2
     (cd "$work/crates/$name" && rt run -- 1 > "$work/build.log" 2>&1) || { tail -5 "$work/build.log" >&2; exit 1; }
     ours=$work/crates/$name/out/$name

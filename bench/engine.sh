@@ -6,12 +6,7 @@
 set -eu
 steps=${1:-1000000}
 . "$(dirname "$0")/apart.sh"
-make_program engine_bench 'items:' 'numbers: smallvec' 'gold_field: items' \
-    'wit_code: gold_field items numbers' 'flow_core: items gold_field numbers' \
-    'flow_board: items gold_field flow_core atomic_table' \
-    'wit_flow: wit_code flow_core items gold_field numbers' 'flow_pool:' \
-    'flow_engine: items gold_field wit_code wit_flow flow_core flow_board flow_pool' \
-    'flow_samples: wit_flow wit_code flow_core items gold_field numbers'
+make_program engine_bench flow_engine flow_samples
 "$ours" "$steps" "${RUNS:-5}" | awk -v steps="$steps" '
     !($1 in least) || $2 < least[$1] { least[$1] = $2 }
     function row(name, spent) {

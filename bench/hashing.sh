@@ -8,7 +8,7 @@ leaves=${1:-16384}
 words=${2:-2054}
 runs=${3:-5}
 . "$(dirname "$0")/apart.sh"
-make_program hashing_bench 'items:' 'gold_field: items' 'lig_merkle: gold_field hex sha2'
+make_program hashing_bench lig_merkle
 proved=$(best "$work/first" "$ours" "$leaves" "$words")
 plainly=$(best "$work/second" "$plain" "$leaves" "$words")
 cmp -s "$work/first" "$work/second" || { echo 'the hashes differ' >&2; exit 1; }

@@ -6,8 +6,7 @@ set -eu
 turns=${1:-10000000}
 runs=${2:-7}
 . "$(dirname "$0")/apart.sh"
-make_program machine_bench 'items:' 'numbers: smallvec' 'gold_field: items' \
-    'wit_code: gold_field items numbers'
+make_program machine_bench wit_code
 proved=$(best "$work/first" "$ours" "$turns")
 plainly=$(best "$work/second" "$plain" "$turns")
 cmp -s "$work/first" "$work/second" || { echo 'the two machines differ' >&2; exit 1; }

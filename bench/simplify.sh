@@ -7,8 +7,7 @@
 set -eu
 runs=${RUNS:-5}
 . "$(dirname "$0")/apart.sh"
-make_program simplify_bench 'items:' 'gold_field: items' 'cir_lc: gold_field items' \
-    'cir_simplify: smallvec cir_lc gold_field items' 'simplify_samples: cir_lc gold_field items'
+make_program simplify_bench cir_simplify simplify_samples
 row='%6s %12s %10s %10s %10s %16s\n'
 printf "$row" level constraints ours plain quotient us/constraint
 for level in 1 2; do
