@@ -6,9 +6,7 @@ use Rattle.std.specs.Prelude.{codes}
 use Rattle.std.specs.Str.{bytes_eq}
 use Rattle.std.proofs.lemmas.Slice.Eq.{bytes_eq-Decides}
 use Rattle.cir_token.specs.declared.token.TokenKind.TheVariants as token
-use Rattle.cir_token.specs.declared.token.Reserved.{Reserved}
 use Rattle.cir_token.specs.declared.token.Reserved.TheVariants as word
-use Rattle.cir_token.specs.declared.token.Symbol.{Symbol}
 use Rattle.cir_token.specs.declared.token.Symbol.TheVariants as symbol
 use Rattle.cir_ast.specs.Tree as tree
 use Rattle.cir_ast.specs.Plain.{PlainExprs as Exprs, PlainStatements as Statements}
@@ -19,7 +17,7 @@ use Rattle.cir_ast.specs.Shape.{AllFit, Each, AreShapedStatements, IsShapedItem}
 use Rattle.cir_ast.specs.Height.{exprs_height, statements_height, item_height}
 use Rattle.cir_expression.specs.Front.{Tokens, tail, name_at}
 use Rattle.cir_expression.specs.Reading.{arguments}
-use Rattle.cir_expression.proofs.Combinators.{Sound, nothing, gives, Of, reads, sound_map, and_then}
+use Rattle.cir_expression.proofs.Combinators.{Sound, nothing, gives, Of, sound_map, and_then}
 use Rattle.cir_expression.proofs.Combinators.{if_test, if_symbol, if_word, symbol_sound, word_sound}
 use Rattle.cir_expression.proofs.Combinators.{name_sound, words_sound, number_sound, closed_sound}
 use Rattle.cir_expression.proofs.Combinators.{after_sound, enclosed_sound, listed_sound, Undoes}
@@ -38,7 +36,7 @@ abbrev Any : {A : Type 0} → A → Type 0
 Any x = Unit {0}
 
 one_name : (ts : Tokens) → Sound (Of name_tokens Any ts) (name_at ts)
-one_name ts = and_then (name_sound ts) λ name is. reads is tt
+one_name ts = sound_map (name_sound ts) λ name is. record { prints = is; fine = tt }
 
 language_sound : (ts : Tokens)
     → Sound (λ rest. token.Name (codes "circom") ∷ rest ≡ ts) (language_at ts)
