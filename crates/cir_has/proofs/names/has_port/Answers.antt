@@ -29,7 +29,7 @@ returns-then-not-is_inside g c =
     let is : front_of c.args.front ≡ L.Named (meant.Component x.n) = grind arith in
     let known = c.in-Some.indices.items in
     let tested : c.is_inside.result ≡ is_inside (ground.components x.n) (map Some known) =
-    rw (c.component_dims.ensures, c.as_slice.ensures.value, is) at c.is_inside.ensures in
+    rw (c.component_dims-dims.ensures, c.as_slice.ensures.value, is) at c.is_inside.ensures in
     port_outside There ground homes (front_of c.args.front) c.args.indices.now c.args.name.now x.n
     is known (sym c.in_ok-indices.ensures ∙ ap items_of c.in-Some.is)
     (sym tested ∙ c.if-not-is_inside.true)
@@ -43,7 +43,7 @@ returns g c =
     let is : front_of c.args.front ≡ L.Named (meant.Component x.n) = grind arith in
     let known = c.in-Some.indices.items in
     let place : c.in_ok-element.element ≡ L.offset (ground.components x.n) known =
-    rw (c.component_dims.ensures, c.as_slice-2.ensures.value, is) at c.in_ok-element.ensures in
+    rw (c.component_dims-dims.ensures, c.as_slice-2.ensures.value, is) at c.in_ok-element.ensures in
     on_ok_weaker c.has_home.result (λ h. port_known There ground homes (front_of c.args.front)
     c.args.indices.now c.args.name.now x.n is known (sym c.in_ok-indices.ensures
     ∙ ap items_of c.in-Some.is)
