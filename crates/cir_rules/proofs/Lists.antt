@@ -1,5 +1,5 @@
--- What ranks the definitions give to a place and to a literal, and that literals are among arguments
--- as the code lists them.
+-- What ranks the definitions give to a place and to a literal, and that literals are among
+-- arguments as the code lists them.
 use Rattle.std.proofs.Common.{◌≡◌, ◌∙◌, ℕ, List, [], ◌∷◌, ◌-◌, ap, refl}
 use Rattle.std.specs.Prelude.{◌||◌, map}
 use Rattle.std.specs.List.{list_any}

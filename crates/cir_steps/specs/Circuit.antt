@@ -57,6 +57,7 @@ all_homes size sizes tables =
     Some 0 ∷ (group_wires size sizes tables Outputs ++ (group_wires size sizes tables PublicInputs
     ++ (group_wires size sizes tables PrivateInputs ++ group_wires size sizes tables Others)))
 
+-- main is the first of the 256 templates that may be open, so 255 more may be
 abbrev pub emit_main : Program → (size : ℕ) → Main → Meant → Tried Cast
 emit_main p size m (meant.Template t) =
     next (arguments_in (main_context p size m) (at (main_context p size m) m.spot)
