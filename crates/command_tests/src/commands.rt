@@ -377,14 +377,196 @@ const DIFFERENT: &str = "template T() { signal input a; signal output b; b <== a
 component main = T();
 ";
 
+// The source of the store compiles with these options to so many wires and constraints.
+fn compiles<R: Threads + Wait + AllocGlobal + Sync + Abort>(
+    rt: &R,
+    options: &str,
+    store: &mut MemStore,
+    wires: u32,
+    constraints: u32,
+) {
+    let words = format!(in rt.alloc(); "compile t.circom m.r1cs {options}");
+    let words = words.expect(rt, "memory");
+    let line = format!(in rt.alloc(); "compiled: wires {wires}, constraints {constraints}\n");
+    let line = line.expect(rt, "memory");
+    says(rt, words.as_str(), store, 0, line.as_str());
+}
+
 #[test]
 fn compile_writes_a_file_that_check_accepts(rt: HostRuntime) {
     let mut store = sources(&rt, &[("t.circom", PRODUCT)]);
-    let compiled = "compiled: wires 4, constraints 1\n";
-    says(&rt, "compile t.circom m.r1cs", &mut store, 0, compiled);
+    compiles(&rt, "", &mut store, 4, 1);
     put_file(&rt, &mut store, "m.wtns", &wtns(&rt, &[1, 33, 3, 11]));
     says(&rt, "check m.r1cs m.wtns", &mut store, 0, "satisfied\n");
 }
+
+const SQUARE: &str = "template T() {
+  signal input a; signal input b; signal output c; signal s; signal t;
+  s <== a + b; t <== s; c <== t*t;
+}
+component main = T();
+";
+
+// Without a level the answer is that of `--O1`, which makes s and t one wire; `--O2` leaves none
+// of the two. Each row has the options, the source, and how many wires and constraints it has.
+static LEVELS: [(&str, &str, u32, u32); 8] = [
+    ("--O0", SQUARE, 6, 3),
+    ("--O1", SQUARE, 5, 2),
+    ("", SQUARE, 5, 2),
+    ("--O2", SQUARE, 4, 1),
+    ("", DIFFERENT, 3, 2),
+    ("--O2", DIFFERENT, 3, 2),
+    ("--O0 -l inc", PRODUCT, 4, 1),
+    ("--O1", PRODUCT, 4, 1),
+];
+
+#[test]
+fn a_level_solves_what_the_one_below_leaves(rt: HostRuntime) {
+    for (options, source, wires, constraints) in LEVELS.as_slice() {
+        let mut store = sources(&rt, &[("t.circom", *source)]);
+        compiles(&rt, options, &mut store, *wires, *constraints);
+    }
+}
+
+// `compile` refuses the source, by this cause and place.
+fn is_refused<R: Threads + Wait + AllocGlobal + Sync + Abort>(rt: &R, source: &str, why: &str) {
+    let mut store = sources(rt, &[("t.circom", source)]);
+    let line = format!(in rt.alloc(); "refused: {why}\n").expect(rt, "memory");
+    says(rt, "compile t.circom m.r1cs", &mut store, 1, line.as_str());
+}
+
+// Each row has a source, and the cause and the place of its refusal.
+static REFUSALS: [(&str, &str); 15] = [
+    (CUBIC, "E11 NonQuadratic at t.circom:3:3 in main"),
+    ("@", "E1 Lexical BadChar at t.circom:1:1 in -"),
+    (
+        "template A() { }\ntemplate B() { x <== ; }",
+        "E2 Syntax at t.circom:2:1 in -",
+    ),
+    (
+        "\ninclude \"no.circom\";",
+        "E3 Include at t.circom:2:1 in -",
+    ),
+    (
+        "template A() { signal a;\nvar a; } component main = A();",
+        "E4 Duplicate at t.circom:2:1 in -",
+    ),
+    ("", "E5 Main at t.circom:1:1 in -"),
+    (
+        "template A() { if (1) {\nx === 1; } } component main = A();",
+        "E6 UnknownName at t.circom:2:1 in -",
+    ),
+    (
+        "template A(n) { }\ncomponent main = A();",
+        "E7 Arity at t.circom:2:1 in -",
+    ),
+    (
+        "template A() { signal input a;\na <== 1; } component main = A();",
+        "E8 WrongKind at t.circom:2:1 in -",
+    ),
+    (
+        "template T() {
+  signal input a; signal input b; signal input c; signal input d;
+  a*b === c*d;
+}
+component main = T();",
+        "E11 NonQuadratic at t.circom:3:3 in main",
+    ),
+    (
+        "template Id() { signal input x; signal output y; y <== x; }
+template T() {
+  signal input a; signal output out; component c = Id();
+  out <== c.y; c.x <== a;
+}
+component main = T();",
+        "E12 ReadBeforeWrite at t.circom:4:3 in main",
+    ),
+    (
+        "template Id() { signal input x; signal output y; y <== x; }
+template T() {
+  signal input a; signal output out; component c = Id();
+  out <== a;
+}
+component main = T();",
+        "E15 InputsMissing at t.circom:3:38 in main",
+    ),
+    (
+        "template Id() { signal input x; signal output y; y <== x; }
+template T() {
+  signal input a; signal output out; component c = Id();
+  c.x <== a;
+}
+component main = T();",
+        "E14 NeverWritten at t.circom:3:19 in main",
+    ),
+    (
+        "template T(n) {
+  signal input in; signal output x;
+  if (in) { x <== 1; } else { x <== 2; }
+}
+component main = T(1);",
+        "E9 UnknownControl at t.circom:3:13 in main",
+    ),
+    (
+        "template Mul() { signal input a; signal input b; signal output c; c <== a*b; }
+template T() { signal input in; signal input x; signal input y;
+  if (in) { Mul()(in, in); }
+}
+component main = T();",
+        "E9 UnknownControl at t.circom:3:13 in main",
+    ),
+];
+
+#[test]
+fn compile_says_why_a_source_is_refused(rt: HostRuntime) {
+    for (source, why) in REFUSALS.as_slice() {
+        is_refused(&rt, source, why);
+    }
+}
+
+static FORMS: [(&str, &str); 8] = [
+    (
+        "pragma circom 1.0.0;",
+        "E21 NotInProfile Version at t.circom:1:1 in -",
+    ),
+    (
+        "pragma custom_templates;",
+        "E21 NotInProfile CustomTemplate at t.circom:1:1 in -",
+    ),
+    (
+        "template custom A() { }",
+        "E21 NotInProfile CustomTemplate at t.circom:1:1 in -",
+    ),
+    ("bus B() { }", "E21 NotInProfile Bus at t.circom:1:1 in -"),
+    (
+        "template A() { signal input {t} a; }",
+        "E21 NotInProfile Tag at t.circom:1:16 in -",
+    ),
+    (
+        "function f() { } component main = A(); template A() { }",
+        "E21 NotInProfile NoReturn at t.circom:1:1 in -",
+    ),
+    (
+        "template A() { while (0)\nsignal a; } component main = A();",
+        "E21 NotInProfile DeclarationPlace at t.circom:2:1 in -",
+    ),
+    (
+        "function f() {\nlog(1); return 1; } template A() { } component main = A();",
+        "E21 NotInProfile LogPlace at t.circom:2:1 in -",
+    ),
+];
+
+#[test]
+fn forms_outside_the_profile_are_named(rt: HostRuntime) {
+    for (source, why) in FORMS.as_slice() {
+        is_refused(&rt, source, why);
+    }
+}
+
+static INCLUDING: &str = "include \"lib/b.circom\";\ncomponent main = Mul();\n";
+
+static BACK: &str = "include \"../a.circom\";
+template Mul() { signal input a; signal input b; signal output c; c <== a*b; }";
 
 // The line of the words over these files. The status is 1 where it is a refusal, else 0.
 fn gives<R: Threads + Wait + AllocGlobal + Sync + Abort>(
@@ -397,207 +579,6 @@ fn gives<R: Threads + Wait + AllocGlobal + Sync + Abort>(
     let status = u8::from(line.starts_with("refused: "));
     says(rt, words, &mut store, status, line);
 }
-
-const SQUARE: &str = "template T() {
-  signal input a; signal input b; signal output c; signal s; signal t;
-  s <== a + b; t <== s; c <== t*t;
-}
-component main = T();
-";
-
-// Without a level the answer is that of `--O1`, which makes s and t one wire; `--O2` leaves none
-// of the two. Each row has the words, the source and the line.
-static LEVELS: [(&str, &str, &str); 7] = [
-    (
-        "compile t.circom m.r1cs --O0",
-        SQUARE,
-        "compiled: wires 6, constraints 3\n",
-    ),
-    (
-        "compile t.circom m.r1cs --O1",
-        SQUARE,
-        "compiled: wires 5, constraints 2\n",
-    ),
-    (
-        "compile t.circom m.r1cs",
-        SQUARE,
-        "compiled: wires 5, constraints 2\n",
-    ),
-    (
-        "compile t.circom m.r1cs --O2",
-        SQUARE,
-        "compiled: wires 4, constraints 1\n",
-    ),
-    (
-        "compile t.circom m.r1cs --O2",
-        DIFFERENT,
-        "compiled: wires 3, constraints 2\n",
-    ),
-    (
-        "compile t.circom m.r1cs --O0 -l inc",
-        PRODUCT,
-        "compiled: wires 4, constraints 1\n",
-    ),
-    (
-        "compile t.circom m.r1cs --O1",
-        PRODUCT,
-        "compiled: wires 4, constraints 1\n",
-    ),
-];
-
-#[test]
-fn a_level_solves_what_the_one_below_leaves(rt: HostRuntime) {
-    for (words, source, line) in LEVELS.as_slice() {
-        gives(&rt, words, &[("t.circom", *source)], line);
-    }
-}
-
-// Each row has a source and its line.
-static REFUSALS: [(&str, &str); 16] = [
-    (CUBIC, "refused: E11 NonQuadratic at t.circom:3:3 in main\n"),
-    (DIFFERENT, "compiled: wires 3, constraints 2\n"),
-    ("@", "refused: E1 Lexical BadChar at t.circom:1:1 in -\n"),
-    (
-        "template A() { }\ntemplate B() { x <== ; }",
-        "refused: E2 Syntax at t.circom:2:1 in -\n",
-    ),
-    (
-        "\ninclude \"no.circom\";",
-        "refused: E3 Include at t.circom:2:1 in -\n",
-    ),
-    (
-        "template A() { signal a;\nvar a; } component main = A();",
-        "refused: E4 Duplicate at t.circom:2:1 in -\n",
-    ),
-    ("", "refused: E5 Main at t.circom:1:1 in -\n"),
-    (
-        "template A() { if (1) {\nx === 1; } } component main = A();",
-        "refused: E6 UnknownName at t.circom:2:1 in -\n",
-    ),
-    (
-        "template A(n) { }\ncomponent main = A();",
-        "refused: E7 Arity at t.circom:2:1 in -\n",
-    ),
-    (
-        "template A() { signal input a;\na <== 1; } component main = A();",
-        "refused: E8 WrongKind at t.circom:2:1 in -\n",
-    ),
-    (
-        "template T() {
-  signal input a; signal input b; signal input c; signal input d;
-  a*b === c*d;
-}
-component main = T();",
-        "refused: E11 NonQuadratic at t.circom:3:3 in main\n",
-    ),
-    (
-        "template Id() { signal input x; signal output y; y <== x; }
-template T() {
-  signal input a; signal output out; component c = Id();
-  out <== c.y; c.x <== a;
-}
-component main = T();",
-        "refused: E12 ReadBeforeWrite at t.circom:4:3 in main\n",
-    ),
-    (
-        "template Id() { signal input x; signal output y; y <== x; }
-template T() {
-  signal input a; signal output out; component c = Id();
-  out <== a;
-}
-component main = T();",
-        "refused: E15 InputsMissing at t.circom:3:38 in main\n",
-    ),
-    (
-        "template Id() { signal input x; signal output y; y <== x; }
-template T() {
-  signal input a; signal output out; component c = Id();
-  c.x <== a;
-}
-component main = T();",
-        "refused: E14 NeverWritten at t.circom:3:19 in main\n",
-    ),
-    (
-        "template T(n) {
-  signal input in; signal output x;
-  if (in) { x <== 1; } else { x <== 2; }
-}
-component main = T(1);",
-        "refused: E9 UnknownControl at t.circom:3:13 in main\n",
-    ),
-    (
-        "template Mul() { signal input a; signal input b; signal output c; c <== a*b; }
-template T() { signal input in; signal input x; signal input y;
-  if (in) { Mul()(in, in); }
-}
-component main = T();",
-        "refused: E9 UnknownControl at t.circom:3:13 in main\n",
-    ),
-];
-
-#[test]
-fn compile_says_why_a_source_is_refused(rt: HostRuntime) {
-    for (source, line) in REFUSALS.as_slice() {
-        gives(
-            &rt,
-            "compile t.circom m.r1cs",
-            &[("t.circom", *source)],
-            line,
-        );
-    }
-}
-
-static FORMS: [(&str, &str); 8] = [
-    (
-        "pragma circom 1.0.0;",
-        "refused: E21 NotInProfile Version at t.circom:1:1 in -\n",
-    ),
-    (
-        "pragma custom_templates;",
-        "refused: E21 NotInProfile CustomTemplate at t.circom:1:1 in -\n",
-    ),
-    (
-        "template custom A() { }",
-        "refused: E21 NotInProfile CustomTemplate at t.circom:1:1 in -\n",
-    ),
-    (
-        "bus B() { }",
-        "refused: E21 NotInProfile Bus at t.circom:1:1 in -\n",
-    ),
-    (
-        "template A() { signal input {t} a; }",
-        "refused: E21 NotInProfile Tag at t.circom:1:16 in -\n",
-    ),
-    (
-        "function f() { } component main = A(); template A() { }",
-        "refused: E21 NotInProfile NoReturn at t.circom:1:1 in -\n",
-    ),
-    (
-        "template A() { while (0)\nsignal a; } component main = A();",
-        "refused: E21 NotInProfile DeclarationPlace at t.circom:2:1 in -\n",
-    ),
-    (
-        "function f() {\nlog(1); return 1; } template A() { } component main = A();",
-        "refused: E21 NotInProfile LogPlace at t.circom:2:1 in -\n",
-    ),
-];
-
-#[test]
-fn forms_outside_the_profile_are_named(rt: HostRuntime) {
-    for (source, line) in FORMS.as_slice() {
-        gives(
-            &rt,
-            "compile t.circom m.r1cs",
-            &[("t.circom", *source)],
-            line,
-        );
-    }
-}
-
-static INCLUDING: &str = "include \"lib/b.circom\";\ncomponent main = Mul();\n";
-
-static BACK: &str = "include \"../a.circom\";
-template Mul() { signal input a; signal input b; signal output c; c <== a*b; }";
 
 #[test]
 fn files_that_include_each_other_are_followed(rt: HostRuntime) {

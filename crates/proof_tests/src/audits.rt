@@ -96,7 +96,7 @@ fn has_changed<R: Threads + AllocGlobal + Sync + Abort>(
 
 // A value of the field's order or more.
 #[test]
-fn unreduced_words_are_malformed(rt: HostRuntime) {
+fn words_past_the_field_are_malformed(rt: HostRuntime) {
     let order = P.to_le_bytes();
     let malformed = Verdict::Malformed { offset: 18472 };
     has_changed(&rt, Version::One, &order, malformed);

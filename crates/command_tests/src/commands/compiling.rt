@@ -1,6 +1,5 @@
 // `compile` on circuits of the whole language.
-use super::checks::same;
-use super::{put_file, run_words, says, sources, wtns};
+use super::{compiles, put_file, says, sources, wtns};
 use out_io::MemStore;
 use std::process::Abort;
 
@@ -67,85 +66,29 @@ pub fn with_library<R: AllocGlobal + Abort>(rt: &R, main: &str) -> MemStore {
     store
 }
 
-// Each row has the level, the main component, and the line: the numbers of wires and constraints.
-static CIRCUITS: [(&str, &str, &str); 14] = [
-    (
-        "compile t.circom m.r1cs",
-        "= Operators()",
-        "compiled: wires 12, constraints 11\n",
-    ),
-    (
-        "compile t.circom m.r1cs",
-        "= IsZero()",
-        "compiled: wires 4, constraints 2\n",
-    ),
-    (
-        "compile t.circom m.r1cs",
-        "= Num2Bits(64)",
-        "compiled: wires 66, constraints 65\n",
-    ),
-    (
-        "compile t.circom m.r1cs",
-        "= LessThan(8)",
-        "compiled: wires 14, constraints 12\n",
-    ),
-    (
-        "compile t.circom m.r1cs --O2",
-        "= LessThan(8)",
-        "compiled: wires 11, constraints 9\n",
-    ),
-    (
-        "compile t.circom m.r1cs",
-        "= Two()",
-        "compiled: wires 6, constraints 2\n",
-    ),
-    (
-        "compile t.circom m.r1cs",
-        "= Choice(1)",
-        "compiled: wires 3, constraints 1\n",
-    ),
-    (
-        "compile t.circom m.r1cs --O0",
-        "= Chain(1000)",
-        "compiled: wires 1003, constraints 1001\n",
-    ),
-    (
-        "compile t.circom m.r1cs",
-        "= Chain(1000)",
-        "compiled: wires 3, constraints 1\n",
-    ),
-    (
-        "compile t.circom m.r1cs",
-        "= Deep(255)",
-        "compiled: wires 3, constraints 1\n",
-    ),
-    (
-        "compile t.circom m.r1cs",
-        "= Table()",
-        "compiled: wires 3, constraints 1\n",
-    ),
-    (
-        "compile t.circom m.r1cs --O0",
-        "= Anonymous()",
-        "compiled: wires 10, constraints 7\n",
-    ),
-    (
-        "compile t.circom m.r1cs",
-        "= Anonymous()",
-        "compiled: wires 7, constraints 4\n",
-    ),
-    (
-        "compile t.circom m.r1cs --O0",
-        "= Tuples()",
-        "compiled: wires 15, constraints 12\n",
-    ),
+// Each row has the level, the main component, and how many wires and constraints it has.
+static CIRCUITS: [(&str, &str, u32, u32); 14] = [
+    ("", "= Operators()", 12, 11),
+    ("", "= IsZero()", 4, 2),
+    ("", "= Num2Bits(64)", 66, 65),
+    ("", "= LessThan(8)", 14, 12),
+    ("--O2", "= LessThan(8)", 11, 9),
+    ("", "= Two()", 6, 2),
+    ("", "= Choice(1)", 3, 1),
+    ("--O0", "= Chain(1000)", 1003, 1001),
+    ("", "= Chain(1000)", 3, 1),
+    ("", "= Deep(255)", 3, 1),
+    ("", "= Table()", 3, 1),
+    ("--O0", "= Anonymous()", 10, 7),
+    ("", "= Anonymous()", 7, 4),
+    ("--O0", "= Tuples()", 15, 12),
 ];
 
 #[test]
 fn circuits_have_their_wires_and_constraints(rt: HostRuntime) {
-    for (words, main, line) in CIRCUITS.as_slice() {
+    for (level, main, wires, constraints) in CIRCUITS.as_slice() {
         let mut store = with_library(&rt, main);
-        says(&rt, words, &mut store, 0, line);
+        compiles(&rt, level, &mut store, *wires, *constraints);
     }
 }
 
@@ -168,8 +111,7 @@ fn values_satisfy_what_is_compiled(rt: HostRuntime) {
     for (values, status, line) in COMPARISONS.as_slice() {
         let mut store = with_library(&rt, "{public [in]} = LessThan(8)");
         put_file(&rt, &mut store, "m.wtns", &wtns(&rt, values));
-        let compiled = run_words(&rt, "compile t.circom m.r1cs", &mut store);
-        same(&rt, compiled.status, 0);
+        compiles(&rt, "", &mut store, 14, 12);
         says(&rt, "check m.r1cs m.wtns", &mut store, *status, line);
     }
 }

@@ -35,22 +35,32 @@ static ARRAY: &str = "template S() { signal input in[2][2]; signal output out;
 component main = S();
 ";
 
-// These values are written where the source of the store runs on its input. They satisfy the file
-// that the source compiles to.
-fn runs<R: Threads + Wait + AllocGlobal + Sync + Abort>(
+/// With these options `witness` says the log lines and how many values there are, and writes them.
+pub fn writes_values<R: Threads + Wait + AllocGlobal + Sync + Abort>(
     rt: &R,
-    store: &mut MemStore,
     options: &str,
-    text: &str,
+    store: &mut MemStore,
+    log: &str,
     values: &[u64],
 ) {
     let words = format!(in rt.alloc(); "witness t.circom i.json w.wtns {options}");
     let words = words.expect(rt, "memory");
-    says(rt, words.as_str(), store, 0, text);
+    let count = values.len();
+    let text = format!(in rt.alloc(); "{log}witness: values {count}\n").expect(rt, "memory");
+    says(rt, words.as_str(), store, 0, text.as_str());
     let bytes = store.files.get("w.wtns").expect(rt, "a file");
     let wanted = wtns(rt, values);
     same(rt, bytes.as_slice(), wanted.as_slice());
-    let compiled = run_words(rt, "compile t.circom m.r1cs", store);
+}
+
+/// The values that were written satisfy the file that the source compiles to at this level.
+pub fn are_accepted<R: Threads + Wait + AllocGlobal + Sync + Abort>(
+    rt: &R,
+    level: &str,
+    store: &mut MemStore,
+) {
+    let words = format!(in rt.alloc(); "compile t.circom m.r1cs {level}").expect(rt, "memory");
+    let compiled = run_words(rt, words.as_str(), store);
     same(rt, compiled.status, 0);
     says(rt, "check m.r1cs w.wtns", store, 0, "satisfied\n");
 }
@@ -60,14 +70,27 @@ fn writes<R: Threads + Wait + AllocGlobal + Sync + Abort>(
     source: &str,
     input: &str,
     options: &str,
-    text: &str,
+    log: &str,
     values: &[u64],
 ) {
     let mut store = sources(rt, &[("t.circom", source), ("i.json", input)]);
-    runs(rt, &mut store, options, text, values);
+    writes_values(rt, options, &mut store, log, values);
+    are_accepted(rt, "", &mut store);
 }
 
-// Where it stops or isn't read, no file is written.
+/// With these options `witness` says this with the status 1, and writes no file.
+pub fn is_stopped<R: Threads + Wait + AllocGlobal + Sync + Abort>(
+    rt: &R,
+    options: &str,
+    store: &mut MemStore,
+    text: &str,
+) {
+    let words = format!(in rt.alloc(); "witness t.circom i.json w.wtns {options}");
+    let words = words.expect(rt, "memory");
+    says(rt, words.as_str(), store, 1, text);
+    same(rt, store.files.contains_key("w.wtns"), false);
+}
+
 fn stops<R: Threads + Wait + AllocGlobal + Sync + Abort>(
     rt: &R,
     source: &str,
@@ -76,82 +99,58 @@ fn stops<R: Threads + Wait + AllocGlobal + Sync + Abort>(
     text: &str,
 ) {
     let mut store = sources(rt, &[("t.circom", source), ("i.json", input)]);
-    let words = format!(in rt.alloc(); "witness t.circom i.json w.wtns {options}");
-    let words = words.expect(rt, "memory");
-    says(rt, words.as_str(), &mut store, 1, text);
-    same(rt, store.files.contains_key("w.wtns"), false);
+    is_stopped(rt, options, &mut store, text);
 }
 
 #[test]
 fn witness_writes_the_values_of_the_run(rt: HostRuntime) {
-    let text = "witness: values 4\n";
     let input = "{\"a\":3,\"b\":\"11\"}";
-    writes(&rt, PRODUCT, input, "", text, &[1, 33, 3, 11]);
-    writes(&rt, PRODUCT, input, "--workers 1", text, &[1, 33, 3, 11]);
-    writes(&rt, PRODUCT, input, "--workers=64", text, &[1, 33, 3, 11]);
-    writes(&rt, PRODUCT, input, "--workers 08", text, &[1, 33, 3, 11]);
+    for options in ["", "--workers 1", "--workers=64", "--workers 08"] {
+        writes(&rt, PRODUCT, input, options, "", &[1, 33, 3, 11]);
+    }
     let large = "{\"a\":4294967296,\"b\":4294967296}";
     let product = &[1, 4294967295, 4294967296, 4294967296];
-    writes(&rt, PRODUCT, large, "", text, product);
-    let array = "witness: values 6\n";
-    let numbers = &[1, 30, 1, 2, 3, 4];
-    writes(&rt, ARRAY, "{\"in\":[[1,2],[3,4]]}", "", array, numbers);
-    writes(&rt, ARRAY, "{\"in\":[1,2,3,4]}", "", array, numbers);
+    writes(&rt, PRODUCT, large, "", "", product);
+    for input in ["{\"in\":[[1,2],[3,4]]}", "{\"in\":[1,2,3,4]}"] {
+        writes(&rt, ARRAY, input, "", "", &[1, 30, 1, 2, 3, 4]);
+    }
 }
 
-// Each row has the main component, the input, the line and the values.
-static WITNESSES: [(&str, &str, &str, &[u64]); 5] = [
-    (
-        "= Operators()",
-        "{}",
-        "witness: values 12\n",
-        &[
-            1,
-            0,
-            4294967294,
-            9223372036854775808,
-            9223372034707292161,
-            0,
-            18446744069414584319,
-            2,
-            4294967295,
-            9223372034707292160,
-            0,
-            0,
-        ],
-    ),
-    (
-        "= IsZero()",
-        "{\"in\":0}",
-        "witness: values 4\n",
-        &[1, 1, 0, 0],
-    ),
-    (
-        "= IsZero()",
-        "{\"in\":5}",
-        "witness: values 4\n",
-        &[1, 0, 5, 14757395255531667457],
-    ),
+const OPERATORS: [u64; 12] = [
+    1,
+    0,
+    4294967294,
+    9223372036854775808,
+    9223372034707292161,
+    0,
+    18446744069414584319,
+    2,
+    4294967295,
+    9223372034707292160,
+    0,
+    0,
+];
+
+// Each row has the main component, the input and the values.
+static WITNESSES: [(&str, &str, &[u64]); 5] = [
+    ("= Operators()", "{}", &OPERATORS),
+    ("= IsZero()", "{\"in\":0}", &[1, 1, 0, 0]),
+    ("= IsZero()", "{\"in\":5}", &[1, 0, 5, 14757395255531667457]),
     (
         "{public [in]} = LessThan(8)",
         "{\"in\":[3,5]}",
-        "witness: values 14\n",
         &[1, 1, 3, 5, 254, 0, 1, 1, 1, 1, 1, 1, 1, 0],
     ),
-    (
-        "= Choice(1)",
-        "{\"in\":9}",
-        "witness: values 3\n",
-        &[1, 1, 9],
-    ),
+    ("= Choice(1)", "{\"in\":9}", &[1, 1, 9]),
 ];
 
 #[test]
 fn circuits_of_the_whole_language_have_witnesses(rt: HostRuntime) {
-    for (main, input, text, values) in WITNESSES.as_slice() {
+    for (main, input, values) in WITNESSES.as_slice() {
         let mut store = with_library(&rt, main);
         put_file(&rt, &mut store, "i.json", input.as_bytes());
-        runs(&rt, &mut store, "", text, values);
+        writes_values(&rt, "", &mut store, "", values);
+        are_accepted(&rt, "", &mut store);
     }
 }
 
@@ -162,13 +161,13 @@ fn the_bits_of_0_are_0(rt: HostRuntime) {
     values[0] = 1;
     let mut store = with_library(&rt, "= Num2Bits(64)");
     put_file(&rt, &mut store, "i.json", b"{\"in\":0}");
-    runs(&rt, &mut store, "", "witness: values 66\n", &values);
+    writes_values(&rt, "", &mut store, "", &values);
+    are_accepted(&rt, "", &mut store);
 }
 
 #[test]
 fn witness_has_log_lines_before_its_own(rt: HostRuntime) {
-    let text = "start 2\nwitness: values 3\n";
-    writes(&rt, TWO, "{\"a\":2}", "", text, &[1, 2, 2]);
+    writes(&rt, TWO, "{\"a\":2}", "", "start 2\n", &[1, 2, 2]);
 }
 
 #[test]
@@ -183,13 +182,12 @@ fn witness_stops_at_the_first_place_of_the_source(rt: HostRuntime) {
 
 #[test]
 fn witness_spends_no_more_fuel_than_it_is_given(rt: HostRuntime) {
-    let text = "witness: values 3\n";
     let spent = "refused: W5 FuelSpent at t.circom:3:3 in main\n";
-    writes(&rt, LOOP, "{\"n\":5}", "--fuel 5", text, &[1, 5, 5]);
+    writes(&rt, LOOP, "{\"n\":5}", "--fuel 5", "", &[1, 5, 5]);
     stops(&rt, LOOP, "{\"n\":6}", "--fuel 5", spent);
     stops(&rt, LOOP, "{\"n\":6}", "--fuel 5 --workers 1", spent);
     stops(&rt, LOOP, "{\"n\":6}", "--fuel 5 --workers 8", spent);
-    writes(&rt, UP, "{\"in\":9}", "--fuel 5", text, &[1, 4, 9]);
+    writes(&rt, UP, "{\"in\":9}", "--fuel 5", "", &[1, 4, 9]);
     let called = "refused: W5 FuelSpent at t.circom:2:52 in main\n";
     stops(&rt, UP, "{\"in\":9}", "--fuel 4", called);
 }
