@@ -2,9 +2,9 @@
 -- that their dimensions are numbers as they are written, and that array literals stand where they
 -- may.
 use Rattle.std.specs.Prelude.{ℕ, zero, suc, ◌+◌, ◌-◌, ◌==◌, ◌^◌, Bool, true, false, not, ◌&&◌, ◌||◌}
-use Rattle.std.specs.Prelude.{if◌then◌else◌, List, [], ◌∷◌, ◌++◌, map, filter, flat_map}
+use Rattle.std.specs.Prelude.{if◌then◌else◌, nat_le, List, [], ◌∷◌, ◌++◌, map, filter, flat_map}
 use Rattle.std.specs.Prelude.{length, Option, Some, None, is_none, slice_get, unwrap_or, bytes_eq}
-use Rattle.std.specs.List.{list_any}
+use Rattle.std.specs.List.{list_any, list_all}
 use Rattle.cir_ast.specs.declared.program.Spot.{Spot}
 use Rattle.cir_ast.specs.declared.program.Meant.{Meant}
 use Rattle.cir_ast.specs.declared.program.Meant.TheVariants as meant
@@ -78,16 +78,17 @@ abbrev pub all_reached : {A : Type 0} → (A → A → Bool) → (A → List A) 
 all_reached same calls first =
     let start : List _ = new_ones same [] first in reached rounds same calls start start
 
--- the first rule. A call with an array literal among its arguments breaks the third rule, and isn't
--- followed.
+-- the first rule. Through a call with an array literal among its arguments, which breaks the third
+-- rule, ranks above 300 aren't followed.
+abbrev pub is_followed : (Expr Meant → ℕ) → List (Expr Meant) → Bool
+is_followed rank es = not (list_any is_literal es) || list_all (λ e. nat_le (rank e) 300) es
+
 abbrev pub ranked_calls : Program → RankedCall → List RankedCall
 ranked_calls p c =
-    map (λ d. record {
-      function = d.function;
-      ranks = map
-          (rank_of (variable_rank c.ranks (all_variables (body_of p c.function)))) d.arguments;
-    })
-    (filter (λ d. not (list_any is_literal d.arguments)) (calls_in (body_of p c.function)))
+    let rank : Expr Meant → ℕ =
+    rank_of (variable_rank c.ranks (all_variables (body_of p c.function))) in
+    map (λ d. record { function = d.function; ranks = map rank d.arguments })
+    (filter (λ d. is_followed rank d.arguments) (calls_in (body_of p c.function)))
 
 abbrev pub returns_array : Program → RankedCall → Bool
 returns_array p c =

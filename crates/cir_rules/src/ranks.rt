@@ -1,6 +1,7 @@
 //! How many dimensions expressions have, and whether a function returns an array.
-ghost use Rattle.std.specs.Prelude.{◌≡◌, ◌==◌, [], ◌∷◌, false, not, map, slice_get, IfOk, OnOk};
-ghost use Rattle.std.specs.List.{list_any};
+ghost use Rattle.std.specs.Prelude.{◌≡◌, ◌==◌, ◌||◌, [], ◌∷◌, false, not, nat_le, map, slice_get};
+ghost use Rattle.std.specs.Prelude.{IfOk, OnOk};
+ghost use Rattle.std.specs.List.{list_any, list_all};
 ghost use Rattle.cir_ast.specs.Tree.{bare, bare_place, as_accessors};
 ghost use Rattle.cir_ast.specs.Program.{bare_program};
 ghost use Rattle.cir_meaning.specs.Evaluate.{is_literal};
@@ -15,6 +16,9 @@ use crate::made::Made;
 use cir_ast::program::{Accessor, Expr, Meant, Place, Program};
 use cir_texts::{Called, Texts, declaration_of, has_literal, text_of};
 use std::alloc::{AllocError, Global};
+
+/// Ranks above this aren't followed through a call with an array literal.
+const MOST_RANK: u64 = 300;
 
 /// A function with the rank of each argument.
 #[derive(Drop)]
@@ -133,26 +137,47 @@ fn add_ranked(
         (followed (ranks_in ranks.now texts.now) (map called_of calls.now))) }
 {
     for inner in calls {
-        if has_literal(inner.arguments) {
-            continue;
-        }
         let ranks = argument_ranks(alloc, texts, ranks, inner.arguments)?;
-        let function = inner.function;
-        add_new(known, RankedCall { function, ranks })?;
+        if is_followed(inner.arguments, ranks.as_slice()) {
+            let function = inner.function;
+            add_new(known, RankedCall { function, ranks })?;
+        }
     }
     Ok(())
 }
 
-/// The ranks of arguments that are no array literals.
+/// Whether a call with these arguments, which have these ranks, is followed.
+fn is_followed(arguments: &[Expr], ranks: &[u64]) -> bool
+    ensures { result ≡ (not (list_any is_literal (map bare arguments.now))
+        || list_all (λ r. nat_le r 300) ranks.now) }
+{
+    !has_literal(arguments) || are_small(ranks)
+}
+
+fn are_small(ranks: &[u64]) -> bool
+    ensures { result ≡ list_all (λ r. nat_le r 300) ranks.now }
+{
+    for rank in ranks {
+        if *rank > MOST_RANK {
+            return false;
+        }
+    }
+    true
+}
+
+/// The ranks of arguments; that of a literal may be too large for its type.
 fn argument_ranks(
     alloc: Global,
     texts: &Texts,
     ranks: &[u64],
     arguments: &[Expr],
 ) -> Result<Vec<u64>, AllocError>
-    requires { list_any is_literal (map bare arguments.now) ≡ false }
-    ensures { IfOk result (λ found. found.items
+    ensures whole { list_any is_literal (map bare arguments.now) ≡ false
+        → IfOk result (λ found. found.items
         ≡ map (R.rank_of (ranks_in ranks.now texts.now)) (map bare arguments.now)) }
+    ensures at_most { IfOk result (λ found. found.items
+        ≡ map (λ e. standing (R.rank_of (ranks_in ranks.now texts.now) e))
+        (map bare arguments.now)) }
 {
     let mut found = Vec::new(alloc);
     for e in arguments {

@@ -55,6 +55,7 @@ function first(v) {{ return v[0]; }}
 function itself(v) {{ return v; }}
 function passed(v, n) {{ return itself(v); }}
 function nested(n) {{ if (n) {{ return n; }} return nested([n]); }}
+function endless(n) {{ return endless([n]); }}
 component main = T();
 "
     );
@@ -77,7 +78,7 @@ const SIGNALS: Kind = Kind::Limit {
 };
 
 // Each row has statements, the kind of their refusal, its line and column, and the path there.
-static REFUSALS: [(&str, Kind, (u32, u32), &str); 26] = [
+static REFUSALS: [(&str, Kind, (u32, u32), &str); 27] = [
     ("a <== b;", Kind::WrongKind, (3, 1), "-"),
     ("c <== T;", Kind::WrongKind, (3, 1), "-"),
     ("c <== a; c === d;", Kind::UnknownName, (3, 10), "-"),
@@ -170,6 +171,14 @@ static REFUSALS: [(&str, Kind, (u32, u32), &str); 26] = [
     ),
     (
         "c <-- nested(a);",
+        Kind::NotInProfile {
+            form: Form::RunArray,
+        },
+        (3, 1),
+        "main",
+    ),
+    (
+        "c <-- endless(a);",
         Kind::NotInProfile {
             form: Form::LiteralPlace,
         },
