@@ -17,8 +17,8 @@ use std::thread::{Builder, Promise, Threads};
 const WANT_OF_MEMORY: u8 = 4;
 
 // A source is executed by calls inside each other, one for each template, call, statement and
-// expression that is open: 256 templates and 256 calls, with 256 others in each. This takes half a
-// gigabyte at most; only what is used of it is ever taken from the system.
+// expression that is open: 256 templates and 256 calls, with some 250 others in each. With 240 in
+// each it took half a gigabyte; only what is used of it is ever taken from the system.
 const STACK: usize = 1 << 30;
 
 fn main(rt: HostRuntime) -> ExitCode {

@@ -244,22 +244,22 @@ audit_told result old sink r1cs publics proof r told puts =
       | inr lost ↦ inl lost.0
     ]) puts
 
--- and 64 is the status of the usage line alone
-verdict_below : (v : Verdict) → verdict_status v < 64
+-- the status of a reply is below 3, but for that of the usage line
+verdict_below : (v : Verdict) → verdict_status v < 3
 verdict_below (CountsDiffer values wires) = omega arith
 verdict_below WireZero = omega arith
 verdict_below (ConstraintFails index) = omega arith
 verdict_below Satisfied = omega arith
 
-proved_below : (out : List ℕ) (o : Outcome) → (proved out o).status < 64
+proved_below : (out : List ℕ) (o : Outcome) → (proved out o).status < 3
 proved_below out (Made bytes) = omega arith
 proved_below out (Unmade v) = verdict_below v
 
-published_below : (out : List ℕ) (o : Published) → (published out o).status < 64
+published_below : (out : List ℕ) (o : Published) → (published out o).status < 3
 published_below out (Values values) = omega arith
 published_below out (Wrong v) = verdict_below v
 
-audit_below : (v : Audited) → audit_status v < 64
+audit_below : (v : Audited) → audit_status v < 3
 audit_below audits.Accepted = omega arith
 audit_below audits.PublicCount = omega arith
 audit_below (audits.Malformed offset) = omega arith
@@ -270,44 +270,80 @@ audit_below audits.LinearColumn = omega arith
 audit_below audits.QuadZero = omega arith
 audit_below audits.QuadColumn = omega arith
 
-witnessed_below : (out : List ℕ) (x : Ran) → (witnessed out x).status < 64
+witnessed_below : (out : List ℕ) (x : Ran) → (witnessed out x).status < 3
 witnessed_below out (Ended values log) = omega arith
 witnessed_below out (Halted h) = omega arith
 
-generated_below : (links : ℕ) (x : Generated) → (generated links x).status < 64
+generated_below : (links : ℕ) (x : Generated) → (generated links x).status < 3
 generated_below links (made.Ended wires constraints o log) = omega arith
 generated_below links (made.Halted h) = omega arith
 
 said_below : {X : Type 0} (reply : X → Reply) (found : Result X Refusal)
-    → ((x : X) → (reply x).status < 64) → (said reply found).status < 64
+    → ((x : X) → (reply x).status < 3) → (said reply found).status < 3
 said_below reply (Ok x) below = below x
 said_below reply (Err refusal) below = omega arith
 
 says_below : {X : Type 0} (contents : Option Contents) (reply : X → Reply)
-    (Finds : Contents → Result X Refusal → Type 0) (r : Reply) → ((x : X) → (reply x).status < 64)
-    → Says contents reply Finds r → r.status ≡ 64 → ⊥
-says_below contents reply Finds r below says is =
-    let low : (said reply says.0).status < 64 = said_below reply says.0 below in
+    (Finds : Contents → Result X Refusal → Type 0) (r : Reply) → ((x : X) → (reply x).status < 3)
+    → Says contents reply Finds r → r.status < 3
+says_below contents reply Finds r below says =
+    let low : (said reply says.0).status < 3 = said_below reply says.0 below in
     let same : r.status ≡ (said reply says.0).status = ap (λ (x : Reply). x.status) says.2 in
-    omega (arith, low, same, is)
+    omega (arith, low, same)
+
+status_below : (contents : Option Contents) (command : Command) (r : Reply)
+    → Answers contents (Some command) r → r.status < 3
+status_below contents (check r1cs wtns) r answers =
+    says_below contents checked _ r verdict_below answers
+status_below contents (compile source out options) r answers =
+    says_below contents (compiled out) _ r (λ f. omega arith) answers
+status_below contents (witness source input out options running) r answers =
+    says_below contents (witnessed out) _ r (witnessed_below out) answers
+status_below contents (prove r1cs wtns out options) r answers =
+    says_below contents (proved out) _ r (proved_below out) answers
+status_below contents (public r1cs wtns out) r answers =
+    says_below contents (published out) _ r (published_below out) answers
+status_below contents (audit r1cs publics proof) r answers =
+    says_below contents audited _ r audit_below answers
+status_below contents (generate seed size running) r answers =
+    says_below contents (generated size) _ r (generated_below size) answers
 
 pub usage_alone : (contents : Option Contents) (command : Option Command) (r : Reply)
     → Answers contents command r → r.status ≡ 64 → command ≡ None
 usage_alone contents None r answers is = refl
-usage_alone contents (Some (check r1cs wtns)) r answers is =
-    absurd (says_below contents checked _ r verdict_below answers is)
-usage_alone contents (Some (compile source out options)) r answers is =
-    absurd (says_below contents (compiled out) _ r (λ f. omega arith) answers is)
-usage_alone contents (Some (witness source input out options running)) r answers is =
-    absurd (says_below contents (witnessed out) _ r (witnessed_below out) answers is)
-usage_alone contents (Some (prove r1cs wtns out options)) r answers is =
-    absurd (says_below contents (proved out) _ r (proved_below out) answers is)
-usage_alone contents (Some (public r1cs wtns out)) r answers is =
-    absurd (says_below contents (published out) _ r (published_below out) answers is)
-usage_alone contents (Some (audit r1cs publics proof)) r answers is =
-    absurd (says_below contents audited _ r audit_below answers is)
-usage_alone contents (Some (generate seed size running)) r answers is =
-    absurd (says_below contents (generated size) _ r (generated_below size) answers is)
+usage_alone contents (Some command) r answers is =
+    let low : r.status < 3 = status_below contents command r answers in
+    absurd (omega (arith, low, is))
+
+-- no reply has the status 3
+pub no_fault_status : (contents : Option Contents) (command : Option Command) (r : Reply)
+    → Answers contents command r → r.status ≡ 3 → ⊥
+no_fault_status contents None r answers is =
+    let usage_status : r.status ≡ 64 = ap (λ (x : Reply). x.status) answers in
+    omega (arith, usage_status, is)
+no_fault_status contents (Some command) r answers is =
+    let low : r.status < 3 = status_below contents command r answers in
+    omega (arith, low, is)
+
+-- a run has it only where the store or the sink failed
+pub fault_cause : (command : Option Command) (store : Course Contents) (sink : Course (List ℕ))
+    (exit : ℕ) → Ends command store sink exit → exit ≡ 3 → HasFailed store ⊎ HasFailed sink
+fault_cause command store sink exit end is = elim end [
+  | inl reply ↦ elim reply.2 [
+    | inl given ↦
+        absurd (no_fault_status store.old command reply.0 reply.1 (sym given.status ∙ is))
+    | inr lost ↦ inr lost.failed
+  ]
+  | inr fault ↦ inl fault.failed
+]
+
+pub fault_causes : (command : Option Command) (store : Course Contents) (sink : Course (List ℕ))
+    (result : Result ℕ AllocError) → IfOk result (Ends command store sink)
+    → IfOk result (λ exit. exit ≡ 3 → HasFailed store ⊎ HasFailed sink)
+fault_causes command store sink result ends =
+    IfOk-weaker result (Ends command store sink)
+    (λ exit. exit ≡ 3 → HasFailed store ⊎ HasFailed sink)
+    (λ exit end. fault_cause command store sink exit end) ends
 
 -- no call failed
 unfailed : (before after : ℕ) → before ≡ 0 → after ≡ before → Rose before after → ⊥

@@ -1,6 +1,6 @@
 -- What a source comes to, and what is read as its program's input.
 use Rattle.std.proofs.Common.{◌≡◌, ◌∙◌, ℕ, List, Option, None, Result, Ok, Err, Vec, true, false}
-use Rattle.std.proofs.Common.{refl, sym, ap, subst, inl}
+use Rattle.std.proofs.Common.{refl, sym, ap, subst, inl, inr}
 use Rattle.std.specs.declared.alloc.Global.{Global}
 use Rattle.std.specs.Str.{IsUtf8}
 use Rattle.std.specs.BTreeSet.{contains_text}
@@ -60,13 +60,11 @@ module _ (contents : Option Contents) (source : List ℕ) (options : Options) (f
   stopped_so fault.Missing (Refused r) told is =
       told_on contents (λ files. files source ≡ None)
       (λ files. Compiles files source options (Err r))
-      (λ files none. subst (λ (x : Refusal). Compiles files source options (Err x)) (sym is)
-      (none, refl)) told
+      (λ files none. inl (is, none)) told
   stopped_so (fault.Refused x) (Refused r) told is =
       told_on contents (λ files. IsRefused files (task_of source options) x)
       (λ files. Compiles files source options (Err r))
-      (λ files refused. subst (λ (y : Refusal). Compiles files source options (Err y)) (sym is)
-      refused) told
+      (λ files refused. inr (x, is, refused)) told
   stopped_so fault.Fault (Refused r) told is = absurd is
   stopped_so fault.OutOfMemory (Refused r) told is = absurd is
   stopped_so fault.Fault StoreFailed told is = told

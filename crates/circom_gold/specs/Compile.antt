@@ -1,6 +1,6 @@
 -- The command `compile`: the file of a source's constraints.
-use Rattle.std.specs.Prelude.{◌≡◌, ◌↔◌, ℕ, ◌<◌, List, slice_index, All, Option, Some, None, Result}
-use Rattle.std.specs.Prelude.{Ok, Err}
+use Rattle.std.specs.Prelude.{◌≡◌, ◌↔◌, ◌⊎◌, ℕ, ◌<◌, List, slice_index, All, Option, Some, None}
+use Rattle.std.specs.Prelude.{Result, Ok, Err}
 use Rattle.out_io.specs.Contents.{Contents}
 use Rattle.gold_field.specs.Form.{Holds}
 use Rattle.iden_files.specs.File.{File}
@@ -10,9 +10,9 @@ use Rattle.cir_meaning.specs.Compile.{Satisfies}
 use Rattle.cir_compile.specs.Compiled.{Task, IsCompiled, IsRefused}
 use Rattle.cir_compile.specs.Written.{AreValues}
 use Rattle.circom_words.specs.Words.{Options}
+use Rattle.cir_ast.specs.declared.refusal.Refusal.{Refusal as SourceRefusal}
 use Rattle.circom_words.specs.declared.answer.Refusal.{Refusal}
-use Rattle.circom_words.specs.declared.answer.Refusal.TheVariants.{NoSuchFile, BadFile, BadSource}
-use Rattle.circom_words.specs.declared.answer.Refusal.TheVariants.{BadInput}
+use Rattle.circom_words.specs.declared.answer.Refusal.TheVariants.{NoSuchFile, BadSource}
 
 -- the source is compiled with these options
 abbrev pub task_of : List ℕ → Options → Task
@@ -22,16 +22,17 @@ task_of source options = record {
   level = options.level;
 }
 
+-- there is no source under the name, or it is refused
+abbrev pub IsUncompiled : Contents → List ℕ → Options → Refusal → Type 0
+IsUncompiled files source options refusal =
+    ((refusal ≡ NoSuchFile source) × (files source ≡ None))
+    ⊎ ((r : SourceRefusal) × (refusal ≡ BadSource r) × IsRefused files (task_of source options) r)
+
 -- what the source under the name, with all that it includes, compiles to: the file of its
--- constraints; or there is no source under the name, or the refusal of the source
+-- constraints, or why there is none
 abbrev pub Compiles : Contents → List ℕ → Options → Result File Refusal → Type 0
 Compiles files source options (Ok f) = IsCompiled files (task_of source options) f
-Compiles files source options (Err (NoSuchFile missing)) =
-    (files source ≡ None) × (missing ≡ source)
-Compiles files source options (Err (BadSource refusal)) =
-    IsRefused files (task_of source options) refusal
-Compiles files source options (Err (BadFile name cause offset)) = ⊥
-Compiles files source options (Err (BadInput what)) = ⊥
+Compiles files source options (Err refusal) = IsUncompiled files source options refusal
 
 -- The bytes are read as the file that the source under the name, with all that it includes,
 -- compiles to. Values of its wires satisfy its constraints exactly when they extend to an

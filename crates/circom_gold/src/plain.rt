@@ -65,7 +65,7 @@ pub fn run_command<R: Threads + AllocGlobal + Sync, S: Store, K: Sink>(
         (S.contents store.old) (S.contents store.new)) }
 
     // `audit` has the status 0, and says `accepted`, exactly where the files hold what is accepted;
-    // else the status is 3, which comes only where a call failed.
+    // or the status is 3.
     ensures audited { (r1cs publics proof : List ℕ)
         → plain_command_of (texts words.now) ≡ Some (audit r1cs publics proof)
         → IfOk result (λ exit. (exit ≡ 3) ⊎ Told (S.contents store.old)
@@ -81,7 +81,7 @@ pub fn run_command<R: Threads + AllocGlobal + Sync, S: Store, K: Sink>(
     ensures only_usage { IfOk result
         (λ exit. exit ≡ 64 → plain_command_of (texts words.now) ≡ None) }
 
-    // The counts of faults never fall, and stand still where no call fails.
+    // The counts of faults never fall, and stand still in a store or a sink that never fails.
     ensures store { Counting (S.faults store.old) (S.faults store.new)
         (S.never_fails store.old) (S.never_fails store.new) }
     ensures sink { Counting (K.faults out.old) (K.faults out.new)

@@ -54,6 +54,10 @@ pub fn run<R: Threads + Wait + AllocGlobal + Sync, S: Store, K: Sink>(
         (S.faults store.old) (S.faults store.new))
         (course (K.contents out.old) (K.contents out.new) (K.faults out.old) (K.faults out.new)) }
 
+    // The status is 3 only where the store or the sink failed: its count of faults rose.
+    ensures fault { IfOk result (λ exit. exit ≡ 3 → Rose (S.faults store.old) (S.faults store.new)
+        ⊎ Rose (K.faults out.old) (K.faults out.new)) }
+
     // `compile` with the status 0 leaves under OUT bytes that are read as the file of constraints
     // that the source compiles to. Values of its wires satisfy them exactly when they extend to an
     // assignment that satisfies the source: the value of each wire is that of the signal that its
@@ -74,8 +78,7 @@ pub fn run<R: Threads + Wait + AllocGlobal + Sync, S: Store, K: Sink>(
         (S.contents store.old) (S.contents store.new)) }
 
     // `audit` has the status 0, and says `accepted`, exactly where the files hold what is accepted;
-    // else the status is 3, which comes only where a call failed. Where the store doesn't tell what
-    // it holds, this is so of some files.
+    // or the status is 3. Where the store doesn't tell what it holds, this is so of some files.
     ensures audited { (r1cs publics proof : List ℕ)
         → command_of (texts words.now) ≡ Some (audit r1cs publics proof)
         → IfOk result (λ exit. (exit ≡ 3) ⊎ Told (S.contents store.old)
@@ -92,8 +95,8 @@ pub fn run<R: Threads + Wait + AllocGlobal + Sync, S: Store, K: Sink>(
         (S.contents store.old) (S.contents store.new)) }
 
     // Its status is 0 exactly where the source compiles, the input is read, and the run of the
-    // source's program doesn't stop; else it is 3, which comes only where a call failed. This and
-    // the next clause speak of stores that tell what they hold.
+    // source's program doesn't stop; or it is 3. This and the next clause speak of stores that tell
+    // what they hold.
     ensures has_witness { (source input out_name : List ℕ) (options : Options)
         (running : RunOptions)
         → command_of (texts words.now) ≡ Some (witness source input out_name options running)
@@ -118,7 +121,7 @@ pub fn run<R: Threads + Wait + AllocGlobal + Sync, S: Store, K: Sink>(
         × (S.faults store.new ≡ S.faults store.old) }
     ensures only_usage { IfOk result (λ exit. exit ≡ 64 → command_of (texts words.now) ≡ None) }
 
-    // The counts of faults never fall, and stand still where no call fails.
+    // The counts of faults never fall, and stand still in a store or a sink that never fails.
     ensures store { Counting (S.faults store.old) (S.faults store.new)
         (S.never_fails store.old) (S.never_fails store.new) }
     ensures sink { Counting (K.faults out.old) (K.faults out.new)
@@ -155,6 +158,9 @@ pub fn run_plain<R: Threads + AllocGlobal + Sync, S: Store, K: Sink>(
         (course (S.contents store.old) (S.contents store.new)
         (S.faults store.old) (S.faults store.new))
         (course (K.contents out.old) (K.contents out.new) (K.faults out.old) (K.faults out.new)) }
+    ensures fault { IfStatus result (λ exit. exit ≡ 3
+        → Rose (S.faults store.old) (S.faults store.new)
+        ⊎ Rose (K.faults out.old) (K.faults out.new)) }
     ensures compiled { (source out_name : List ℕ) (options : Options)
         → command_of (texts words.now) ≡ Some (compile source out_name options)
         → IfStatus result (λ exit. exit ≡ 0 → Changes
@@ -189,7 +195,7 @@ pub fn run_plain<R: Threads + AllocGlobal + Sync, S: Store, K: Sink>(
     }
 }
 
-/// `run` over memory where no call fails: the reply is given, and the exit status is never 3.
+/// `run` over memory where no call fails: the reply is given, so the exit status is never 3.
 pub fn run_in_memory<R: Threads + Wait + AllocGlobal + Sync>(
     rt: &R,
     alloc: Global,

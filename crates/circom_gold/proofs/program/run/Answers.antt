@@ -2,6 +2,7 @@ use Rattle.std.proofs.Common.{◌∙◌, List, ℕ}
 use Rattle.out_io.specs.Calls.{Course, course}
 use Rattle.out_io.specs.Contents.{Contents}
 use Rattle.circom_words.specs.Words.{audit, compile, prove, texts, witness}
+use Rattle.circom_gold.proofs.Replies.{fault_causes}
 use Rattle.circom_gold.proofs.RunReplies.{ended_so, only_so, plain_so, runs_only, runs_so, stays_so}
 use Rattle.circom_gold.proofs.RunReplies.{waits_only}
 use Rattle.circom_gold.proofs.program.run.Goals as goal
@@ -29,6 +30,16 @@ returns-then-is_named-clause-kept g c =
     let same = runs_so (texts c.args.words.now) c.is_named.result c.is_named.ensures
     c.if-is_named.true in
     stays_so same store sink c.run_circuit.ensures.kept
+
+pub returns-then-is_named-clause-fault : goal.returns-then-is_named-clause-fault
+returns-then-is_named-clause-fault g c =
+    let store : Course Contents =
+    course (g.S.Store.contents c.args.store.now) (g.S.Store.contents c.run_circuit.new.store)
+    (g.S.Store.faults c.args.store.now) (g.S.Store.faults c.run_circuit.new.store) in
+    let sink : Course (List ℕ) =
+    course (g.K.Sink.contents c.args.out.now) (g.K.Sink.contents c.run_circuit.new.out)
+    (g.K.Sink.faults c.args.out.now) (g.K.Sink.faults c.run_circuit.new.out) in
+    fault_causes _ store sink c.run_circuit.result c.run_circuit.ensures.ended
 
 pub returns-then-is_named-clause-compiled : goal.returns-then-is_named-clause-compiled
 returns-then-is_named-clause-compiled g c = λ source out options is.
@@ -107,6 +118,16 @@ returns-else-is_named-clause-kept g c =
     let same = plain_so (texts c.args.words.now) c.is_named.result c.is_named.ensures
     c.if-is_named.false in
     stays_so same store sink c.run_command.ensures.kept
+
+pub returns-else-is_named-clause-fault : goal.returns-else-is_named-clause-fault
+returns-else-is_named-clause-fault g c =
+    let store : Course Contents =
+    course (g.S.Store.contents c.args.store.now) (g.S.Store.contents c.run_command.new.store)
+    (g.S.Store.faults c.args.store.now) (g.S.Store.faults c.run_command.new.store) in
+    let sink : Course (List ℕ) =
+    course (g.K.Sink.contents c.args.out.now) (g.K.Sink.contents c.run_command.new.out)
+    (g.K.Sink.faults c.args.out.now) (g.K.Sink.faults c.run_command.new.out) in
+    fault_causes _ store sink c.run_command.result c.run_command.ensures.ended
 
 pub returns-else-is_named-clause-compiled : goal.returns-else-is_named-clause-compiled
 returns-else-is_named-clause-compiled g c = λ source out options is.

@@ -2,6 +2,7 @@ use Rattle.std.proofs.Common.{◌∙◌, List, ℕ, sym}
 use Rattle.out_io.specs.Calls.{Course, course}
 use Rattle.out_io.specs.Contents.{Contents}
 use Rattle.circom_words.specs.Words.{texts}
+use Rattle.circom_gold.proofs.Replies.{fault_cause}
 use Rattle.circom_gold.proofs.RunReplies.{ends_so, plain_so, stays_so}
 use Rattle.circom_gold.proofs.program.run_plain.Goals as goal
 
@@ -28,6 +29,16 @@ returns-in-Ok-clause-kept g c =
     let same = plain_so (texts c.args.words.now) c.is_named.result c.is_named.ensures
     c.if-is_named.false in
     stays_so same store sink c.in-Ok.ensures.kept
+
+pub returns-in-Ok-clause-fault : goal.returns-in-Ok-clause-fault
+returns-in-Ok-clause-fault g c =
+    let store : Course Contents =
+    course (g.S.Store.contents c.args.store.now) (g.S.Store.contents c.run_command.new.store)
+    (g.S.Store.faults c.args.store.now) (g.S.Store.faults c.run_command.new.store) in
+    let sink : Course (List ℕ) =
+    course (g.K.Sink.contents c.args.out.now) (g.K.Sink.contents c.run_command.new.out)
+    (g.K.Sink.faults c.args.out.now) (g.K.Sink.faults c.run_command.new.out) in
+    fault_cause _ store sink c.in-Ok.status c.in-Ok.ensures.ended
 
 pub returns-in-Ok-clause-compiled : goal.returns-in-Ok-clause-compiled
 returns-in-Ok-clause-compiled g c = λ source out options is.
