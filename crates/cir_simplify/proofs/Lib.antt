@@ -6,6 +6,7 @@ pub mod Turning
 pub mod Starting
 pub mod Holes
 pub mod Wiring
+pub mod Unnamed
 pub mod Law
 pub mod Ends
 pub mod Over

@@ -46,9 +46,9 @@ root_order (suc e) l k pos low =
     no_period e P (root_of (suc e)) (lit< tt) (root_half e (omega arith)) k pos low
 
 -- a turn of the loop of `root`
-pub square_turn : (q i r : ℕ) → i < 32 → squared q (32 - (i + 1)) ((r * r) % q)
+pub a_turn : (q i r : ℕ) → i < 32 → squared q (32 - (i + 1)) ((r * r) % q)
     ≡ squared q (32 - i) r
-square_turn q i r l =
+a_turn q i r l =
     let next : 32 - i ≡ suc (32 - (i + 1)) = omega arith in sym (ap (λ (y : ℕ). squared q y r) next)
 
 -- x ^ (2 ^ n - 1), by squarings

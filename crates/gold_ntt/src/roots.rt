@@ -8,7 +8,7 @@ use gold_field::Gold;
 pub const ROOT: u64 = 1753635133440165772;
 
 /// The root of unity of order `2 ^ e`.
-#[tactic(auto, using(crate::proofs::RootLaws::square_turn), unfolding(crate::specs::Transform::root_of))]
+#[tactic(auto, using(crate::proofs::RootLaws::a_turn), unfolding(crate::specs::Transform::root_of))]
 pub fn root(e: u32) -> Gold
     requires { e ≤ 32 }
     ensures value { result ≡ root_of e }

@@ -1,4 +1,4 @@
-use Rattle.std.proofs.Common.{◌≡◌, ℕ, ◌+◌, ◌-◌, ◌<◌, ◌≤◌, suc, List, sum_by, Some, None, Option}
+use Rattle.std.proofs.Common.{◌≡◌, ℕ, ◌+◌, ◌-◌, ◌<◌, ◌≤◌, sum_by, Option}
 use Rattle.std.proofs.Common.{Err, arith, ap, sym, subst, ◌∙◌}
 use Rattle.cir_simplify.specs.declared.types.Solved.{Solved}
 use Rattle.cir_simplify.specs.Shape.{terms_in}
