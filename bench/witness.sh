@@ -1,8 +1,8 @@
 #!/bin/sh
 # Times what computes witnesses, with 1 and with 4 workers, and prints the least seconds of the runs by the clock.
 #
-#   links     `circom_gold generate 7 SIZE`: SIZE links side by side, compiled and run. What one link takes
-#             should stay the same as the sizes grow. Its most memory stands behind.
+#   links     `circom_gold generate 7 SIZE`: SIZE links side by side, compiled and run. What one
+#             link takes should stay the same as the sizes grow. Its most memory stands behind.
 #   blocks    `circom_gold witness` of SIZE blocks of 512 bits that are hashed by SHA-256
 #
 # usage: bench/witness.sh [KIND] [SIZE ..]      (RUNS=5 sets the runs)
