@@ -6,20 +6,40 @@ use items::Items;
 use wit_code::Stop;
 
 /// A file of constraints, with its bytes, and values for its wires.
-#[derive(Drop)]
 pub struct Witness {
     pub bytes: Items<u8>,
     pub file: R1cs,
     pub values: Items<Gold>,
 }
 
+// Written out, so that the proof of an owner sees one call and not the drop of each part.
+impl Drop for Witness {
+    fn drop(self) {
+        let Witness {
+            bytes: _bytes,
+            file: _file,
+            values: _values,
+        } = self;
+    }
+}
+
 /// What is offered as a proof for a file of constraints, with its bytes, and public values.
-#[derive(Drop)]
 pub struct Offer {
     pub bytes: Items<u8>,
     pub file: R1cs,
     pub publics: Items<Gold>,
     pub proof: Items<u8>,
+}
+
+impl Drop for Offer {
+    fn drop(self) {
+        let Offer {
+            bytes: _bytes,
+            file: _file,
+            publics: _publics,
+            proof: _proof,
+        } = self;
+    }
 }
 
 /// The bytes of the proof that is made of a witness, or what is wrong with its values.

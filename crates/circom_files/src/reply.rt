@@ -17,11 +17,21 @@ use wit_input::write_publics;
 
 /// What the program answers: the exit status, all that it puts, and the file that it writes before,
 /// if any.
-#[derive(Drop)]
 pub struct Reply<'w> {
     pub status: u8,
     pub text: Items<u8>,
     pub file: Option<NewFile<'w>>,
+}
+
+// Written out, so that the proof of an owner sees one call and not the drop of each part.
+impl Drop for Reply<'_> {
+    fn drop(self) {
+        let Reply {
+            status: _status,
+            text: _text,
+            file: _file,
+        } = self;
+    }
 }
 
 /// A file that is written.

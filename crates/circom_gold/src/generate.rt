@@ -104,13 +104,9 @@ fn generated_of<R: Threads + Wait + AllocGlobal + Sync>(
         → All (λ n. n < P) inputs
         → IfOk result (IsGeneratedRun (program_of coded) coded.file running.fuel inputs) }
 {
-    let Coded {
-        loaded,
-        circuit,
-        file,
-        code,
-    } = coded;
+    let (code, built) = coded.take_code();
     let end = run_code(rt, code, start, running)?;
-    let files = loaded.program.files.as_slice();
-    generated_by(alloc, files, circuit.instances.as_slice(), &file, end)
+    let files = built.loaded.program.files.as_slice();
+    let instances = built.circuit.instances.as_slice();
+    generated_by(alloc, files, instances, &built.file, end)
 }

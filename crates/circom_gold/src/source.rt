@@ -1,6 +1,6 @@
 //! What a source comes to before it is run.
 
-ghost use Rattle.std.specs.Prelude.{ℕ, List, IfOk};
+ghost use Rattle.std.specs.Prelude.{◌≡◌, ℕ, List, IfOk};
 ghost use Rattle.out_io.specs.Calls.{OnlyReads};
 ghost use Rattle.out_io.specs.Faults.{Rose};
 ghost use Rattle.cir_ast.specs.Program.{bare_program};
@@ -32,12 +32,64 @@ const MOST_INPUTS: usize = 1 << 32;
 
 /// A loaded program, what its main component compiles to, the file of its constraints, and the code
 /// of its circuit.
-#[derive(Drop)]
 pub struct Coded {
     pub loaded: Loaded,
     pub circuit: Circuit,
     pub file: R1cs,
     pub code: CircuitCode,
+}
+
+// Written out, so that the proof of an owner sees one call and not the drop of each part.
+impl Drop for Coded {
+    fn drop(self) {
+        let Coded {
+            loaded: _loaded,
+            circuit: _circuit,
+            file: _file,
+            code: _code,
+        } = self;
+    }
+}
+
+/// The same without the code.
+pub struct Built {
+    pub loaded: Loaded,
+    pub circuit: Circuit,
+    pub file: R1cs,
+}
+
+// Written out for the same reason.
+impl Drop for Built {
+    fn drop(self) {
+        let Built {
+            loaded: _loaded,
+            circuit: _circuit,
+            file: _file,
+        } = self;
+    }
+}
+
+impl Coded {
+    /// The code of the circuit, and the rest.
+    pub fn take_code(self) -> (CircuitCode, Built)
+        ensures code { result.0 ≡ self.code }
+        ensures loaded { result.1.loaded ≡ self.loaded }
+        ensures circuit { result.1.circuit ≡ self.circuit }
+        ensures file { result.1.file ≡ self.file }
+    {
+        let Coded {
+            loaded,
+            circuit,
+            file,
+            code,
+        } = self;
+        let built = Built {
+            loaded,
+            circuit,
+            file,
+        };
+        (code, built)
+    }
 }
 
 /// What the source under the name comes to.

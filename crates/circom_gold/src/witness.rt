@@ -93,13 +93,9 @@ fn witness_of<R: Threads + Wait + AllocGlobal + Sync>(
         → IfOk result (IsRunOf (program_of coded) coded.file running.fuel inputs) }
     ensures few { IfOk result (λ r. length (values_of r) ≤ most_wires) }
 {
-    let Coded {
-        loaded,
-        circuit,
-        file,
-        code,
-    } = coded;
+    let (code, built) = coded.take_code();
     let end = run_code(rt, code, start, running)?;
-    let files = loaded.program.files.as_slice();
-    ran_by(alloc, files, circuit.instances.as_slice(), &file, end)
+    let files = built.loaded.program.files.as_slice();
+    let instances = built.circuit.instances.as_slice();
+    ran_by(alloc, files, instances, &built.file, end)
 }
