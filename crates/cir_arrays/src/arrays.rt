@@ -11,10 +11,25 @@ use std::alloc::{AllocError, Global};
 use std::mem::replace;
 
 /// A number, or an array of some dimensions.
-#[derive(Drop)]
 pub enum Datum {
     Number(Value),
     Array(Array),
+}
+
+// Written out, so that the proof of an owner sees one call and not the drop of each part.
+impl Drop for Datum {
+    fn drop(self) {
+        match self {
+            Datum::Number(_number) => (),
+            Datum::Array(_array) => (),
+        }
+    }
+}
+
+/// A number, or the items of an array without its dimensions.
+pub enum Contents {
+    Number(Value),
+    Items(Vec<Value>),
 }
 
 /// An array with one dimension or more, and its items in row order. One that is too large is never
@@ -39,7 +54,7 @@ impl Datum {
     ghost use Rattle.cir_meaning.specs.Places.{numbers_from};
     ghost use Rattle.cir_meaning.specs.Writing.{written_datum};
     ghost use Rattle.cir_arrays.specs.Reached.{IsReach};
-    ghost use Rattle.cir_arrays.specs.Shown.{datum_of, filling_of};
+    ghost use Rattle.cir_arrays.specs.Shown.{contents_of, datum_of, filling_of};
 
     /// The number 0.
     pub fn zero() -> Datum
@@ -120,6 +135,16 @@ impl Datum {
         match self.item(place) {
             Some(v) => v.copy(alloc),
             None => Ok(Value::Known(Gold::ZERO)),
+        }
+    }
+
+    /// The number or the items, given up.
+    pub fn into_contents(self) -> Contents
+        ensures { contents_of result ≡ (datum_of self).items }
+    {
+        match self {
+            Datum::Number(v) => Contents::Number(v),
+            Datum::Array(Array { dims: _, items }) => Contents::Items(items),
         }
     }
 

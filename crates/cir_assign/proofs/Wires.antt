@@ -6,8 +6,9 @@ use Rattle.std.specs.Prelude.{slice_get, unwrap_or, not}
 use Rattle.std.proofs.lemmas.List.{drop_all, drop_more, drop-set-lt}
 use Rattle.cir_ast.specs.declared.operators.Arrow.{Arrow}
 use Rattle.cir_ast.specs.declared.operators.Arrow.TheVariants.{Assign as AssignArrow}
+use Rattle.cir_ast.specs.declared.operators.Arrow.TheVariants.{Constrain as ConstrainArrow}
 use Rattle.cir_ast.specs.declared.refusal.Kind.TheVariants.{ReadBeforeWrite, SecondWrite}
-use Rattle.cir_lc.specs.Number.{signal}
+use Rattle.cir_lc.specs.Number.{Number, signal}
 use Rattle.cir_values.specs.declared.value.Value.{Value as CodeValue}
 use Rattle.cir_values.specs.Meant.{meant}
 use Rattle.cir_meaning.specs.Tried.{Where, Tried, next, found, needed, refused}
@@ -18,7 +19,7 @@ use Rattle.cir_meaning.specs.Source.{Equation}
 use Rattle.cir_meaning.specs.Frame.{SignalEntry, State, Context, entry_at, in_frame, is_written}
 use Rattle.cir_meaning.specs.Frame.{put_at}
 use Rattle.cir_meaning.specs.Writing.{Target, marked, signals_of, with_signals, write_element}
-use Rattle.cir_meaning.specs.Writing.{write_elements, constrained_by}
+use Rattle.cir_meaning.specs.Writing.{write_elements, constrained, constrained_by}
 use Rattle.cir_frame.specs.declared.signal.SignalEntry.{SignalEntry as CodeEntry}
 use Rattle.cir_frame.specs.declared.frame.Part.{Part as CodePart}
 use Rattle.cir_frame.specs.declared.frame.Frame.{Frame as CodeFrame}
@@ -71,6 +72,18 @@ pub element_written : (k : Context) (w : Where) (t : Target) (place : ℕ) (v : 
 element_written k w t place v s after e h =
     ap (λ z. next z (λ (e, s1). constrained_by k w AssignArrow
     (Linear (signal (e.first + place))) v s1)) h
+
+pub element_constrained : (k : Context) (w : Where) (t : Target) (place : ℕ) (v : Value)
+    (s after : State) (e : SignalEntry) (first number : ℕ) (f : Number)
+    → write_element w t place s ≡ Ok (e, after) → e.first ≡ first → number ≡ first + place
+    → f ≡ signal number
+    → element k w ConstrainArrow t place v s ≡ constrained k w (Linear f) v after
+element_constrained k w t place v s after e first number f h a b is =
+    let same : e.first + place ≡ number = ap (λ (n : ℕ). n + place) a ∙ sym b in
+    ap (λ z. next z (λ (e, s1). constrained_by k w ConstrainArrow
+    (Linear (signal (e.first + place))) v s1)) h
+    ∙ ap (λ (n : ℕ). constrained k w (Linear (signal n)) v after) same
+    ∙ ap (λ (g : Number). constrained k w (Linear g) v after) (sym is)
 
 -- the marks of a signal that is too large
 entry_marks : (es : List (Option CodeEntry)) (n : ℕ) (e : SignalEntry)

@@ -1,5 +1,5 @@
 //! Assignments to signals: elements are written once, and may be constrained.
-ghost use Rattle.std.specs.Prelude.{◌≡◌, ◌+◌, ℕ, List, drop, map, false, IfOk, OnOk};
+ghost use Rattle.std.specs.Prelude.{◌≡◌, ◌+◌, ℕ, List, drop, map, false, IfOk, Ok, OnOk};
 ghost use Rattle.cir_ast.specs.Tree.{as_accessors, bare, Left as LeftAssign};
 ghost use Rattle.cir_values.specs.Meant.{meant};
 ghost use Rattle.cir_lc.specs.Number.{signal};
@@ -13,8 +13,10 @@ ghost use Rattle.cir_meaning.specs.Source.{Equation};
 ghost use Rattle.cir_meaning.specs.Compile.{group_size};
 ghost use Rattle.cir_meaning.specs.Places.{numbers_from};
 ghost use Rattle.cir_meaning.specs.Values.{Linear as LinearValue};
-ghost use Rattle.cir_meaning.specs.Arrays.{Reach as AnyReach};
+ghost use Rattle.cir_meaning.specs.Arrays.{Reach as AnyReach, Whole};
 ghost use Rattle.cir_meaning.specs.Frame as M;
+ghost use Rattle.cir_meaning.specs.Frame.{State, uncounted};
+ghost use Rattle.cir_meaning.specs.Evaluate as E;
 ghost use Rattle.cir_meaning.specs.Writing as W;
 ghost use Rattle.cir_meaning.specs.Steps.{signal_cost};
 ghost use Rattle.cir_meaning.specs.Simple as S;
@@ -24,7 +26,7 @@ ghost use Rattle.cir_assign.specs.Leads.{Leads};
 ghost use Rattle.cir_assign.specs.Finds.{Finds, IsFound, IsMember};
 
 use crate::record::constrain;
-use cir_arrays::{Array, Datum, Fault, same_dims};
+use cir_arrays::{Contents, Datum, Fault, same_dims};
 use cir_ast::program::{Accessor, Arrow, Expr, Meant, Spot};
 use cir_ast::{Kind, Text};
 use cir_cost::{Cost, stepped};
@@ -59,8 +61,36 @@ pub fn set_signal<C: Fn(Spot, u32, Vec<Datum>, &mut World) -> Result<Datum, Faul
         (bare w.now.value.now)) w.now.meant (as_accessors w.now.accessors.now) w.now.arrow
         (bare w.now.value.now) (state_of frame.old world.old qs)) }
 {
-    let value = datum(here, w.value, frame, world)?;
+    let mut value = datum(here, w.value, frame, world)?;
     let target = target_in(here, w.meant, w.accessors, frame, world)?;
+    set_elements(here, w, &target, &mut value, frame, world)
+}
+
+/// The elements that are found get the value, if it has their shape. It is taken from its place.
+fn set_elements<C: Fn(Spot, u32, Vec<Datum>, &mut World) -> Result<Datum, Fault>>(
+    here: &Here<C>,
+    w: &Wiring,
+    target: &Target,
+    value: &mut Datum,
+    frame: &mut Frame,
+    world: &mut World,
+) -> Result<(), Fault>
+    requires calls { C.IsAlwaysCallable here.now.context.now.call.now }
+    ensures { (m : Means (C.post here.now.context.now.call.now) here.now.context.now)
+        (name : List ℕ) (qs : List Equation) (s s1 : State) (x : W.Target)
+        → here.now.shaded ≡ false
+        → E.value_in (context_at here.now m) (where_at here.now) false Whole
+        (bare w.now.value.now) s ≡ Ok (datum_of value.old, s1)
+        → W.target_in (context_at here.now m) (where_at here.now) w.now.meant
+        (as_accessors w.now.accessors.now) s1 ≡ Ok (x, state_of frame.old world.old qs)
+        → IsFound (frame_of frame.old (counts_of world.old.added)) target.now x
+        → uncounted (state_of frame.old world.old qs) ≡ uncounted s
+        → Leads qs world.old frame.new world.new result
+        (S.set_signal (context_at here.now m) (where_at here.now)
+        (LeftAssign name w.now.meant (as_accessors w.now.accessors.now) w.now.arrow
+        (bare w.now.value.now)) w.now.meant (as_accessors w.now.accessors.now) w.now.arrow
+        (bare w.now.value.now) s) }
+{
     if !same_dims(target.reach.left.as_slice(), value.dims()) {
         return Err(here.refused(Kind::ShapeDiffers));
     }
@@ -69,7 +99,8 @@ pub fn set_signal<C: Fn(Spot, u32, Vec<Datum>, &mut World) -> Result<Datum, Faul
         return Ok(());
     }
     let cost = wiring_cost(here, w, frame, world)?;
-    write_signal(here, w.arrow, &target, value, frame, world)?;
+    let value = replace(value, Datum::Number(Value::Opaque));
+    write_signal(here, w.arrow, target, value, frame, world)?;
     stepped(here, cost, 0, world)
 }
 
@@ -200,14 +231,14 @@ pub fn write_signal<C>(
         (state_of frame.old world.old qs)) }
 {
     let (first, count) = target.run();
-    match value {
-        Datum::Number(v) => {
+    match value.into_contents() {
+        Contents::Number(mut v) => {
             if count > 0 {
-                return wire(here, arrow, target, first, v, frame, world);
+                return wire(here, arrow, target, first, &mut v, frame, world);
             }
             Ok(())
         }
-        Datum::Array(Array { dims: _, items }) => {
+        Contents::Items(items) => {
             wire_all(here, arrow, target, first, count, items, frame, world)
         }
     }
@@ -229,19 +260,19 @@ fn wire_all<C>(
         (numbers_from first count) (map meant items.items) (state_of frame.old world.old qs)) }
 {
     for at in 0..items.len().min(count as usize) {
-        let v = replace(&mut items[at], Value::Opaque);
         let place = place_at(first, at as u64)?;
-        wire(here, arrow, target, place, v, frame, world)?;
+        wire(here, arrow, target, place, &mut items[at], frame, world)?;
     }
     Ok(())
 }
 
+/// The value is taken from its place only if it is constrained.
 fn wire<C>(
     here: &Here<C>,
     arrow: Arrow,
     target: &Target,
     place: u64,
-    v: Value,
+    v: &mut Value,
     frame: &mut Frame,
     world: &mut World,
 ) -> Result<(), Fault>
@@ -249,7 +280,7 @@ fn wire<C>(
         → Leads qs world.old frame.new world.new result
         (next (W.write_element (where_at here.now) (target_by target.now r) place
         (state_of frame.old world.old qs)) (λ (e, s). W.constrained_by k (where_at here.now) arrow
-        (LinearValue (signal (e.first + place))) (meant v) s)) }
+        (LinearValue (signal (e.first + place))) (meant v.old) s)) }
 {
     let first = write_element(here.alloc(), &here.site(), target, place, frame)?;
     match arrow {
@@ -257,7 +288,7 @@ fn wire<C>(
         Arrow::Constrain => {
             let number = number_at(first, place)?;
             let left = signal_form(here.alloc(), number)?;
-            constrain(here, Value::Linear(left), v, world)
+            constrain(here, Value::Linear(left), replace(v, Value::Opaque), world)
         }
     }
 }

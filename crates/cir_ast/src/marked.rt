@@ -117,23 +117,50 @@ pub enum StatementForm<S, N> {
 }
 
 /// What the head of a `for` begins with.
-#[derive(Drop)]
 pub struct First<S, N> {
     pub spot: S,
     pub form: FirstForm<N>,
 }
 
-#[derive(Drop)]
+// Written out, so that the proof of an owner sees one call and not the drop of each part.
+impl<S: Drop, N: Drop> Drop for First<S, N> {
+    fn drop(self) {
+        let First {
+            spot: _spot,
+            form: _form,
+        } = self;
+    }
+}
+
 pub enum FirstForm<N> {
     Vars(Vars<N>),
     Assign(Assign<N>),
 }
 
+// Written out for the same reason.
+impl<N: Drop> Drop for FirstForm<N> {
+    fn drop(self) {
+        match self {
+            FirstForm::Vars(_value) => (),
+            FirstForm::Assign(_value) => (),
+        }
+    }
+}
+
 /// What the head of a `for` ends with.
-#[derive(Drop)]
 pub struct Step<S, N> {
     pub spot: S,
     pub assign: Assign<N>,
+}
+
+// Written out for the same reason.
+impl<S: Drop, N: Drop> Drop for Step<S, N> {
+    fn drop(self) {
+        let Step {
+            spot: _spot,
+            assign: _assign,
+        } = self;
+    }
 }
 
 #[derive(Drop)]
@@ -143,7 +170,6 @@ pub enum LogArgument<N> {
     Value(Expr<N>),
 }
 
-#[derive(Drop)]
 pub enum Simple<N> {
     Vars(Vars<N>),
     Signals(Signals<N>),
@@ -161,10 +187,35 @@ pub enum Simple<N> {
     Anonymous(Box<Anonymous<N>>),
 }
 
+// Written out for the same reason.
+impl<N: Drop> Drop for Simple<N> {
+    fn drop(self) {
+        match self {
+            Simple::Vars(_value) => (),
+            Simple::Signals(_value) => (),
+            Simple::Components(_value) => (),
+            Simple::Assign(_value) => (),
+            Simple::Constrain(_first, _second) => (),
+            Simple::Right(_first, _second, _third) => (),
+            Simple::TargetLeft(_first, _second, _third) => (),
+            Simple::TargetRight(_first, _second, _third) => (),
+            Simple::Anonymous(_value) => (),
+        }
+    }
+}
+
 /// `var` and one or more variables.
-#[derive(Drop)]
 pub struct Vars<N> {
     pub variables: Items<DeclaredVariable<N>>,
+}
+
+// Written out for the same reason.
+impl<N: Drop> Drop for Vars<N> {
+    fn drop(self) {
+        let Vars {
+            variables: _variables,
+        } = self;
+    }
 }
 
 /// `name[dimension]..`, or `name[dimension].. = value`
@@ -214,7 +265,6 @@ pub struct DeclaredComponent<N> {
     pub dimensions: Items<Expr<N>>,
 }
 
-#[derive(Drop)]
 pub enum Assign<N> {
     /// `place = value`
     Set(Place<N>, Expr<N>),
@@ -226,6 +276,19 @@ pub enum Assign<N> {
     Increment(Place<N>),
     /// `place--`
     Decrement(Place<N>),
+}
+
+// Written out for the same reason.
+impl<N: Drop> Drop for Assign<N> {
+    fn drop(self) {
+        match self {
+            Assign::Set(_first, _second) => (),
+            Assign::Compound(_first, _second, _third) => (),
+            Assign::Left(_first, _second, _third) => (),
+            Assign::Increment(_value) => (),
+            Assign::Decrement(_value) => (),
+        }
+    }
 }
 
 /// What a tuple or `_` receives.

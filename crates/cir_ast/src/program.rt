@@ -37,7 +37,6 @@ impl Blank for Meant {
 }
 
 /// The files in the order of loading, and their definitions in that order.
-#[derive(Drop)]
 pub struct Program {
     pub files: Items<Text>,
     pub templates: Items<Template>,
@@ -45,8 +44,19 @@ pub struct Program {
     pub mains: Items<Main>,
 }
 
+// Written out, so that the proof of an owner sees one call and not the drop of each part.
+impl Drop for Program {
+    fn drop(self) {
+        let Program {
+            files: _files,
+            templates: _templates,
+            functions: _functions,
+            mains: _mains,
+        } = self;
+    }
+}
+
 /// `template name(parameters) { .. }`
-#[derive(Drop)]
 pub struct Template {
     /// The place of its file in the program's list.
     pub file: u32,
@@ -64,8 +74,24 @@ pub struct Template {
     pub body: Block,
 }
 
+// Written out for the same reason.
+impl Drop for Template {
+    fn drop(self) {
+        let Template {
+            file: _file,
+            spot: _spot,
+            parallel: _parallel,
+            name: _name,
+            parameters: _parameters,
+            variables: _variables,
+            signals: _signals,
+            components: _components,
+            body: _body,
+        } = self;
+    }
+}
+
 /// `function name(parameters) { .. }`
-#[derive(Drop)]
 pub struct Function {
     /// The place of its file in the program's list.
     pub file: u32,
@@ -78,8 +104,21 @@ pub struct Function {
     pub body: Block,
 }
 
+// Written out for the same reason.
+impl Drop for Function {
+    fn drop(self) {
+        let Function {
+            file: _file,
+            spot: _spot,
+            name: _name,
+            parameters: _parameters,
+            variables: _variables,
+            body: _body,
+        } = self;
+    }
+}
+
 /// `component main {public [names]} = template(arguments);`
-#[derive(Drop)]
 pub struct Main {
     /// The place of its file in the program's list.
     pub file: u32,
@@ -90,6 +129,20 @@ pub struct Main {
     /// What the template's name means.
     pub meant: Meant,
     pub arguments: Items<Expr>,
+}
+
+// Written out for the same reason.
+impl Drop for Main {
+    fn drop(self) {
+        let Main {
+            file: _file,
+            spot: _spot,
+            public: _public,
+            template: _template,
+            meant: _meant,
+            arguments: _arguments,
+        } = self;
+    }
 }
 
 pub type Block = marked::Block<Spot, Meant>;

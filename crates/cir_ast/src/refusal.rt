@@ -16,10 +16,19 @@ pub struct Place {
 }
 
 /// Why a source is refused, and where.
-#[derive(Drop)]
 pub struct Refusal {
     pub kind: Kind,
     pub place: Place,
+}
+
+// Written out, so that the proof of an owner sees one call and not the drop of each part.
+impl Drop for Refusal {
+    fn drop(self) {
+        let Refusal {
+            kind: _kind,
+            place: _place,
+        } = self;
+    }
 }
 
 impl Refusal {

@@ -241,7 +241,7 @@ where
     let parts = frame.parts.as_slice();
     let inside = homes_inside(body.context.alloc, parts, cells.parts.as_slice())?;
     Ok(Cast {
-        signals: frame.signals,
+        signals: frame.into_signals(),
         ports: cells.signals,
         inside,
         steps: cells.steps,

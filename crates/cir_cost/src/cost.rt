@@ -31,7 +31,6 @@ use cir_rules::Made;
 use std::alloc::{AllocError, Global};
 
 /// What a statement costs.
-#[derive(Drop)]
 pub struct Cost {
     /// The nodes of its tree.
     pub nodes: u64,
@@ -41,7 +40,30 @@ pub struct Cost {
     pub calls: Vec<Made>,
 }
 
+// Written out, so that the proof of an owner sees one call and not the drop of each part.
+impl Drop for Cost {
+    fn drop(self) {
+        let Cost {
+            nodes: _nodes,
+            reads: _reads,
+            calls: _calls,
+        } = self;
+    }
+}
+
 impl Cost {
+    /// The cells that are read, and the calls.
+    pub fn into_lists(self) -> (Vec<Cell>, Vec<Made>)
+        ensures { result ≡ (self.reads, self.calls) }
+    {
+        let Cost {
+            nodes: _,
+            reads,
+            calls,
+        } = self;
+        (reads, calls)
+    }
+
     /// Nothing yet.
     pub fn new(alloc: Global) -> Cost
         ensures { IsCost result (M.node 0) }

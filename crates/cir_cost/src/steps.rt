@@ -28,11 +28,8 @@ pub fn stepped<C>(here: &Here<C>, cost: Cost, cells: u64, world: &mut World) -> 
         (state_of f world.old qs)) }
     ensures keeps { kept_of world.new ≡ kept_of world.old }
 {
-    let Cost {
-        nodes,
-        mut reads,
-        calls,
-    } = cost;
+    let nodes = cost.nodes;
+    let (mut reads, calls) = cost.into_lists();
     let too_many = judged(here, calls.as_slice())?;
     let added = &mut world.added;
     added.cells = added.cells.saturating_add(cells);

@@ -13,7 +13,7 @@ ghost use Rattle.cir_evaluate.specs.Within.{kept_of, where_at};
 ghost use Rattle.cir_evaluate.specs.Literal.{are_of_one_shape, dims_of};
 
 use crate::context::Here;
-use cir_arrays::{Array, Datum, Fault, add_array, same_dims};
+use cir_arrays::{Contents, Datum, Fault, add_array, same_dims};
 use cir_ast::Kind;
 use cir_frame::World;
 use cir_values::Value;
@@ -80,17 +80,12 @@ fn add_items(items: &mut Vec<Value>, d: Datum) -> Result<(), AllocError>
     ensures { OnOk result (map meant items.new.items
         ≡ map meant items.old.items ++ (datum_of d).items) }
 {
-    match d {
-        Datum::Number(v) => {
+    match d.into_contents() {
+        Contents::Number(v) => {
             items.push(v)?;
             Ok(())
         }
-        Datum::Array(
-            Array {
-                dims: _,
-                items: more,
-            },
-        ) => add_all(items, more),
+        Contents::Items(more) => add_all(items, more),
     }
 }
 

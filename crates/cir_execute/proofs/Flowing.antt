@@ -6,11 +6,13 @@ use Rattle.cir_ast.specs.declared.program.Spot.{Spot}
 use Rattle.cir_ast.specs.declared.program.Meant.{Meant}
 use Rattle.cir_ast.specs.declared.refusal.Kind.TheVariants.{Limit}
 use Rattle.cir_ast.specs.declared.refusal.Which.TheVariants.{Statements as StatementCount}
+use Rattle.cir_ast.specs.declared.marked.Expr.{Expr as CodeExpr}
+use Rattle.cir_ast.specs.declared.marked.First.{First as CodeFirst}
 use Rattle.cir_ast.specs.declared.marked.Statement.{Statement as CodeStatement}
 use Rattle.cir_ast.specs.declared.marked.StatementForm.{StatementForm as CodeForm}
 use Rattle.cir_ast.specs.declared.marked.Step.{Step as CodeStep}
-use Rattle.cir_ast.specs.Tree.{Assert, Assigned, Expr, Statement, If, IfElse, bare_assign}
-use Rattle.cir_ast.specs.Tree.{bare_form, bare_statement}
+use Rattle.cir_ast.specs.Tree.{Assert, Assigned, Expr, Statement, If, IfElse, bare, bare_assign}
+use Rattle.cir_ast.specs.Tree.{bare_first, bare_form, bare_statement}
 use Rattle.cir_values.specs.declared.operators.Side.{Side as CodeSide}
 use Rattle.cir_values.specs.Meant.{meant_side}
 use Rattle.cir_meaning.specs.Tried.{Tried, next}
@@ -22,7 +24,7 @@ use Rattle.cir_meaning.specs.Simple.{simple}
 use Rattle.cir_meaning.specs.Arrays.{Scalar, the_item}
 use Rattle.cir_meaning.specs.Evaluate.{scalar, value_in}
 use Rattle.cir_meaning.specs.Statement.{assert_value, Flow, Going, branch, condition, exec, goes}
-use Rattle.cir_meaning.specs.Statement.{going, most_turns, turns}
+use Rattle.cir_meaning.specs.Statement.{first_simple, going, loop_of, most_turns, turns}
 use Rattle.cir_arrays.specs.declared.stop.Fault.{Fault}
 use Rattle.cir_arrays.specs.Stopped.{IsRefusal, Refuses}
 use Rattle.cir_frame.specs.declared.frame.Frame.{Frame}
@@ -33,7 +35,8 @@ use Rattle.cir_assign.proofs.Stepping.{lists_kept, lists_next, next_next}
 use Rattle.cir_execute.specs.declared.statement.Flow.{Flow as CodeFlow}
 use Rattle.cir_execute.specs.declared.undecided.Rest.{Rest}
 use Rattle.cir_execute.specs.Flows.{Flows}
-use Rattle.cir_execute.specs.Rests.{rest_by, rest_fault, turn_of}
+use Rattle.cir_execute.specs.Rests.{loop_fault, loop_turn, rest_by, rest_fault, turn_of}
+use Rattle.cir_execute.proofs.Fors.{for_by, for_shown}
 use Rattle.cir_execute.proofs.Going.{Went, counted_led, refusal, flows_at, flows_after, flows_next}
 use Rattle.cir_execute.proofs.Going.{flows_refused}
 use Rattle.cir_execute.proofs.Branching.{Told, Rests, Stops, TurnsLeft, pick, branch_is}
@@ -281,3 +284,31 @@ asserted_flows k spot e qs old new f g r h =
     (sym (next_next (value_in k (at k spot) false Scalar e (state_of f old qs))
     (λ (d, s). assert_value k (at k spot) e (state_of f old qs) (the_item d) s)
     (λ s. goes (counted (at k spot) s)))) h
+
+-- a `for` by its parts, behind its first statement
+steps_joined : {A B C D : Type 0} (m : Tried A) (f : A → Tried B) (g : B → Tried C)
+    (h : C → Tried D)
+    → next m (λ a. next (f a) (λ b. next (g b) h)) ≡ next (next m (λ a. next (f a) g)) h
+steps_joined (Ok a) f g h = sym (next_next (f a) g h)
+steps_joined (Err e) f g h = refl
+
+pub for_flows : (k : Context) (a : CodeStatement Spot Meant) (form : CodeForm Spot Meant)
+    (x : CodeFirst Spot Meant) (c : CodeExpr Meant) (y : CodeStep Spot Meant)
+    (z : CodeStatement Spot Meant) (first : CodeFirst Spot Meant) (step : CodeStep Spot Meant)
+    (body : CodeStatement Spot Meant) (qs : List Equation) (old new : World) (f g : Frame)
+    (r : Result CodeFlow Fault)
+    → a.form ≡ form → bare_form a.spot form ≡ for_by a.spot first c step body
+    → x ≡ first → y ≡ step → z ≡ body
+    → Flows qs old g new r (next (next (counted (at k a.spot) (state_of f old qs))
+    (λ s. next (simple k x.spot (first_simple (bare_first x.form)) s) (counted (at k a.spot))))
+    (turns most_turns k a.spot (bare c)
+    (loop_turn k a.spot (bare_statement z) y.spot (bare_assign y.assign))
+    (λ s. goes (undecided k a.spot (loop_fault (bare_statement z) y.spot (bare_assign y.assign))
+    (loop_of a.spot (bare c) (bare_statement z) y.spot (bare_assign y.assign)) s))))
+    → Flows qs old g new r (exec k (bare_statement a) (state_of f old qs))
+for_flows k a form x c y z first step body qs old new f g r is shown one two three h =
+    flows_at qs old new g r _ _
+    (ap (λ u. exec k u (state_of f old qs))
+    (for_shown a form first x c step y body z is shown one two three)
+    ∙ steps_joined (counted (at k a.spot) (state_of f old qs))
+    (simple k x.spot (first_simple (bare_first x.form))) (counted (at k a.spot)) _) h

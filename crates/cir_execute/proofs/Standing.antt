@@ -15,7 +15,6 @@ use Rattle.cir_ast.specs.Tree.{Assign, Expr, First, For, If, IfElse, Statement, 
 use Rattle.cir_ast.specs.Tree.{as_statements, bare, bare_exprs, bare_form, bare_statement}
 use Rattle.cir_ast.specs.Tree.{bare_value, bare_variable}
 use Rattle.cir_arrays.proofs.Lists.{at_read}
-use Rattle.cir_arrays.specs.declared.stop.Fault.{Fault}
 use Rattle.cir_frame.specs.declared.frame.Frame.{Frame}
 use Rattle.cir_frame.specs.declared.world.World.{World}
 use Rattle.cir_frame.specs.Shown.{state_of}
@@ -59,7 +58,7 @@ pub unchanged_by : (old new : World)
 unchanged_by old new h k =
     record { states = h; constraints = ap (λ (x : Kept). x.constraints) k }
 
-pub unchanged_all : {A : Type 0} (r : Result A Fault) (old new : World)
+pub unchanged_all : {A E : Type 0} (r : Result A E) (old new : World)
     → ((f : Frame) (qs : List Equation) → OnOk r (state_of f new qs ≡ state_of f old qs))
     → kept_of new ≡ kept_of old → OnOk r (IsUnchanged old new)
 unchanged_all (Ok a) old new h k = unchanged_by old new h k

@@ -20,6 +20,7 @@ use cir_ast::program::{
 use cir_cost::Cost;
 use cir_evaluate::Here;
 use cir_frame::{Frame, World};
+use std::alloc::AllocError;
 
 /// What is left of a statement costs what stands in it.
 pub fn inside_cost<C: Fn(Spot, u32, Vec<Datum>, &mut World) -> Result<Datum, Fault>>(
@@ -64,7 +65,7 @@ fn add_statement<C: Fn(Spot, u32, Vec<Datum>, &mut World) -> Result<Datum, Fault
     statement: &Statement,
     frame: &Frame,
     world: &mut World,
-) -> Result<(), Fault>
+) -> Result<(), AllocError>
     requires calls { C.IsAlwaysCallable dark.now.context.now.call.now }
     ensures cost { (m : Means (C.post dark.now.context.now.call.now) dark.now.context.now)
         (qs : List Equation) → dark.now.shaded ≡ true
@@ -72,7 +73,6 @@ fn add_statement<C: Fn(Spot, u32, Vec<Datum>, &mut World) -> Result<Datum, Fault
         → OnOk result (AddsOnce cost.old cost.new
         (inside (context_at dark.now m) (where_at dark.now) (bare_statement statement.now)
         (state_of frame.now world.old qs))) }
-    ensures memory { IfErr result (λ f. f ≡ OutOfMemory) }
     ensures same { Means (C.post dark.now.context.now.call.now) dark.now.context.now
         → OnOk result (IsUnchanged world.old world.new) }
 {
@@ -99,10 +99,7 @@ fn add_statement<C: Fn(Spot, u32, Vec<Datum>, &mut World) -> Result<Datum, Fault
             add_statement(cost, dark, body, frame, world)?;
             add_assign(cost, dark, &step.assign, frame, world)
         }
-        StatementForm::Assert(condition) => {
-            cost.add(dark, condition, frame, world)?;
-            Ok(())
-        }
+        StatementForm::Assert(condition) => cost.add(dark, condition, frame, world),
         StatementForm::Simple(simple) => match simple {
             Simple::Vars(vars) => {
                 add_variables(cost, dark, vars.variables.as_slice(), frame, world)
@@ -120,14 +117,13 @@ fn add_first<C: Fn(Spot, u32, Vec<Datum>, &mut World) -> Result<Datum, Fault>>(
     first: &First,
     frame: &Frame,
     world: &mut World,
-) -> Result<(), Fault>
+) -> Result<(), AllocError>
     requires calls { C.IsAlwaysCallable dark.now.context.now.call.now }
     ensures cost { (m : Means (C.post dark.now.context.now.call.now) dark.now.context.now)
         (spot : AnySpot) (qs : List Equation) → dark.now.shaded ≡ true
         → first_fault spot (bare_first first.now.form) ≡ None
         → OnOk result (AddsOnce cost.old cost.new (first_inside (context_at dark.now m)
         (where_at dark.now) (bare_first first.now.form) (state_of frame.now world.old qs))) }
-    ensures memory { IfErr result (λ f. f ≡ OutOfMemory) }
     ensures same { Means (C.post dark.now.context.now.call.now) dark.now.context.now
         → OnOk result (IsUnchanged world.old world.new) }
 {
@@ -145,19 +141,21 @@ fn add_assign<C: Fn(Spot, u32, Vec<Datum>, &mut World) -> Result<Datum, Fault>>(
     assign: &Assign,
     frame: &Frame,
     world: &mut World,
-) -> Result<(), Fault>
+) -> Result<(), AllocError>
     requires calls { C.IsAlwaysCallable dark.now.context.now.call.now }
     ensures cost { (m : Means (C.post dark.now.context.now.call.now) dark.now.context.now)
         (spot : AnySpot) (qs : List Equation) → dark.now.shaded ≡ true
         → assign_fault spot (bare_assign assign.now) ≡ None
         → OnOk result (AddsOnce cost.old cost.new (assign_inside (context_at dark.now m)
         (where_at dark.now) (bare_assign assign.now) (state_of frame.now world.old qs))) }
-    ensures memory { IfErr result (λ f. f ≡ OutOfMemory) }
     ensures same { Means (C.post dark.now.context.now.call.now) dark.now.context.now
         → OnOk result (IsUnchanged world.old world.new) }
 {
     match placed_of(assign) {
-        Some(p) => add_assigned(cost, dark, p.accessors, p.given, frame, world),
+        Some(p) => match add_assigned(cost, dark, p.accessors, p.given, frame, world) {
+            Ok(()) => Ok(()),
+            Err(_fault) => Err(AllocError),
+        },
         None => Ok(()),
     }
 }
@@ -168,13 +166,12 @@ fn add_variables<C: Fn(Spot, u32, Vec<Datum>, &mut World) -> Result<Datum, Fault
     variables: &[DeclaredVariable],
     frame: &Frame,
     world: &mut World,
-) -> Result<(), Fault>
+) -> Result<(), AllocError>
     requires calls { C.IsAlwaysCallable dark.now.context.now.call.now }
     ensures cost { (m : Means (C.post dark.now.context.now.call.now) dark.now.context.now)
         (qs : List Equation) → dark.now.shaded ≡ true
         → OnOk result (AddsOnce cost.old cost.new (variables_inside (context_at dark.now m)
         (where_at dark.now) (map bare_variable variables.now) (state_of frame.now world.old qs))) }
-    ensures memory { IfErr result (λ f. f ≡ OutOfMemory) }
     ensures same { Means (C.post dark.now.context.now.call.now) dark.now.context.now
         → OnOk result (IsUnchanged world.old world.new) }
 {
@@ -190,13 +187,12 @@ fn add_variable<C: Fn(Spot, u32, Vec<Datum>, &mut World) -> Result<Datum, Fault>
     variable: &DeclaredVariable,
     frame: &Frame,
     world: &mut World,
-) -> Result<(), Fault>
+) -> Result<(), AllocError>
     requires calls { C.IsAlwaysCallable dark.now.context.now.call.now }
     ensures cost { (m : Means (C.post dark.now.context.now.call.now) dark.now.context.now)
         (qs : List Equation) → dark.now.shaded ≡ true
         → OnOk result (AddsOnce cost.old cost.new (variables_inside (context_at dark.now m)
         (where_at dark.now) (bare_variable variable.now ∷ []) (state_of frame.now world.old qs))) }
-    ensures memory { IfErr result (λ f. f ≡ OutOfMemory) }
     ensures same { Means (C.post dark.now.context.now.call.now) dark.now.context.now
         → OnOk result (IsUnchanged world.old world.new) }
 {
@@ -205,9 +201,6 @@ fn add_variable<C: Fn(Spot, u32, Vec<Datum>, &mut World) -> Result<Datum, Fault>
     }
     match &variable.value {
         None => Ok(()),
-        Some(value) => {
-            cost.add(dark, value, frame, world)?;
-            Ok(())
-        }
+        Some(value) => cost.add(dark, value, frame, world),
     }
 }

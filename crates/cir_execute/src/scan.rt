@@ -22,6 +22,7 @@ use cir_ast::program::{
 use cir_declare::declare_variable;
 use cir_evaluate::{Here, dims_in, number};
 use cir_frame::{Frame, World};
+use cir_values::Value;
 
 /// Scans a statement in the order of execution; all branches are scanned.
 #[cycle(scanning)]
@@ -119,9 +120,13 @@ fn scan_condition<C: Fn(Spot, u32, Vec<Datum>, &mut World) -> Result<Datum, Faul
     ensures constraints { Means (C.post dark.now.context.now.call.now) dark.now.context.now
         → OnOk result (world.new.constraints.items ≡ world.old.constraints.items) }
 {
-    let _v = number(dark, condition, frame, world)?;
+    let v = number(dark, condition, frame, world)?;
+    discard(v);
     Ok(())
 }
+
+/// Lets a number go. Its forms are told apart here alone, and not wherever one is dropped.
+pub fn discard(_value: Value) {}
 
 fn scan_first<C: Fn(Spot, u32, Vec<Datum>, &mut World) -> Result<Datum, Fault>>(
     dark: &Here<C>,

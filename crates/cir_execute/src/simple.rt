@@ -282,16 +282,20 @@ fn tuple<C: Fn(Spot, u32, Vec<Datum>, &mut World) -> Result<Datum, Fault>>(
         (S.values_of (bare_source source.now))
         (state_of frame.old world.old qs)) }
 {
-    match (target, source) {
-        (Target::Discard, Source::One(e)) => dropped(here, e, frame, world),
-        (Target::Discard, Source::Tuple(es)) => all_dropped(here, es.as_slice(), frame, world),
-        (Target::Tuple(slots), Source::One(e)) => match slots.as_slice() {
-            [first, ..] => slot(here, arrow, first, e, frame, world),
-            [] => Ok(()),
+    match target {
+        Target::Discard => match source {
+            Source::One(e) => dropped(here, e, frame, world),
+            Source::Tuple(es) => all_dropped(here, es.as_slice(), frame, world),
         },
-        (Target::Tuple(slots), Source::Tuple(es)) => {
-            all_slots(here, arrow, slots.as_slice(), es.as_slice(), frame, world)
-        }
+        Target::Tuple(slots) => match source {
+            Source::One(e) => match slots.as_slice() {
+                [first, ..] => slot(here, arrow, first, e, frame, world),
+                [] => Ok(()),
+            },
+            Source::Tuple(es) => {
+                all_slots(here, arrow, slots.as_slice(), es.as_slice(), frame, world)
+            }
+        },
     }
 }
 

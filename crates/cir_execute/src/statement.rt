@@ -2,11 +2,14 @@
 ghost use Rattle.std.specs.Prelude.{◌≡◌, false, List, OnOk, map};
 ghost use Rattle.cir_ast.specs.declared.refusal.Kind.TheVariants.{Limit as LimitKind};
 ghost use Rattle.cir_ast.specs.declared.refusal.Which.TheVariants.{Statements as StatementCount};
-ghost use Rattle.cir_ast.specs.Tree.{as_statements, bare, bare_argument, bare_first};
+ghost use Rattle.cir_ast.specs.Tree.{Return, as_statements, bare, bare_argument, bare_first};
 ghost use Rattle.cir_ast.specs.Tree.{bare_statement};
 ghost use Rattle.cir_arrays.specs.Stopped.{Refuses};
+ghost use Rattle.cir_frame.specs.declared.frame.Frame.{Frame as AnyFrame};
+ghost use Rattle.cir_frame.specs.declared.world.World.{World as AnyWorld};
 ghost use Rattle.cir_frame.specs.Shown.{state_of};
-ghost use Rattle.cir_meaning.specs.Tried.{next};
+ghost use Rattle.cir_meaning.specs.Frame.{State};
+ghost use Rattle.cir_meaning.specs.Tried.{Tried, next};
 ghost use Rattle.cir_meaning.specs.Source.{Equation};
 ghost use Rattle.cir_meaning.specs.Arrays.{Scalar};
 ghost use Rattle.cir_meaning.specs.Frame as W;
@@ -20,6 +23,7 @@ ghost use Rattle.cir_assign.specs.Makes.{BodyMeans, context_in};
 ghost use Rattle.cir_execute.specs.Flows.{Decides, Flows};
 ghost use Rattle.cir_execute.specs.Rests.{rest_by, rest_fault, turn_of};
 
+use crate::scan::discard;
 use crate::simple::{simple, simple_assign, simple_vars};
 use crate::undecided::{Loop, Rest, undecided};
 use cir_arrays::{Datum, Fault};
@@ -118,9 +122,7 @@ where
         StatementForm::For(first, condition, step, repeated) => {
             let step: &Step = step;
             let repeated: &Statement = repeated;
-            body.context.counted(spot, world)?;
-            begin(body, first, frame, world)?;
-            body.context.counted(spot, world)?;
+            begin(body, spot, first, frame, world)?;
             let rest = Rest::Loop(Loop {
                 condition,
                 body: repeated,
@@ -129,26 +131,45 @@ where
             let step = Some(step);
             turns(body, spot, repeated, condition, step, &rest, frame, world)
         }
-        StatementForm::Return(value) => {
-            let d = datum(&body.context.here(spot), value, frame, world)?;
-            body.context.counted(spot, world)?;
-            Ok(Flow::Returned(d))
-        }
+        StatementForm::Return(value) => returned(body.context, spot, value, frame, world),
         StatementForm::Assert(condition) => {
             assert(body.context, spot, condition, frame, world)?;
-            body.context.counted(spot, world)?;
-            Ok(Flow::Going)
+            ended(body.context.counted(spot, world))
         }
         StatementForm::Log(arguments) => {
             log(body.context, spot, arguments.as_slice(), frame, world)?;
-            body.context.counted(spot, world)?;
-            Ok(Flow::Going)
+            ended(body.context.counted(spot, world))
         }
-        StatementForm::Simple(form) => {
-            simple(body, spot, form, frame, world)?;
-            Ok(Flow::Going)
-        }
+        StatementForm::Simple(form) => ended(simple(body, spot, form, frame, world)),
     }
+}
+
+/// Behind a step that is done a statement goes on to the next.
+fn ended(step: Result<(), Fault>) -> Result<Flow, Fault>
+    ensures { (qs : List Equation) (old new : AnyWorld) (f : AnyFrame) (m : Tried State)
+        → Leads qs old f new step m → Flows qs old f new result (X.goes m) }
+{
+    step?;
+    Ok(Flow::Going)
+}
+
+/// A `return` is counted behind its value.
+fn returned<C: Fn(Spot, u32, Vec<Datum>, &mut World) -> Result<Datum, Fault>>(
+    context: &Context<C>,
+    spot: Spot,
+    value: &Expr,
+    frame: &Frame,
+    world: &mut World,
+) -> Result<Flow, Fault>
+    requires calls { C.IsAlwaysCallable context.now.call.now }
+    ensures { (m : Means (C.post context.now.call.now) context.now) (qs : List Equation)
+        → Flows qs world.old frame.now world.new result
+        (X.exec (context_of context.now m.call m.make) (Return spot (bare value.now))
+        (state_of frame.now world.old qs)) }
+{
+    let d = datum(&context.here(spot), value, frame, world)?;
+    context.counted(spot, world)?;
+    Ok(Flow::Returned(d))
 }
 
 /// What is left where a condition isn't known is a run-time statement.
@@ -165,8 +186,7 @@ fn left<C: Fn(Spot, u32, Vec<Datum>, &mut World) -> Result<Datum, Fault>>(
         (X.goes (U.undecided (context_of context.now m.call m.make) spot (rest_fault rest.now)
         (rest_by spot rest.now) (state_of frame.old world.old qs))) }
 {
-    undecided(context, spot, rest, frame, world)?;
-    Ok(Flow::Going)
+    ended(undecided(context, spot, rest, frame, world))
 }
 
 /// A compound statement is counted when it begins; then comes its condition.
@@ -206,8 +226,10 @@ pub fn decide<C: Fn(Spot, u32, Vec<Datum>, &mut World) -> Result<Datum, Fault>>(
         → OnOk result (world.new.constraints.items ≡ world.old.constraints.items) }
 {
     let v = number(&context.here(spot), condition, frame, world)?;
+    let side = side_of(&v);
+    discard(v);
     context.settle(spot, world)?;
-    Ok(side_of(&v))
+    Ok(side)
 }
 
 /// The turns of a loop, whose step is that of a `for`.
@@ -285,15 +307,37 @@ where
     body.context.counted(spot, world)?;
     match execute(body, repeated, frame, world)? {
         Flow::Returned(d) => Ok(Flow::Returned(d)),
-        Flow::Going => {
-            simple_assign(body, step.spot, &step.assign, frame, world)?;
-            Ok(Flow::Going)
-        }
+        Flow::Going => ended(simple_assign(body, step.spot, &step.assign, frame, world)),
     }
 }
 
-/// The first statement of a `for`.
+/// A `for` is counted when it begins, and as a loop behind its first statement.
 fn begin<C, M>(
+    body: &Body<C, M>,
+    spot: Spot,
+    first: &First,
+    frame: &mut Frame,
+    world: &mut World,
+) -> Result<(), Fault>
+where
+    C: Fn(Spot, u32, Vec<Datum>, &mut World) -> Result<Datum, Fault>,
+    M: Fn(Spot, u32, Vec<Datum>, &[u8], &mut World) -> Result<Vec<Option<SignalEntry>>, Fault>,
+    requires calls { C.IsAlwaysCallable body.now.context.now.call.now }
+    requires makes { M.IsAlwaysCallable body.now.make.now }
+    ensures { (m : BodyMeans (C.post body.now.context.now.call.now) (M.post body.now.make.now)
+        body.now) (qs : List Equation) → Leads qs world.old frame.new world.new result
+        (next (W.counted (at_spot body.now.context.now spot) (state_of frame.old world.old qs))
+        (λ s. next (S.simple (context_in body.now m) first.now.spot
+        (X.first_simple (bare_first first.now.form)) s)
+        (W.counted (at_spot body.now.context.now spot)))) }
+{
+    body.context.counted(spot, world)?;
+    first_statement(body, first, frame, world)?;
+    body.context.counted(spot, world)
+}
+
+/// The first statement of a `for`.
+fn first_statement<C, M>(
     body: &Body<C, M>,
     first: &First,
     frame: &mut Frame,
@@ -334,7 +378,9 @@ fn assert<C: Fn(Spot, u32, Vec<Datum>, &mut World) -> Result<Datum, Fault>>(
 {
     let here = context.here(spot);
     let v = number(&here, condition, frame, world)?;
-    match side_of(&v) {
+    let side = side_of(&v);
+    discard(v);
+    match side {
         Side::First => Ok(()),
         Side::Second => Err(here.refused(Kind::AssertFalse)),
         Side::Both => {
@@ -364,7 +410,8 @@ pub fn log<C: Fn(Spot, u32, Vec<Datum>, &mut World) -> Result<Datum, Fault>>(
     let mut cells = 0u64;
     for argument in arguments {
         if let LogArgument::Value(e) = argument {
-            let _v = number(&here, e, frame, world)?;
+            let v = number(&here, e, frame, world)?;
+            discard(v);
             cells = cells.saturating_add(1);
         }
     }

@@ -180,12 +180,8 @@ pub fn enclose(cost: &mut Cost, inside: Cost, touched: &Touched) -> Result<(), A
         → OnOk result (IsCost cost.new
         record c { reads = reads ++ filter (is_outer a) c.reads }) }
 {
-    let Cost {
-        nodes,
-        reads,
-        calls,
-    } = inside;
-    cost.nodes = nodes;
+    cost.nodes = inside.nodes;
+    let (reads, calls) = inside.into_lists();
     cost.calls = calls;
     for cell in reads.as_slice() {
         if is_outer(cell, touched) {

@@ -42,7 +42,7 @@ impl<'a> Reader<'a> {
             (expression room (kinds self.old.rest.now)) }
     {
         let found = self.climb(alloc, room, 1)?;
-        Ok(found.tree)
+        Ok(found.into_tree())
     }
 
     /// A name with its indices and members, at most this high.
@@ -162,7 +162,7 @@ impl<'a> Reader<'a> {
         let left = enclosed(alloc, inner)?;
         let whole = self.chain(alloc, room - 1, 1, left)?;
         let found = self.choice(alloc, room - 1, 1, whole)?;
-        Ok(found.tree)
+        Ok(found.into_tree())
     }
 
     // An expression of at most this height whose operators, but for those in parentheses, are of
@@ -387,7 +387,7 @@ impl<'a> Reader<'a> {
             inputs.push(NamedInput {
                 name,
                 arrow,
-                value: item.tree,
+                value: item.into_tree(),
             })?;
             if self.begins(Symbol::Comma) {
                 self.skip();
@@ -461,7 +461,7 @@ impl<'a> Reader<'a> {
         for _ in 0..self.rest.len() {
             let item = self.climb(alloc, room, 1)?;
             height = item.height.max(height);
-            items.push(item.tree)?;
+            items.push(item.into_tree())?;
             if self.begins(Symbol::Comma) {
                 self.skip();
             } else {
@@ -490,7 +490,7 @@ impl<'a> Reader<'a> {
                 let found = self.climb(alloc, room, 1)?;
                 self.behind(Symbol::CloseBracket)?;
                 height = found.height.max(height);
-                accessors.push(Accessor::Index(found.tree))?;
+                accessors.push(Accessor::Index(found.into_tree()))?;
             } else if self.begins(Symbol::Dot) {
                 self.skip();
                 let name = self.name(alloc)?;
@@ -508,7 +508,7 @@ fn tree_of<N: Drop>(reading: Option<Reading<N>>) -> Option<Expr<N>>
     ensures { seen_element result ≡ seen_reading reading }
 {
     match reading {
-        Some(found) => Some(found.tree),
+        Some(found) => Some(found.into_tree()),
         None => None,
     }
 }

@@ -15,10 +15,29 @@ use cir_token::Text;
 use std::alloc::{AllocError, Global};
 
 /// An expression that was read, and its height.
-#[derive(Drop)]
 pub struct Reading<N> {
     pub tree: Expr<N>,
     pub height: u32,
+}
+
+// Written out, so that the proof of an owner sees one call and not the drop of each part.
+impl<N: Drop> Drop for Reading<N> {
+    fn drop(self) {
+        let Reading {
+            tree: _tree,
+            height: _height,
+        } = self;
+    }
+}
+
+impl<N> Reading<N> {
+    /// The expression without its height.
+    pub fn into_tree(self) -> Expr<N>
+        ensures { result ≡ self.tree }
+    {
+        let Reading { tree, height: _ } = self;
+        tree
+    }
 }
 
 /// Expressions that were read, and the height of the highest.
@@ -42,6 +61,29 @@ pub struct Naming<N> {
     pub height: u32,
 }
 
+// Both on the heap.
+fn both_boxed<T: Drop>(alloc: Global, a: T, b: T) -> Result<(Box<T>, Box<T>), AllocError>
+    ensures { IfOk result (λ r. (r.0.value ≡ a) × (r.1.value ≡ b)) }
+{
+    Ok((Box::new(alloc, a)?, Box::new(alloc, b)?))
+}
+
+// All three on the heap.
+fn three_boxed<T: Drop>(
+    alloc: Global,
+    a: T,
+    b: T,
+    c: T,
+) -> Result<(Box<T>, Box<T>, Box<T>), AllocError>
+    ensures { IfOk result (λ r. (r.0.value ≡ a) × (r.1.value ≡ b) × (r.2.value ≡ c)) }
+{
+    Ok((
+        Box::new(alloc, a)?,
+        Box::new(alloc, b)?,
+        Box::new(alloc, c)?,
+    ))
+}
+
 /// The operation on both sides, unless it is too high.
 pub fn joined<N: Drop>(
     alloc: Global,
@@ -59,12 +101,11 @@ pub fn joined<N: Drop>(
     if height > room {
         return Err(Stop::NoTree);
     }
-    let tree = Expr::Binary(
-        op,
-        Box::new(alloc, left.tree)?,
-        Box::new(alloc, right.tree)?,
-    );
-    Ok(Reading { tree, height })
+    let (left, right) = both_boxed(alloc, left.into_tree(), right.into_tree())?;
+    Ok(Reading {
+        tree: Expr::Binary(op, left, right),
+        height,
+    })
 }
 
 /// The choice between two expressions, unless it is too high.
@@ -86,12 +127,16 @@ pub fn chosen<N: Drop>(
     if height > room {
         return Err(Stop::NoTree);
     }
-    let tree = Expr::Choice(
-        Box::new(alloc, condition.tree)?,
-        Box::new(alloc, chosen.tree)?,
-        Box::new(alloc, other.tree)?,
-    );
-    Ok(Reading { tree, height })
+    let (condition, chosen, other) = three_boxed(
+        alloc,
+        condition.into_tree(),
+        chosen.into_tree(),
+        other.into_tree(),
+    )?;
+    Ok(Reading {
+        tree: Expr::Choice(condition, chosen, other),
+        height,
+    })
 }
 
 /// The expression in parentheses.
@@ -99,9 +144,10 @@ pub fn enclosed<N: Drop>(alloc: Global, inner: Reading<N>) -> Result<Reading<N>,
     requires { IsMeasured inner × (inner.height < 2 ^ 17) }
     ensures { IfOk result (λ r. IsAbove r (tree.Parentheses (seen inner.tree)) inner.height) }
 {
+    let height = inner.height + 1;
     Ok(Reading {
-        tree: Expr::Parentheses(Box::new(alloc, inner.tree)?),
-        height: inner.height + 1,
+        tree: Expr::Parentheses(Box::new(alloc, inner.into_tree())?),
+        height,
     })
 }
 
@@ -114,9 +160,10 @@ pub fn applied<N: Drop>(
     requires { IsMeasured inner × (inner.height < 2 ^ 17) }
     ensures { IfOk result (λ r. IsAbove r (tree.Unary op (seen inner.tree)) inner.height) }
 {
+    let height = inner.height + 1;
     Ok(Reading {
-        tree: Expr::Unary(op, Box::new(alloc, inner.tree)?),
-        height: inner.height + 1,
+        tree: Expr::Unary(op, Box::new(alloc, inner.into_tree())?),
+        height,
     })
 }
 

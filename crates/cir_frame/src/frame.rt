@@ -13,7 +13,6 @@ use std::alloc::AllocError;
 
 /// A component that is created: where, its template, and the signals that it has declared. Its
 /// inputs are written by its parent.
-#[derive(Drop)]
 pub struct Part {
     pub spot: Spot,
     pub template: u32,
@@ -23,8 +22,19 @@ pub struct Part {
     pub ghost counted: { missing ≡ missing_in signals.items },
 }
 
+// Written out, so that the proof of an owner sees one call and not the drop of each part.
+impl Drop for Part {
+    fn drop(self) {
+        let Part {
+            spot: _spot,
+            template: _template,
+            signals: _signals,
+            missing: _missing,
+        } = self;
+    }
+}
+
 /// A declared component: each element has the place of its part once it is created.
-#[derive(Drop)]
 pub struct ComponentEntry {
     pub name: Text,
     pub dims: Vec<u64>,
@@ -36,14 +46,37 @@ pub struct ComponentEntry {
     pub ghost led: { first ≡ position_from is_some 0 parts.items },
 }
 
+// Written out for the same reason.
+impl Drop for ComponentEntry {
+    fn drop(self) {
+        let ComponentEntry {
+            name: _name,
+            dims: _dims,
+            parts: _parts,
+            first: _first,
+        } = self;
+    }
+}
+
 /// What the execution of one body keeps. Variables, signals and components stand by the number of
 /// their declaration, and the parts in order of creation.
-#[derive(Drop)]
 pub struct Frame {
     pub variables: Vec<Datum>,
     pub signals: Vec<Option<SignalEntry>>,
     pub components: Vec<Option<ComponentEntry>>,
     pub parts: Vec<Part>,
+}
+
+// Written out for the same reason.
+impl Drop for Frame {
+    fn drop(self) {
+        let Frame {
+            variables: _variables,
+            signals: _signals,
+            components: _components,
+            parts: _parts,
+        } = self;
+    }
 }
 
 impl Part {
@@ -99,6 +132,19 @@ impl Frame {
     ghost use Rattle.cir_arrays.specs.Reached.{IsReach};
     ghost use Rattle.cir_arrays.specs.Shown.{datum_of};
     ghost use Rattle.cir_frame.specs.Shown.{signal_of, component_of, part_of, frame_of};
+
+    /// The signals; the rest is given up.
+    pub fn into_signals(self) -> Vec<Option<SignalEntry>>
+        ensures { result ≡ self.signals }
+    {
+        let Frame {
+            variables: _,
+            signals,
+            components: _,
+            parts: _,
+        } = self;
+        signals
+    }
 
     /// The variable, if there is one of this number.
     pub fn variable(&self, n: u32) -> Option<&Datum>

@@ -7,7 +7,6 @@ use cir_ast::program::{Direction, Spot};
 use smallvec::SmallVec;
 
 /// A declared signal: the number of its first element, and which elements are written.
-#[derive(Drop)]
 pub struct SignalEntry {
     pub name: Text,
     pub direction: Direction,
@@ -18,6 +17,20 @@ pub struct SignalEntry {
     /// None of an array that is too large.
     pub written: SmallVec<bool, 8>,
     pub ghost sized: { length written.items ≡ made_count dims.items },
+}
+
+// Written out, so that the proof of an owner sees one call and not the drop of each part.
+impl Drop for SignalEntry {
+    fn drop(self) {
+        let SignalEntry {
+            name: _name,
+            direction: _direction,
+            spot: _spot,
+            dims: _dims,
+            first: _first,
+            written: _written,
+        } = self;
+    }
 }
 
 impl SignalEntry {

@@ -45,7 +45,6 @@ pub struct Sizes {
 }
 
 /// A declared signal in the table of all signals.
-#[derive(Drop)]
 pub struct Row {
     pub group: Group,
     pub instance: u32,
@@ -53,9 +52,20 @@ pub struct Row {
     pub dims: Vec<u64>,
 }
 
+// Written out, so that the proof of an owner sees one call and not the drop of each part.
+impl Drop for Row {
+    fn drop(self) {
+        let Row {
+            group: _group,
+            instance: _instance,
+            name: _name,
+            dims: _dims,
+        } = self;
+    }
+}
+
 /// What the whole program has made so far. Rows, constraints and paths of instances stand in order
 /// of creation.
-#[derive(Drop)]
 pub struct World {
     pub rows: Vec<Row>,
     pub sizes: Sizes,
@@ -64,6 +74,20 @@ pub struct World {
     pub counts: Counts,
     /// What the statement at hand adds to the counts, which isn't counted yet.
     pub added: Counts,
+}
+
+// Written out for the same reason.
+impl Drop for World {
+    fn drop(self) {
+        let World {
+            rows: _rows,
+            sizes: _sizes,
+            constraints: _constraints,
+            instances: _instances,
+            counts: _counts,
+            added: _added,
+        } = self;
+    }
 }
 
 /// How far the lists of a world have come.
@@ -171,6 +195,21 @@ impl World {
             },
             added: Counts::NOTHING,
         }
+    }
+
+    /// The constraints and the paths of the instances.
+    pub fn into_lists(self) -> (Vec<Constraint>, Vec<Text>)
+        ensures { result ≡ (self.constraints, self.instances) }
+    {
+        let World {
+            rows: _,
+            sizes: _,
+            constraints,
+            instances,
+            counts: _,
+            added: _,
+        } = self;
+        (constraints, instances)
     }
 
     /// The number that the next signal of the group gets.

@@ -20,11 +20,21 @@ use std::alloc::Global;
 
 /// The elements of a signal that are to be written: an own signal, or an input of a part, by its
 /// number.
-#[derive(Drop)]
 pub struct Target {
     pub part: Option<u32>,
     pub number: usize,
     pub reach: Reach,
+}
+
+// Written out, so that the proof of an owner sees one call and not the drop of each part.
+impl Drop for Target {
+    fn drop(self) {
+        let Target {
+            part: _part,
+            number: _number,
+            reach: _reach,
+        } = self;
+    }
 }
 
 impl Target {

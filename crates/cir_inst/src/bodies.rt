@@ -413,13 +413,7 @@ fn ended<C>(context: &Context<C>, frame: Frame) -> Result<Vec<Option<SignalEntry
         (B.ended (context_of context.now call make) s) }
 {
     all_ended(context, &frame)?;
-    let Frame {
-        variables: _,
-        signals,
-        components: _,
-        parts: _,
-    } = frame;
-    Ok(signals)
+    Ok(frame.into_signals())
 }
 
 /// At the end of a body every output and every inner signal is written, and every input of each

@@ -33,13 +33,23 @@ use items::Items;
 use std::alloc::{AllocError, Global};
 
 /// What a program compiles to.
-#[derive(Drop)]
 pub struct Circuit {
     pub signals: Signals,
     /// Normal constraints, in the order in which they are executed.
     pub constraints: Items<Constraint>,
     /// The paths of the instances in order of creation, main first.
     pub instances: Items<Text>,
+}
+
+// Written out, so that the proof of an owner sees one call and not the drop of each part.
+impl Drop for Circuit {
+    fn drop(self) {
+        let Circuit {
+            signals: _signals,
+            constraints: _constraints,
+            instances: _instances,
+        } = self;
+    }
 }
 
 /// Why a program doesn't compile.
@@ -221,14 +231,8 @@ pub fn circuit_of(alloc: Global, world: World) -> Result<Circuit, AllocError>
     ensures fits { IfOk result IsWithinLimits }
 {
     let signals = table_of(alloc, &world)?;
-    let World {
-        rows: _,
-        sizes,
-        constraints,
-        instances,
-        counts: _,
-        added: _,
-    } = world;
+    let sizes = world.sizes;
+    let (constraints, instances) = world.into_lists();
     let constraints = renumbered(alloc, &sizes, constraints)?;
     Ok(Circuit {
         signals,

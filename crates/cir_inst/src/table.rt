@@ -24,14 +24,16 @@ pub fn table_of(alloc: Global, world: &World) -> Result<Signals, AllocError>
     ensures { (es : List Equation)
         → IfOk result (IsTableOf (circuit_of group_size (world_of world.now es))) }
 {
-    let names = names_of(alloc, world.rows.as_slice())?;
     let outputs = narrow(world.sizes.outputs)?;
+    let public_inputs = narrow(world.sizes.public_inputs)?;
+    let private_inputs = narrow(world.sizes.private_inputs)?;
+    let names = names_of(alloc, world.rows.as_slice())?;
     let inputs = inputs_of(alloc, world.sizes.outputs, world.rows.as_slice())?;
     Ok(Signals {
         names: Items::of(names),
         outputs,
-        public_inputs: narrow(world.sizes.public_inputs)?,
-        private_inputs: narrow(world.sizes.private_inputs)?,
+        public_inputs,
+        private_inputs,
         inputs: Items::of(inputs),
     })
 }
@@ -101,8 +103,8 @@ fn inputs_of(alloc: Global, outputs: u64, rows: &[Row]) -> Result<Vec<InputShape
         (rows_of F.PublicInputs (map row_of rows.now)
         ++ rows_of F.PrivateInputs (map row_of rows.now))) }
 {
-    let mut inputs = Vec::new(alloc);
     let first = u64::from(narrow(outputs)?) + 1;
+    let mut inputs = Vec::new(alloc);
     let next = add_inputs(alloc, Group::PublicInputs, first, rows, &mut inputs)?;
     let _end = add_inputs(alloc, Group::PrivateInputs, next, rows, &mut inputs)?;
     Ok(inputs)
@@ -139,11 +141,10 @@ fn shape(alloc: Global, row: &Row, first: u64) -> Result<InputShape, AllocError>
       count = element_count row.now.dims.items;
     }) }
 {
-    Ok(InputShape {
-        name: Text::from_slice(alloc, row.name.as_slice())?,
-        first: narrow(first)?,
-        count: count_of(row)?,
-    })
+    let first = narrow(first)?;
+    let count = count_of(row)?;
+    let name = Text::from_slice(alloc, row.name.as_slice())?;
+    Ok(InputShape { name, first, count })
 }
 
 /// The constraints by the final numbers: those of a group follow those of the groups before it.

@@ -1,7 +1,8 @@
 //! Copies of trees.
 ghost use Rattle.std.specs.Prelude.{◌≡◌, List, ◌∷◌, IfOk, map};
 ghost use Rattle.cir_ast.specs.Tree.{bare, bare_inputs, bare_place, bare_anonymous, bare_assign};
-ghost use Rattle.cir_ast.specs.Tree.{bare_target, bare_variable, bare_simple, as_accessors};
+ghost use Rattle.cir_ast.specs.Tree.{bare_component, bare_slot, bare_target, bare_value};
+ghost use Rattle.cir_ast.specs.Tree.{bare_variable, bare_simple, as_accessors};
 ghost use Rattle.cir_ast.specs.declared.marked.Accessor.{Accessor as CodeAccessor};
 ghost use Rattle.cir_ast.specs.declared.program.Meant.{Meant as AnyMeant};
 ghost use Rattle.cir_ast.specs.declared.marked.Simple.TheVariants as simple;
@@ -171,18 +172,15 @@ pub fn assign(alloc: Global, a: &Assign) -> Result<Assign, AllocError>
 {
     match a {
         Assign::Set(p, e) => {
-            let p = place(alloc, p)?;
-            let e = expr(alloc, e)?;
+            let (p, e) = placed(alloc, p, e)?;
             Ok(Assign::Set(p, e))
         }
         Assign::Compound(p, op, e) => {
-            let p = place(alloc, p)?;
-            let e = expr(alloc, e)?;
+            let (p, e) = placed(alloc, p, e)?;
             Ok(Assign::Compound(p, *op, e))
         }
         Assign::Left(p, arrow, e) => {
-            let p = place(alloc, p)?;
-            let e = expr(alloc, e)?;
+            let (p, e) = placed(alloc, p, e)?;
             Ok(Assign::Left(p, *arrow, e))
         }
         Assign::Increment(p) => {
@@ -196,6 +194,16 @@ pub fn assign(alloc: Global, a: &Assign) -> Result<Assign, AllocError>
     }
 }
 
+/// A place, and what is put there.
+fn placed(alloc: Global, p: &Place, e: &Expr) -> Result<(Place, Expr), AllocError>
+    ensures place { IfOk result (λ r. bare_place r.0 ≡ bare_place p.now) }
+    ensures value { IfOk result (λ r. bare r.1 ≡ bare e.now) }
+{
+    let p = place(alloc, p)?;
+    let e = expr(alloc, e)?;
+    Ok((p, e))
+}
+
 pub fn target(alloc: Global, t: &Target) -> Result<Target, AllocError>
     ensures { IfOk result (λ r. bare_target r ≡ bare_target t.now) }
 {
@@ -203,16 +211,23 @@ pub fn target(alloc: Global, t: &Target) -> Result<Target, AllocError>
         Target::Discard => Ok(Target::Discard),
         Target::Tuple(slots) => {
             let mut copies = Vec::with_capacity(alloc, slots.len())?;
-            for slot in slots.as_slice() {
-                match slot {
-                    Slot::Discard => copies.push(Slot::Discard)?,
-                    Slot::Place(p) => {
-                        let p = place(alloc, p)?;
-                        copies.push(Slot::Place(p))?;
-                    }
-                }
+            for s in slots.as_slice() {
+                let copy = slot(alloc, s)?;
+                copies.push(copy)?;
             }
             Ok(Target::Tuple(Items::of(copies)))
+        }
+    }
+}
+
+fn slot(alloc: Global, s: &Slot) -> Result<Slot, AllocError>
+    ensures { IfOk result (λ r. bare_slot r ≡ bare_slot s.now) }
+{
+    match s {
+        Slot::Discard => Ok(Slot::Discard),
+        Slot::Place(p) => {
+            let p = place(alloc, p)?;
+            Ok(Slot::Place(p))
         }
     }
 }
@@ -225,20 +240,36 @@ pub fn variables(
 {
     let mut copies = Vec::with_capacity(alloc, vs.len())?;
     for v in vs {
-        let name = text(alloc, &v.name)?;
-        let dimensions = exprs(alloc, v.dimensions.as_slice())?;
-        let value = match &v.value {
-            None => None,
-            Some(e) => Some(expr(alloc, e)?),
-        };
-        copies.push(DeclaredVariable {
-            name,
-            meant: v.meant,
-            dimensions,
-            value,
-        })?;
+        let copy = variable(alloc, v)?;
+        copies.push(copy)?;
     }
     Ok(Items::of(copies))
+}
+
+fn variable(alloc: Global, v: &DeclaredVariable) -> Result<DeclaredVariable, AllocError>
+    ensures { IfOk result (λ r. bare_variable r ≡ bare_variable v.now) }
+{
+    let name = text(alloc, &v.name)?;
+    let dimensions = exprs(alloc, v.dimensions.as_slice())?;
+    let value = value(alloc, &v.value)?;
+    Ok(DeclaredVariable {
+        name,
+        meant: v.meant,
+        dimensions,
+        value,
+    })
+}
+
+fn value(alloc: Global, value: &Option<Expr>) -> Result<Option<Expr>, AllocError>
+    ensures { IfOk result (λ r. bare_value r ≡ bare_value value.now) }
+{
+    match value {
+        None => Ok(None),
+        Some(e) => {
+            let e = expr(alloc, e)?;
+            Ok(Some(e))
+        }
+    }
 }
 
 pub fn components(alloc: Global, cs: &Components) -> Result<Components, AllocError>
@@ -249,13 +280,8 @@ pub fn components(alloc: Global, cs: &Components) -> Result<Components, AllocErr
         Components::Declared(cs) => {
             let mut copies = Vec::with_capacity(alloc, cs.len())?;
             for c in cs.as_slice() {
-                let name = text(alloc, &c.name)?;
-                let dimensions = exprs(alloc, c.dimensions.as_slice())?;
-                copies.push(DeclaredComponent {
-                    name,
-                    meant: c.meant,
-                    dimensions,
-                })?;
+                let copy = component(alloc, c)?;
+                copies.push(copy)?;
             }
             Ok(Components::Declared(Items::of(copies)))
         }
@@ -265,4 +291,16 @@ pub fn components(alloc: Global, cs: &Components) -> Result<Components, AllocErr
             Ok(Components::Created(name, *meant, e))
         }
     }
+}
+
+fn component(alloc: Global, c: &DeclaredComponent) -> Result<DeclaredComponent, AllocError>
+    ensures { IfOk result (λ r. bare_component r ≡ bare_component c.now) }
+{
+    let name = text(alloc, &c.name)?;
+    let dimensions = exprs(alloc, c.dimensions.as_slice())?;
+    Ok(DeclaredComponent {
+        name,
+        meant: c.meant,
+        dimensions,
+    })
 }

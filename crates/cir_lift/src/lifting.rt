@@ -1,6 +1,7 @@
 ghost use Rattle.std.specs.Prelude.{◌≡◌, [], IfOk, map};
 ghost use Rattle.cir_ast.specs.Tree.{bare, bare_simple, bare_assign, bare_source, bare_target};
-ghost use Rattle.cir_ast.specs.Tree.{bare_signal, bare_signal_value, Assigned};
+ghost use Rattle.cir_ast.specs.Tree.{bare_signal, bare_signal_value, place_accessors};
+ghost use Rattle.cir_ast.specs.Tree.{Assigned, Left};
 ghost use Rattle.cir_ast.specs.Tree.{Signals as BareSignals};
 ghost use Rattle.cir_ast.specs.Tree.{TargetLeft as BareLeft, Values, One, Discard};
 ghost use Rattle.cir_ast.specs.Program.{bare_program};
@@ -11,17 +12,26 @@ ghost use Rattle.cir_lift.specs.Turned.{kept};
 use crate::copies::{self, discard};
 use crate::values::Lifter;
 use cir_ast::program::{
-    Arrow, Assign, DeclaredSignal, Expr, Program, SignalValue, Signals, Simple, Source, Target,
-    Vars,
+    Arrow, Assign, DeclaredSignal, Expr, Place, Program, SignalValue, Signals, Simple, Source,
+    Target, Vars,
 };
 use items::Items;
 use std::alloc::{AllocError, Global};
 
 /// A statement without anonymous components, and those that come before it.
-#[derive(Drop)]
 pub struct Lifted {
     pub before: Vec<Simple>,
     pub value: Simple,
+}
+
+// Written out, so that the proof of an owner sees one call and not the drop of each part.
+impl Drop for Lifted {
+    fn drop(self) {
+        let Lifted {
+            before: _before,
+            value: _value,
+        } = self;
+    }
 }
 
 fn lifter<'p>(alloc: Global, program: &'p Program, first: u32, next: u32) -> Lifter<'p>
@@ -105,11 +115,7 @@ impl Lifter<'_> {
                     }
                 }
             }
-            Simple::Right(e, arrow, place) => {
-                let place = copies::place(self.alloc, place)?;
-                let e = self.expr(e)?;
-                Ok(Simple::Assign(Assign::Left(place, *arrow, e)))
-            }
+            Simple::Right(e, arrow, place) => self.left(place, *arrow, e),
             Simple::TargetLeft(target, arrow, source) => self.tuple(target, *arrow, source),
             Simple::TargetRight(source, arrow, target) => self.tuple(target, *arrow, source),
             Simple::Anonymous(a) => {
@@ -126,11 +132,7 @@ impl Lifter<'_> {
             (Assigned (bare_assign assign.now)) self.old.next)) }
     {
         match assign {
-            Assign::Left(place, arrow, e) => {
-                let place = copies::place(self.alloc, place)?;
-                let e = self.expr(e)?;
-                Ok(Simple::Assign(Assign::Left(place, *arrow, e)))
-            }
+            Assign::Left(place, arrow, e) => self.left(place, *arrow, e),
             Assign::Set(_, _)
             | Assign::Compound(_, _, _)
             | Assign::Increment(_)
@@ -139,6 +141,17 @@ impl Lifter<'_> {
                 Ok(Simple::Assign(assign))
             }
         }
+    }
+
+    fn left(&mut self, place: &Place, arrow: Arrow, e: &Expr) -> Result<Simple, AllocError>
+        ensures { IfOk result (Lifts bare_simple self.old self.new
+            (A.lift_simple (bare_program self.old.program.now) self.old.first
+            (Assigned (Left place.now.name place.now.meant (place_accessors place.now) arrow
+            (bare e.now))) self.old.next)) }
+    {
+        let place = copies::place(self.alloc, place)?;
+        let e = self.expr(e)?;
+        Ok(Simple::Assign(Assign::Left(place, arrow, e)))
     }
 
     fn signals(&mut self, signals: &Signals) -> Result<Simple, AllocError>

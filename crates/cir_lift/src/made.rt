@@ -16,6 +16,7 @@ use cir_ast::program::{
     NamedInput, Place, Program, Simple, Statement, StatementForm,
 };
 use items::Items;
+use itoa::Buffer;
 use std::alloc::{AllocError, Global};
 
 /// A component of the body: which it is among those without a name, and its number.
@@ -43,13 +44,15 @@ fn body_of(program: &Program, meant: Meant) -> &[Statement]
     }
 }
 
-/// The name of a component without one: `@` and its index.
-fn own_name(alloc: Global, own: Own) -> Result<Text, AllocError>
-    ensures { IfOk result (λ t. t ≡ A.own_name own.index) }
+/// The name of a component without one: behind its start `@` and its index.
+fn own_name(alloc: Global, start: &[u8], own: Own) -> Result<Text, AllocError>
+    ensures { IfOk result (λ t. t ≡ start.now ++ A.own_name own.index) }
 {
-    let index = own.index;
-    let name = format!(in alloc; "@{index}")?;
-    Text::from_slice(alloc, name.as_bytes())
+    let mut digits = Buffer::new();
+    let mut name = Vec::from_slice(alloc, start)?;
+    name.push(b'@')?;
+    name.extend_from_slice(digits.format(own.index).as_bytes())?;
+    Text::from_slice(alloc, name.as_slice())
 }
 
 fn signal_place(alloc: Global, own: Own, name: &Text) -> Result<Place, AllocError>
@@ -57,7 +60,7 @@ fn signal_place(alloc: Global, own: Own, name: &Text) -> Result<Place, AllocErro
         ≡ A.signal_of own.index own.number name.now) }
 {
     let member = text(alloc, name)?;
-    let name = own_name(alloc, own)?;
+    let name = own_name(alloc, &[], own)?;
     let accessors = vec![in alloc; Accessor::Member(member)]?;
     Ok(Place {
         name,
@@ -96,13 +99,10 @@ pub fn create(
         ++ Created (a.now.name ++ A.own_name own.index) (meant_as.Component own.number)
         (Call a.now.parallel a.now.name a.now.meant (bare_exprs a.now.arguments)) ∷ []) }
 {
-    let mut name = Vec::from_slice(alloc, a.name.as_slice())?;
-    let own_part = own_name(alloc, own)?;
-    name.extend_from_slice(own_part.as_slice())?;
+    let name = own_name(alloc, a.name.as_slice(), own)?;
     let template = text(alloc, &a.name)?;
     let arguments = exprs(alloc, a.arguments.as_slice())?;
     let call = Expr::Call(a.parallel, template, a.meant, arguments);
-    let name = Text::from_slice(alloc, name.as_slice())?;
     let created = Components::Created(name, Meant::Component(own.number), call);
     before.push(Simple::Components(created))?;
     Ok(())

@@ -112,10 +112,10 @@ impl Lifter<'_> {
             inputs,
             &mut self.before,
         )?;
-        let outputs = outputs(self.alloc, self.program, own, a.meant)?;
         let Some(next) = self.next.checked_add(1) else {
             return Err(AllocError);
         };
+        let outputs = outputs(self.alloc, self.program, own, a.meant)?;
         self.next = next;
         Ok(outputs)
     }

@@ -8,7 +8,7 @@ ghost use Rattle.cir_parse.specs.Reading.{parameters, language_at, pragma, defin
 ghost use Rattle.cir_parse.specs.Reading.{public_names, main, item};
 
 use crate::marks::Marks;
-use crate::statements::{block, words};
+use crate::statements::{block, closed, words};
 use cir_ast::marked::{
     Block, Definition, Function, Include, Item, ItemForm, Main, Pragma, Template,
 };
@@ -199,8 +199,7 @@ pub fn item<S: Drop, N: Blank + Drop, M: Marks<S>>(
         pragma(spot, reader)
     } else if reader.begins_word(Reserved::Include) {
         reader.skip();
-        let name = words(alloc, reader)?;
-        reader.behind(Symbol::Semicolon)?;
+        let name = closed(words(alloc, reader), reader, Symbol::Semicolon)?;
         let form = ItemForm::Include(Include { name });
         Ok(Item { spot, form })
     } else if reader.begins_word(Reserved::Template) {

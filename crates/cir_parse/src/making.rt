@@ -17,15 +17,44 @@ pub struct Head<S, N> {
     pub step: Step<S, N>,
 }
 
-/// Puts a statement behind the others.
-pub fn add<S: Drop, N: Drop>(
-    statements: &mut Vec<Statement<S, N>>,
-    statement: Box<Statement<S, N>>,
-) -> Result<(), AllocError>
-    ensures { OnOk result (statements.new.items ≡ statements.old.items ++ statement.value ∷ []) }
+/// Puts an item behind the others.
+pub fn add<T: Drop>(items: &mut Vec<T>, item: Box<T>) -> Result<(), AllocError>
+    ensures { OnOk result (items.new.items ≡ items.old.items ++ item.value ∷ []) }
 {
-    statements.push(Box::into_inner(statement))?;
+    items.push(Box::into_inner(item))?;
     Ok(())
+}
+
+/// A value on the heap.
+pub fn boxed<T: Drop>(alloc: Global, value: T) -> Result<Box<T>, AllocError>
+    ensures { IfOk result (λ b. b.value ≡ value) }
+{
+    Ok(Box::new(alloc, value)?)
+}
+
+// The outer two on the heap.
+fn outer_boxed<A: Drop, B: Drop, C: Drop>(
+    alloc: Global,
+    a: A,
+    b: B,
+    c: C,
+) -> Result<(Box<A>, B, Box<C>), AllocError>
+    ensures { IfOk result (λ r. (r.0.value ≡ a) × (r.1 ≡ b) × (r.2.value ≡ c)) }
+{
+    let a = boxed(alloc, a)?;
+    let c = boxed(alloc, c)?;
+    Ok((a, b, c))
+}
+
+/// A statement on the heap.
+pub fn stated<S: Drop, N: Drop>(
+    alloc: Global,
+    spot: S,
+    form: StatementForm<S, N>,
+) -> Result<Box<Statement<S, N>>, AllocError>
+    ensures { IfOk result (λ s. (s.value.spot ≡ spot) × (s.value.form ≡ form)) }
+{
+    boxed(alloc, Statement { spot, form })
 }
 
 pub fn block_of<S: Drop, N: Drop>(
@@ -38,7 +67,7 @@ pub fn block_of<S: Drop, N: Drop>(
         ≡ Block spot (as_statements (map seen_statement statements.items))) }
 {
     let block = Statement::block(spot, tight(statements));
-    Ok(Box::new(alloc, block)?)
+    Ok(boxed(alloc, block)?)
 }
 
 pub fn if_of<S: Drop, N: Drop>(
@@ -51,7 +80,7 @@ pub fn if_of<S: Drop, N: Drop>(
         ≡ If spot (seen condition.value) (seen_statement chosen.value)) }
 {
     let form = StatementForm::If(Box::into_inner(condition), chosen);
-    Ok(Box::new(alloc, Statement { spot, form })?)
+    stated(alloc, spot, form)
 }
 
 pub fn if_else_of<S: Drop, N: Drop>(
@@ -66,7 +95,7 @@ pub fn if_else_of<S: Drop, N: Drop>(
         (seen_statement other.value)) }
 {
     let form = StatementForm::IfElse(Box::into_inner(condition), chosen, other);
-    Ok(Box::new(alloc, Statement { spot, form })?)
+    stated(alloc, spot, form)
 }
 
 pub fn while_of<S: Drop, N: Drop>(
@@ -80,7 +109,7 @@ pub fn while_of<S: Drop, N: Drop>(
         ≡ While spot (seen condition.value) (seen_statement body.value)) }
 {
     let form = StatementForm::While(Box::into_inner(condition), body);
-    Ok(Box::new(alloc, Statement { spot, form })?)
+    stated(alloc, spot, form)
 }
 
 pub fn for_of<S: Drop, N: Drop>(
@@ -98,8 +127,7 @@ pub fn for_of<S: Drop, N: Drop>(
         condition,
         step,
     } = Box::into_inner(head);
-    let first = Box::new(alloc, first)?;
-    let step = Box::new(alloc, step)?;
+    let (first, condition, step) = outer_boxed(alloc, first, condition, step)?;
     let form = StatementForm::For(first, condition, step, body);
-    Ok(Box::new(alloc, Statement { spot, form })?)
+    stated(alloc, spot, form)
 }

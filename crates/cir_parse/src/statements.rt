@@ -1,9 +1,10 @@
 //! Statements and blocks, as functions that read on.
-ghost use Rattle.std.specs.Prelude.{◌<◌, ◌^◌, ◌+◌, map};
+ghost use Rattle.std.specs.Prelude.{◌≡◌, ◌<◌, ◌^◌, ◌+◌, map, MatchResult, Some, Ok, Err};
 ghost use Rattle.cir_ast.specs.Tree.{Block, as_statements};
 ghost use Rattle.cir_expression.specs.Answers.{kinds, Reads, seen};
 ghost use Rattle.cir_token.specs.declared.token.Symbol.TheVariants.{Semicolon, OpenParenthesis};
 ghost use Rattle.cir_token.specs.declared.token.Symbol.TheVariants.{CloseParenthesis};
+ghost use Rattle.cir_expression.specs.declared.reader.Stop.TheVariants.{OutOfMemory};
 ghost use Rattle.cir_expression.specs.Reading.{expression};
 ghost use Rattle.cir_expression.specs.Combinators.{after, closed, made, separated, any_number};
 ghost use Rattle.cir_expression.specs.Combinators.{enclosed};
@@ -15,14 +16,14 @@ ghost use Rattle.cir_parse.specs.Reading.{while_by, for_by, rest_by, block};
 ghost use Rattle.cir_simple_statement.specs.Answers.{seen_assign};
 ghost use Rattle.cir_parse.specs.Answers.{seen_first, seen_argument, seen_head, seen_statement};
 
-use crate::making::{Head, add, block_of, for_of, if_else_of, if_of, while_of};
+use crate::making::{Head, add, block_of, boxed, for_of, if_else_of, if_of, stated, while_of};
 use crate::marks::Marks;
 use cir_ast::marked::{Expr, First, FirstForm, LogArgument, Statement, StatementForm, Step, Vars};
 use cir_ast::{Blank, Text};
 use cir_expression::{Reader, Stop, tight};
 use cir_simple_statement::{assign, simple, variables};
 use cir_token::{Reserved, Symbol, TokenKind};
-use std::alloc::Global;
+use std::alloc::{AllocError, Global};
 
 /// What stands between quotes.
 pub fn words(alloc: Global, reader: &mut Reader) -> Result<Text, Stop>
@@ -38,6 +39,37 @@ pub fn words(alloc: Global, reader: &mut Reader) -> Result<Text, Stop>
     let words = Text::from_slice(alloc, words.as_slice())?;
     reader.rest = rest;
     Ok(words)
+}
+
+/// What was read, with this symbol behind it.
+pub fn closed<T: Drop>(
+    found: Result<T, Stop>,
+    reader: &mut Reader,
+    symbol: Symbol,
+) -> Result<T, Stop>
+    ensures { MatchResult found
+        (λ x. Reads (λ y. y) result (kinds reader.new.rest.now)
+        (closed symbol (Some (x, kinds reader.old.rest.now))))
+        (λ stop. result ≡ Err stop) }
+{
+    let found = found?;
+    reader.behind(symbol)?;
+    Ok(found)
+}
+
+// What was read before, and what was read then.
+fn paired<A: Drop, B>(before: A, found: Result<B, Stop>) -> Result<(A, B), Stop>
+    ensures { MatchResult found (λ x. result ≡ Ok (before, x)) (λ stop. result ≡ Err stop) }
+{
+    let found = found?;
+    Ok((before, found))
+}
+
+// Want of memory stops the reading.
+fn or_stop<T>(made: Result<T, AllocError>) -> Result<T, Stop>
+    ensures { MatchResult made (λ x. result ≡ Ok x) (λ _. result ≡ Err OutOfMemory) }
+{
+    Ok(made?)
 }
 
 // What the head of a `for` begins with.
@@ -75,9 +107,8 @@ fn condition<N: Blank + Drop>(
         (condition room (kinds reader.old.rest.now)) }
 {
     reader.behind(Symbol::OpenParenthesis)?;
-    let condition = reader.expression(alloc, room)?;
-    reader.behind(Symbol::CloseParenthesis)?;
-    Ok(condition)
+    let condition = reader.expression(alloc, room);
+    closed(condition, reader, Symbol::CloseParenthesis)
 }
 
 fn condition_boxed<N: Blank + Drop>(
@@ -90,7 +121,7 @@ fn condition_boxed<N: Blank + Drop>(
         (condition room (kinds reader.old.rest.now)) }
 {
     let condition = condition(alloc, reader, room)?;
-    Ok(Box::new(alloc, condition)?)
+    or_stop(boxed(alloc, condition))
 }
 
 // An expression and `;`.
@@ -99,9 +130,7 @@ fn ended<N: Blank + Drop>(alloc: Global, reader: &mut Reader, room: u32) -> Resu
     ensures { Reads seen result (kinds reader.new.rest.now)
         (closed Semicolon (expression room (kinds reader.old.rest.now))) }
 {
-    let value = reader.expression(alloc, room)?;
-    reader.behind(Symbol::Semicolon)?;
-    Ok(value)
+    closed(reader.expression(alloc, room), reader, Symbol::Semicolon)
 }
 
 // `(`, what the head of a `for` begins with, and `;`.
@@ -119,8 +148,7 @@ fn opened<S: Drop, N: Blank + Drop, M: Marks<S>>(
 {
     reader.behind(Symbol::OpenParenthesis)?;
     let spot = marks.mark(reader.rest);
-    let form = first_form(alloc, reader, room)?;
-    reader.behind(Symbol::Semicolon)?;
+    let form = closed(first_form(alloc, reader, room), reader, Symbol::Semicolon)?;
     Ok(First { spot, form })
 }
 
@@ -137,8 +165,8 @@ fn last<S: Drop, N: Blank + Drop, M: Marks<S>>(
         (marked_by (M.mark marks.now) (assign room) (kinds reader.old.rest.now))) }
 {
     let spot = marks.mark(reader.rest);
-    let assign = assign(alloc, reader, room)?;
-    reader.behind(Symbol::CloseParenthesis)?;
+    let assign = assign(alloc, reader, room);
+    let assign = closed(assign, reader, Symbol::CloseParenthesis)?;
     Ok(Step { spot, assign })
 }
 
@@ -155,14 +183,16 @@ fn head<S: Drop, N: Blank + Drop, M: Marks<S>>(
         (head (M.mark marks.now) room (kinds reader.old.rest.now)) }
 {
     let first = opened(alloc, marks, reader, room)?;
-    let condition = ended(alloc, reader, room)?;
-    let step = last(alloc, marks, reader, room)?;
+    let condition = ended(alloc, reader, room);
+    let (first, condition) = paired(first, condition)?;
+    let step = last(alloc, marks, reader, room);
+    let ((first, condition), step) = paired((first, condition), step)?;
     let head = Head {
         first,
         condition,
         step,
     };
-    Ok(Box::new(alloc, head)?)
+    or_stop(boxed(alloc, head))
 }
 
 #[tactic(auto, unfolding(crate::specs::Reading::argument))]
@@ -229,9 +259,8 @@ fn arguments<N: Blank + Drop>(
         reader.skip();
         return Ok(Vec::new(alloc));
     }
-    let arguments = argument_list(alloc, reader, room)?;
-    reader.behind(Symbol::CloseParenthesis)?;
-    Ok(arguments)
+    let arguments = argument_list(alloc, reader, room);
+    closed(arguments, reader, Symbol::CloseParenthesis)
 }
 
 // What stands behind `return`.
@@ -247,7 +276,7 @@ fn returned<S: Drop, N: Blank + Drop>(
 {
     let value = ended(alloc, reader, room)?;
     let form = StatementForm::Return(value);
-    Ok(Box::new(alloc, Statement { spot, form })?)
+    or_stop(stated(alloc, spot, form))
 }
 
 // What stands behind `assert`.
@@ -261,10 +290,9 @@ fn asserted<S: Drop, N: Blank + Drop>(
     ensures { Reads (λ s. seen_statement s.value) result (kinds reader.new.rest.now)
         (asserted spot room (kinds reader.old.rest.now)) }
 {
-    let condition = condition(alloc, reader, room)?;
-    reader.behind(Symbol::Semicolon)?;
+    let condition = closed(condition(alloc, reader, room), reader, Symbol::Semicolon)?;
     let form = StatementForm::Assert(condition);
-    Ok(Box::new(alloc, Statement { spot, form })?)
+    or_stop(stated(alloc, spot, form))
 }
 
 // What stands behind `log`.
@@ -281,7 +309,7 @@ fn logged<S: Drop, N: Blank + Drop>(
     let arguments = arguments(alloc, reader, room)?;
     reader.behind(Symbol::Semicolon)?;
     let form = StatementForm::Log(tight(arguments));
-    Ok(Box::new(alloc, Statement { spot, form })?)
+    Ok(stated(alloc, spot, form)?)
 }
 
 // A simple statement and its `;`.
@@ -295,10 +323,9 @@ fn simply<S: Drop, N: Blank + Drop>(
     ensures { Reads (λ s. seen_statement s.value) result (kinds reader.new.rest.now)
         (simply spot room (kinds reader.old.rest.now)) }
 {
-    let simple = simple(alloc, reader, room)?;
-    reader.behind(Symbol::Semicolon)?;
+    let simple = closed(simple(alloc, reader, room), reader, Symbol::Semicolon)?;
     let form = StatementForm::Simple(simple);
-    Ok(Box::new(alloc, Statement { spot, form })?)
+    or_stop(stated(alloc, spot, form))
 }
 
 // A statement without one inside.
@@ -420,11 +447,11 @@ fn if_statement<S: Drop, N: Blank + Drop, M: Marks<S>>(
     let condition = condition_boxed(alloc, reader, room)?;
     let chosen = statement(alloc, marks, reader, room)?;
     if !reader.begins_word(Reserved::Else) {
-        return Ok(if_of(alloc, spot, condition, chosen)?);
+        return or_stop(if_of(alloc, spot, condition, chosen));
     }
     reader.skip();
     let other = statement(alloc, marks, reader, room)?;
-    Ok(if_else_of(alloc, spot, condition, chosen, other)?)
+    or_stop(if_else_of(alloc, spot, condition, chosen, other))
 }
 
 // What stands behind `while`.
@@ -442,7 +469,7 @@ fn while_statement<S: Drop, N: Blank + Drop, M: Marks<S>>(
 {
     let condition = condition_boxed(alloc, reader, room)?;
     let body = statement(alloc, marks, reader, room)?;
-    Ok(while_of(alloc, spot, condition, body)?)
+    or_stop(while_of(alloc, spot, condition, body))
 }
 
 // What stands behind `for`.
@@ -461,7 +488,7 @@ fn for_statement<S: Drop, N: Blank + Drop, M: Marks<S>>(
 {
     let head = head(alloc, marks, reader, room)?;
     let body = statement(alloc, marks, reader, room)?;
-    Ok(for_of(alloc, spot, head, body)?)
+    or_stop(for_of(alloc, spot, head, body))
 }
 
 /// A block whose statements are at most this high.

@@ -42,13 +42,24 @@ pub struct Called<'p> {
 }
 
 /// What stands in a body.
-#[derive(Drop)]
 pub struct Texts<'p> {
     /// In the order of execution.
     pub wanted: Vec<Wanted<'p>>,
     pub returned: Vec<&'p Expr>,
     pub variables: Vec<&'p DeclaredVariable>,
     pub assigns: Vec<&'p Assign>,
+}
+
+// Written out, so that the proof of an owner sees one call and not the drop of each part.
+impl<'p> Drop for Texts<'p> {
+    fn drop(self) {
+        let Texts {
+            wanted: _wanted,
+            returned: _returned,
+            variables: _variables,
+            assigns: _assigns,
+        } = self;
+    }
 }
 
 /// The operator of a symbol such as `+=`.

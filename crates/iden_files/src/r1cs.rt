@@ -5,7 +5,6 @@ use std::marker::Model;
 /// What an `.r1cs` file means. Wire 0 stands for the number 1; then come the outputs, the public
 /// inputs, the private inputs and all others. Each wire has a label, and each signal of a
 /// constraint is a wire.
-#[derive(Drop)]
 pub struct R1cs {
     pub wires: u32,
     pub outputs: u32,
@@ -15,6 +14,21 @@ pub struct R1cs {
     pub label_count: u64,
     pub labels: Items<u64>,
     pub constraints: Items<Constraint>,
+}
+
+// Written out, so that the proof of an owner sees one call and not the drop of each part.
+impl Drop for R1cs {
+    fn drop(self) {
+        let R1cs {
+            wires: _wires,
+            outputs: _outputs,
+            public_inputs: _public_inputs,
+            private_inputs: _private_inputs,
+            label_count: _label_count,
+            labels: _labels,
+            constraints: _constraints,
+        } = self;
+    }
 }
 
 impl Model for R1cs {

@@ -20,10 +20,19 @@ pub enum LogPart {
 }
 
 /// The log line of the step of this number.
-#[derive(Drop)]
 pub struct LogLine {
     pub step: u32,
     pub parts: Items<LogPart>,
+}
+
+// Written out, so that the proof of an owner sees one call and not the drop of each part.
+impl Drop for LogLine {
+    fn drop(self) {
+        let LogLine {
+            step: _step,
+            parts: _parts,
+        } = self;
+    }
 }
 
 /// The steps of a program's circuit as code for the witness machine.

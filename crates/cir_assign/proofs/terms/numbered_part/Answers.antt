@@ -1,4 +1,5 @@
-use Rattle.std.proofs.Common.{◌≡◌, ◌*◌, ◌∙◌, ap, take, List}
+use Rattle.std.proofs.Common.{◌≡◌, ◌*◌, ◌∙◌, ap, arith, take, List}
+use Rattle.std.proofs.lemmas.Grind.{common_steps}
 use Rattle.std.proofs.lemmas.List.{take_all}
 use Rattle.gold_field.specs.declared.form.Term.{Term}
 use Rattle.cir_meaning.specs.Compile.{group_size}
@@ -13,3 +14,6 @@ of-requires c =
     c.loop-t.invariant ∙ ap (numbered (4 * group_size)) all in
     rw (e, c.as_slice-t-items.ensures.terms) (numbered_rises (4 * group_size) 0 c.args.f.now
     c.as_slice-t-items.ensures.rises)
+
+pub loop-t-preserved : goal.loop-t-preserved
+loop-t-preserved c = grind (arith, common_steps)

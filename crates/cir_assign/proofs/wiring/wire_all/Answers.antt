@@ -33,15 +33,15 @@ loop-at-preserved g c =
             went.0,
             wires_step k (where_at c.args.here.now) c.args.arrow (target_by c.args.target.now r)
                 c.args.first at c.args.count c.in_ok-place.place c.loop-at.items.items
-                c.replace-v.result _ (state_of c.loop-at.frame c.loop-at.world left.0) _
-                c.replace-v.new.dest (state_of c.wire.new.frame c.wire.new.world went.0) h l refl
-                c.in_ok-place.ensures (rw c.replace-v.ensures.value c.index_mut.ensures.value)
+                c.index_mut.result.now _ (state_of c.loop-at.frame c.loop-at.world left.0) _
+                c.wire.new.v (state_of c.wire.new.frame c.wire.new.world went.0) h l refl
+                c.in_ok-place.ensures c.index_mut.ensures.value
                 left.1
                 went.1,
             lists_next qs left.0 went.0 c.args.world.now c.loop-at.world c.wire.new.world left.2
                 went.2,
           );
-      many = length-set c.loop-at.items.items at c.replace-v.new.dest ∙ c.loop-at.invariant.many;
+      many = length-set c.loop-at.items.items at c.wire.new.v ∙ c.loop-at.invariant.many;
     }
 
 pub returns-in_err-wire : goal.returns-in_err-wire
@@ -55,9 +55,9 @@ returns-in_err-wire g c =
     leads_refused qs c.args.world.now c.wire.new.frame c.wire.new.world
     c.from_residual-in_err-wire.result _ _ c.from_residual-in_err-wire.ensures.1
     (wires_stop k (where_at c.args.here.now) c.args.arrow (target_by c.args.target.now r)
-    c.args.first at c.args.count c.in_ok-place.place c.loop-at.items.items c.replace-v.result _
+    c.args.first at c.args.count c.in_ok-place.place c.loop-at.items.items c.index_mut.result.now _
     (state_of c.loop-at.frame c.loop-at.world left.0) _ h l c.in_ok-place.ensures
-    (rw c.replace-v.ensures.value c.index_mut.ensures.value) left.1
+    c.index_mut.ensures.value left.1
     (c.in_err-wire.ensures k r left.0 size))
 
 pub returns : goal.returns

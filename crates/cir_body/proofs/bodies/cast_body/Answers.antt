@@ -60,11 +60,12 @@ returns g c = λ m qs s is first listed follows.
     (c.in_ok-execute_all.ensures m record { state = emission_at s w.made.next; steps = [] }
     (c.in_ok-inside.ensures m.first w qs s is first c.requires.added listed)) in
     let shows = subst (λ l. Shows l i v done.0) first done.2 in
-    end_casts q t.body s w.made.next follows done.0 done.1 qs w v i _ shows
+    rw c.into_signals.ensures
+    (end_casts q t.body s w.made.next follows done.0 done.1 qs w v i _ shows
     (c.in_ok-all_ended.ensures m.means.call m.means.make (known_in done.0.state)
     (ap (λ z. z.frame.signals) done.2.state) (ap (λ z. z.frame.parts) done.2.state)
     ∙ ap (λ (w : World). Ok (signals_of i.frame.signals.items, w))
     (ap (λ z. z.world) done.2.state)) refl
     (c.in_ok-inside-2.ensures
     ∙ ap (λ ps. part_homes ps c.as_slice-2.result.now) c.as_slice-parts.ensures.value
-    ∙ ap (λ cs. part_homes i.frame.parts.items cs) c.as_slice-2.ensures.value) refl
+    ∙ ap (λ cs. part_homes i.frame.parts.items cs) c.as_slice-2.ensures.value) refl)

@@ -17,7 +17,7 @@ use Rattle.cir_execute.specs.Rests.{assign_inside, inside}
 use Rattle.cir_execute.proofs.Standing.{all_end, all_more, at_both, else_stands, for_stands}
 use Rattle.cir_execute.proofs.Standing.{form_of, formed, if_stands, none_first, none_more}
 use Rattle.cir_execute.proofs.Standing.{none_then, simple_stands, stands_one, unchanged}
-use Rattle.cir_execute.proofs.Standing.{unchanged_by, unchanged_next}
+use Rattle.cir_execute.proofs.Standing.{unchanged_all, unchanged_by, unchanged_next}
 use Rattle.cir_execute.proofs.Fors.{for_shown}
 use Rattle.cir_execute.proofs.inside.+add_statement.Goals as goal
 
@@ -208,25 +208,28 @@ returns-in_ok-add_statement-in-For-clause-same g t c =
     (c.in_ok-add_statement-in-For.ensures.same m))) (c.add_assign.ensures.same m)
 
 -- ---- others
-pub returns-in_ok-add-in-Assert-clause-cost : goal.returns-in_ok-add-in-Assert-clause-cost
-returns-in_ok-add-in-Assert-clause-cost g t c =
+pub returns-in-Assert-clause-cost : goal.returns-in-Assert-clause-cost
+returns-in-Assert-clause-cost g t c =
     let h = c.args.dark.now in
     let a = c.args.statement.now in
     let e = c.in-Assert.condition in
-    let last = c.add-in-Assert.new.self in
+    let tail = c.add-in-Assert in
+    let last = tail.new.self in
     λ m qs dark free.
     let k = context_at h m in
     let w = where_at h in
     let s = state_of c.args.frame.now c.args.world.now qs in
-    formed (λ z. AddsOnce c.args.cost.now last (inside k w z s)) a _ c.in-Assert.is
+    on_ok_weaker tail.result
+    (λ z. formed (λ x. AddsOnce c.args.cost.now last (inside k w x s)) a _ c.in-Assert.is
     (simple_stands k w s c.args.cost.now c.node.new.self last _ (wanted Scalar (bare e))
-    c.node.ensures (stands_one k w s c.node.new.self last Scalar (bare e) h.shaded s dark refl
-    (c.in_ok-add-in-Assert.ensures.cost m qs)))
+    c.node.ensures (stands_one k w s c.node.new.self last Scalar (bare e) h.shaded s dark refl z)))
+    (tail.ensures.cost m qs)
 
-pub returns-in_ok-add-in-Assert-clause-same : goal.returns-in_ok-add-in-Assert-clause-same
-returns-in_ok-add-in-Assert-clause-same g t c =
-    let test = c.in_ok-add-in-Assert.ensures in
-    λ m. unchanged_by c.args.world.now c.add-in-Assert.new.world (test.same m) (test.keeps m)
+pub returns-in-Assert-clause-same : goal.returns-in-Assert-clause-same
+returns-in-Assert-clause-same g t c =
+    let tail = c.add-in-Assert in
+    λ m. unchanged_all tail.result c.args.world.now tail.new.world (tail.ensures.same m)
+    (tail.ensures.keeps m)
 
 pub returns-in-Vars-clause-cost : goal.returns-in-Vars-clause-cost
 returns-in-Vars-clause-cost g t c =

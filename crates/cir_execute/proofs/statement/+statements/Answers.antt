@@ -1,31 +1,25 @@
 use Rattle.std.proofs.Common.{◌∙◌, ◌+◌, ap, sym, refl, map, Ok}
-use Rattle.cir_ast.specs.Tree.{Log, as_statements, bare, bare_argument, bare_assign, bare_first}
-use Rattle.cir_ast.specs.Tree.{bare_form, bare_statement}
+use Rattle.cir_ast.specs.Tree.{Log, as_statements, bare, bare_argument, bare_form, bare_statement}
 use Rattle.cir_ast.proofs.Rows.{block_is}
 use Rattle.cir_values.specs.declared.operators.Side.TheVariants.{First, Second, Both}
 use Rattle.cir_meaning.specs.Tried.{Tried, next}
 use Rattle.cir_meaning.specs.Frame.{State, at, counted}
 use Rattle.cir_meaning.specs.Unknown.{fault_of}
 use Rattle.cir_meaning.specs.Scan.{undecided}
-use Rattle.cir_meaning.specs.Simple.{simple}
-use Rattle.cir_meaning.specs.Statement.{Flow, Going, Returned, exec, exec_all, first_simple, goes}
-use Rattle.cir_meaning.specs.Statement.{loop_of, most_turns, turns}
-use Rattle.cir_arrays.specs.Shown.{datum_of}
+use Rattle.cir_meaning.specs.Statement.{Flow, Going, exec, exec_all, goes, most_turns, turns}
 use Rattle.cir_frame.specs.Shown.{state_of}
 use Rattle.cir_assign.specs.Makes.{context_in}
 use Rattle.cir_assign.proofs.Stepping.{lists_kept}
 use Rattle.cir_execute.specs.declared.statement.Flow.TheVariants as flow
-use Rattle.cir_execute.specs.Rests.{loop_fault, loop_turn, turn_of}
-use Rattle.cir_execute.proofs.Going.{counted_led, flows_at, flows_exit, flows_goes, flows_going}
+use Rattle.cir_execute.specs.Rests.{turn_of}
+use Rattle.cir_execute.proofs.Going.{counted_leads, counted_led, flows_at, flows_exit, flows_going}
 use Rattle.cir_execute.proofs.Going.{flows_next, flows_refused}
 use Rattle.cir_execute.proofs.Branching.{all_end, all_from, all_goes, all_refused, all_stops}
 use Rattle.cir_execute.proofs.Branching.{flows_stop, rests_flow, rests_more}
 use Rattle.cir_execute.proofs.Flowing.{flows_executed, else_flows, else_stops, err_stops, if_flows}
 use Rattle.cir_execute.proofs.Flowing.{if_stops, left_at, step_flows, turn_ends, turn_goes}
 use Rattle.cir_execute.proofs.Flowing.{turn_stops, turn_told, turns_begin, turns_end, unknown_by}
-use Rattle.cir_execute.proofs.Flowing.{asserted_flows}
-use Rattle.cir_execute.proofs.Scanning.{kept_constraints}
-use Rattle.cir_execute.proofs.Fors.{for_shown}
+use Rattle.cir_execute.proofs.Flowing.{asserted_flows, for_flows}
 use Rattle.cir_execute.proofs.statement.+statements.Goals as goal
 
 -- ---- statements in turn
@@ -291,132 +285,41 @@ execute-returns-in_ok-counted-in-While g t c = λ m qs.
     c.in_ok-counted-in-While.ensures.keeps)
     (λ es. c.turns.ensures m es)))
 
-pub execute-returns-in_err-counted-in-For : goal.execute-returns-in_err-counted-in-For
-execute-returns-in_err-counted-in-For g t c = λ m qs.
-    let k = context_in c.args.body.now m in
-    let f = c.args.frame.now in
-    let w0 = c.args.world.now in
-    let w1 = c.counted-in-For.new.world in
-    let r = c.from_residual-in_err-counted-in-For.result in
-    flows_executed k c.args.statement.now _ qs w0 w1 f f r c.in-For.is
-    (flows_exit qs w0 w1 f r _ _ _ c.from_residual-in_err-counted-in-For.ensures.1
-    (c.in_err-counted-in-For.ensures.value f qs))
-
 pub execute-returns-in_err-begin-in-For : goal.execute-returns-in_err-begin-in-For
 execute-returns-in_err-begin-in-For g t c = λ m qs.
     let k = context_in c.args.body.now m in
     let a = c.args.statement.now in
-    let f = c.args.frame.now in
     let w0 = c.args.world.now in
-    let w1 = c.counted-in-For.new.world in
-    let w2 = c.begin.new.world in
-    let f2 = c.begin.new.frame in
+    let w1 = c.begin.new.world in
+    let f1 = c.begin.new.frame in
     let r = c.from_residual-in_err-begin-in-For.result in
-    let first = counted (at k a.spot) (state_of f w0 qs) in
-    let shown = for_shown a _ _ c.deref-in-For.result.now _ _ _ _ _ c.in-For.is refl
-    c.deref-in-For.ensures refl refl in
-    flows_at qs w0 w2 f2 r _ _ (ap (λ u. exec k u (state_of f w0 qs)) shown)
-    (flows_next qs w0 w1 w2 f f2 r first _
-    (counted_led qs w0 w1 f first (c.in_ok-counted-in-For.ensures.value f qs)
-    c.in_ok-counted-in-For.ensures.keeps)
-    (λ es. flows_exit es w1 w2 f2 r _ _ _ c.from_residual-in_err-begin-in-For.ensures.1
-    (c.in_err-begin-in-For.ensures m es)))
+    for_flows k a _ c.deref-in-For.result.now _ _ _ _ _ _ qs w0 w1 c.args.frame.now f1 r
+    c.in-For.is refl c.deref-in-For.ensures refl refl
+    (flows_exit qs w0 w1 f1 r _ _ _ c.from_residual-in_err-begin-in-For.ensures.1
+    (c.in_err-begin-in-For.ensures m qs))
 
-pub execute-returns-in_err-counted-in-For-2 : goal.execute-returns-in_err-counted-in-For-2
-execute-returns-in_err-counted-in-For-2 g t c = λ m qs.
+pub execute-returns-in_ok-begin-in-For : goal.execute-returns-in_ok-begin-in-For
+execute-returns-in_ok-begin-in-For g t c = λ m qs.
     let k = context_in c.args.body.now m in
     let a = c.args.statement.now in
-    let f = c.args.frame.now in
     let w0 = c.args.world.now in
-    let w1 = c.counted-in-For.new.world in
-    let w2 = c.begin.new.world in
-    let f2 = c.begin.new.frame in
-    let w3 = c.counted-in-For-2.new.world in
-    let r = c.from_residual-in_err-counted-in-For-2.result in
-    let first = counted (at k a.spot) (state_of f w0 qs) in
-    let shown = for_shown a _ _ c.deref-in-For.result.now _ _ _ _ _ c.in-For.is refl
-    c.deref-in-For.ensures refl refl in
-    flows_at qs w0 w3 f2 r _ _ (ap (λ u. exec k u (state_of f w0 qs)) shown)
-    (flows_next qs w0 w1 w3 f f2 r first _
-    (counted_led qs w0 w1 f first (c.in_ok-counted-in-For.ensures.value f qs)
-    c.in_ok-counted-in-For.ensures.keeps)
-    (λ es. flows_next es w1 w2 w3 f2 f2 r _ _ (c.in_ok-begin-in-For.ensures m es)
-    (λ fs. flows_exit fs w2 w3 f2 r _ _ _ c.from_residual-in_err-counted-in-For-2.ensures.1
-    (c.in_err-counted-in-For-2.ensures.value f2 fs))))
-
-pub execute-returns-in_ok-counted-in-For-2 : goal.execute-returns-in_ok-counted-in-For-2
-execute-returns-in_ok-counted-in-For-2 g t c = λ m qs.
-    let k = context_in c.args.body.now m in
-    let a = c.args.statement.now in
-    let f = c.args.frame.now in
-    let w0 = c.args.world.now in
-    let w1 = c.counted-in-For.new.world in
-    let w2 = c.begin.new.world in
-    let f2 = c.begin.new.frame in
-    let w3 = c.counted-in-For-2.new.world in
-    let w4 = c.turns-in-For.new.world in
-    let f4 = c.turns-in-For.new.frame in
+    let w1 = c.begin.new.world in
+    let w2 = c.turns-in-For.new.world in
+    let f1 = c.begin.new.frame in
+    let f2 = c.turns-in-For.new.frame in
     let r = c.turns-in-For.result in
-    let first = counted (at k a.spot) (state_of f w0 qs) in
-    let shown = for_shown a _ _ c.deref-in-For.result.now _ _ c.deref-step.result.now _
-    c.deref-repeated.result.now c.in-For.is refl c.deref-in-For.ensures c.deref-step.ensures
-    c.deref-repeated.ensures in
-    flows_at qs w0 w4 f4 r _ _ (ap (λ u. exec k u (state_of f w0 qs)) shown)
-    (flows_next qs w0 w1 w4 f f4 r first _
-    (counted_led qs w0 w1 f first (c.in_ok-counted-in-For.ensures.value f qs)
-    c.in_ok-counted-in-For.ensures.keeps)
-    (λ es. flows_next es w1 w2 w4 f2 f4 r _ _ (c.in_ok-begin-in-For.ensures m es)
-    (λ fs. flows_next fs w2 w3 w4 f2 f4 r _ _
-    (counted_led fs w2 w3 f2 _ (c.in_ok-counted-in-For-2.ensures.value f2 fs)
-    c.in_ok-counted-in-For-2.ensures.keeps)
-    (λ gs. c.turns-in-For.ensures m gs))))
+    for_flows k a _ c.deref-in-For.result.now _ c.deref-step.result.now c.deref-repeated.result.now
+    _ _ _ qs w0 w2 c.args.frame.now f2 r c.in-For.is refl c.deref-in-For.ensures
+    c.deref-step.ensures c.deref-repeated.ensures
+    (flows_next qs w0 w1 w2 f1 f2 r _ _ (c.in_ok-begin-in-For.ensures m qs)
+    (λ es. c.turns-in-For.ensures m es))
 
 -- ---- the others
-pub execute-returns-in_err-d-in-Return : goal.execute-returns-in_err-d-in-Return
-execute-returns-in_err-d-in-Return g t c = λ m qs.
-    let k = context_in c.args.body.now m in
+pub execute-returns-in-Return : goal.execute-returns-in-Return
+execute-returns-in-Return g t c = λ m qs.
     let f = c.args.frame.now in
-    let w0 = c.args.world.now in
-    let w1 = c.datum.new.world in
-    let r = c.from_residual-in_err-d-in-Return.result in
-    let d = rw c.here.ensures at c.in_err-d-in-Return.ensures.value in
-    flows_executed k c.args.statement.now _ qs w0 w1 f f r c.in-Return.is
-    (flows_exit qs w0 w1 f r _ _ _ c.from_residual-in_err-d-in-Return.ensures.1 (d m.means qs))
-
-pub execute-returns-in_err-counted-in-Return : goal.execute-returns-in_err-counted-in-Return
-execute-returns-in_err-counted-in-Return g t c = λ m qs.
-    let k = context_in c.args.body.now m in
-    let f = c.args.frame.now in
-    let w0 = c.args.world.now in
-    let w1 = c.datum.new.world in
-    let w2 = c.counted-in-Return.new.world in
-    let r = c.from_residual-in_err-counted-in-Return.result in
-    let d = rw c.here.ensures at c.in_ok-d-in-Return.ensures.value in
-    flows_executed k c.args.statement.now _ qs w0 w2 f f r c.in-Return.is
-    (flows_at qs w0 w2 f r _ _
-    (ap (λ z. next z (λ (d, s1). next (counted (at k c.args.statement.now.spot) s1)
-    (λ s2. Ok (Returned d s2.world)))) (d m.means qs))
-    (flows_exit qs w0 w2 f r _ _ _ c.from_residual-in_err-counted-in-Return.ensures.1
-    (c.in_err-counted-in-Return.ensures.value f qs)))
-
-pub execute-returns-in_ok-counted-in-Return : goal.execute-returns-in_ok-counted-in-Return
-execute-returns-in_ok-counted-in-Return g t c = λ m qs.
-    let k = context_in c.args.body.now m in
-    let f = c.args.frame.now in
-    let w0 = c.args.world.now in
-    let w2 = c.counted-in-Return.new.world in
-    let d = rw c.here.ensures at c.in_ok-d-in-Return.ensures.value in
-    let keeps = rw c.here.ensures at c.in_ok-d-in-Return.ensures.keeps in
-    flows_executed k c.args.statement.now _ qs w0 w2 f f (Ok (flow.Returned c.in_ok-d-in-Return.d))
-    c.in-Return.is (
-      qs,
-      ap (λ z. next z (λ (d, s1). next (counted (at k c.args.statement.now.spot) s1)
-          (λ s2. Ok (Returned d s2.world)))) (d m.means qs)
-          ∙ ap (λ z. next z (λ (s2 : State). Ok (Returned (datum_of c.in_ok-d-in-Return.d)
-          s2.world))) (c.in_ok-counted-in-Return.ensures.value f qs),
-      lists_kept qs w0 w2
-          (kept_constraints w2 w0 (c.in_ok-counted-in-Return.ensures.keeps ∙ keeps m.means)),
-    )
+    flows_executed (context_in c.args.body.now m) c.args.statement.now _ qs c.args.world.now
+    c.returned.new.world f f c.returned.result c.in-Return.is (c.returned.ensures m.means qs)
 
 pub execute-returns-in_err-assert-in-Assert : goal.execute-returns-in_err-assert-in-Assert
 execute-returns-in_err-assert-in-Assert g t c = λ m qs.
@@ -431,36 +334,21 @@ execute-returns-in_err-assert-in-Assert g t c = λ m qs.
     (flows_exit qs w0 w1 f r _ _ _ c.from_residual-in_err-assert-in-Assert.ensures.1
     (c.in_err-assert-in-Assert.ensures m.means qs)))
 
-pub execute-returns-in_err-counted-in-Assert : goal.execute-returns-in_err-counted-in-Assert
-execute-returns-in_err-counted-in-Assert g t c = λ m qs.
+pub execute-returns-in_ok-assert-in-Assert : goal.execute-returns-in_ok-assert-in-Assert
+execute-returns-in_ok-assert-in-Assert g t c = λ m qs.
     let k = context_in c.args.body.now m in
     let a = c.args.statement.now in
     let f = c.args.frame.now in
     let w0 = c.args.world.now in
     let w1 = c.assert.new.world in
     let w2 = c.counted-in-Assert.new.world in
-    let r = c.from_residual-in_err-counted-in-Assert.result in
+    let r = c.ended.result in
     flows_executed k a _ qs w0 w2 f f r c.in-Assert.is
     (asserted_flows k a.spot (bare c.in-Assert.condition) qs w0 w2 f f r
     (flows_next qs w0 w1 w2 f f r _ _ (c.in_ok-assert-in-Assert.ensures m.means qs)
-    (λ es. flows_exit es w1 w2 f r _ _ _ c.from_residual-in_err-counted-in-Assert.ensures.1
-    (c.in_err-counted-in-Assert.ensures.value f es))))
-
-pub execute-returns-in_ok-counted-in-Assert : goal.execute-returns-in_ok-counted-in-Assert
-execute-returns-in_ok-counted-in-Assert g t c = λ m qs.
-    let k = context_in c.args.body.now m in
-    let a = c.args.statement.now in
-    let f = c.args.frame.now in
-    let w0 = c.args.world.now in
-    let w1 = c.assert.new.world in
-    let w2 = c.counted-in-Assert.new.world in
-    flows_executed k a _ qs w0 w2 f f (Ok flow.Going) c.in-Assert.is
-    (asserted_flows k a.spot (bare c.in-Assert.condition) qs w0 w2 f f (Ok flow.Going)
-    (flows_next qs w0 w1 w2 f f (Ok flow.Going) _ (λ s. goes (counted (at k a.spot) s))
-    (c.in_ok-assert-in-Assert.ensures m.means qs)
-    (λ es. flows_goes es w1 w2 f _
-    (counted_led es w1 w2 f _ (c.in_ok-counted-in-Assert.ensures.value f es)
-    c.in_ok-counted-in-Assert.ensures.keeps))))
+    (λ es. c.ended.ensures es w1 w2 f _
+    (counted_leads es w1 w2 f c.counted-in-Assert.result _
+    (c.counted-in-Assert.ensures.value f es) c.counted-in-Assert.ensures.keeps))))
 
 pub execute-returns-in_err-log-in-Log : goal.execute-returns-in_err-log-in-Log
 execute-returns-in_err-log-in-Log g t c = λ m qs.
@@ -478,63 +366,34 @@ execute-returns-in_err-log-in-Log g t c = λ m qs.
     (flows_exit qs w0 w1 f r _ _ _ c.from_residual-in_err-log-in-Log.ensures.1
     (c.in_err-log-in-Log.ensures m.means qs)))
 
-pub execute-returns-in_err-counted-in-Log : goal.execute-returns-in_err-counted-in-Log
-execute-returns-in_err-counted-in-Log g t c = λ m qs.
+pub execute-returns-in_ok-log-in-Log : goal.execute-returns-in_ok-log-in-Log
+execute-returns-in_ok-log-in-Log g t c = λ m qs.
     let k = context_in c.args.body.now m in
     let a = c.args.statement.now in
     let f = c.args.frame.now in
     let w0 = c.args.world.now in
     let w1 = c.log.new.world in
     let w2 = c.counted-in-Log.new.world in
-    let r = c.from_residual-in_err-counted-in-Log.result in
+    let r = c.ended-in-Log.result in
     flows_executed k a _ qs w0 w2 f f r c.in-Log.is
     (flows_at qs w0 w2 f r _ (exec k (Log a.spot (map bare_argument c.as_slice-in-Log.result.now))
     (state_of f w0 qs))
     (ap (λ xs. exec k (Log a.spot (map bare_argument xs)) (state_of f w0 qs))
     (sym c.as_slice-in-Log.ensures))
-    (flows_next qs w0 w1 w2 f f r _ _ (c.in_ok-log-in-Log.ensures m.means qs)
-    (λ es. flows_exit es w1 w2 f r _ _ _ c.from_residual-in_err-counted-in-Log.ensures.1
-    (c.in_err-counted-in-Log.ensures.value f es))))
-
-pub execute-returns-in_ok-counted-in-Log : goal.execute-returns-in_ok-counted-in-Log
-execute-returns-in_ok-counted-in-Log g t c = λ m qs.
-    let k = context_in c.args.body.now m in
-    let a = c.args.statement.now in
-    let f = c.args.frame.now in
-    let w0 = c.args.world.now in
-    let w1 = c.log.new.world in
-    let w2 = c.counted-in-Log.new.world in
-    flows_executed k a _ qs w0 w2 f f (Ok flow.Going) c.in-Log.is
-    (flows_at qs w0 w2 f (Ok flow.Going) _
-    (exec k (Log a.spot (map bare_argument c.as_slice-in-Log.result.now)) (state_of f w0 qs))
-    (ap (λ xs. exec k (Log a.spot (map bare_argument xs)) (state_of f w0 qs))
-    (sym c.as_slice-in-Log.ensures))
-    (flows_next qs w0 w1 w2 f f (Ok flow.Going) _ (λ s. goes (counted (at k a.spot) s))
+    (flows_next qs w0 w1 w2 f f r _ (λ s. goes (counted (at k a.spot) s))
     (c.in_ok-log-in-Log.ensures m.means qs)
-    (λ es. flows_goes es w1 w2 f _
-    (counted_led es w1 w2 f _ (c.in_ok-counted-in-Log.ensures.value f es)
-    c.in_ok-counted-in-Log.ensures.keeps))))
+    (λ es. c.ended-in-Log.ensures es w1 w2 f _
+    (counted_leads es w1 w2 f c.counted-in-Log.result _
+    (c.counted-in-Log.ensures.value f es) c.counted-in-Log.ensures.keeps))))
 
-pub execute-returns-in_err-simple-in-Simple : goal.execute-returns-in_err-simple-in-Simple
-execute-returns-in_err-simple-in-Simple g t c = λ m qs.
-    let k = context_in c.args.body.now m in
+pub execute-returns-in-Simple : goal.execute-returns-in-Simple
+execute-returns-in-Simple g t c = λ m qs.
     let w0 = c.args.world.now in
     let w1 = c.simple.new.world in
     let f1 = c.simple.new.frame in
-    let r = c.from_residual-in_err-simple-in-Simple.result in
-    flows_executed k c.args.statement.now _ qs w0 w1 c.args.frame.now f1 r c.in-Simple.is
-    (flows_exit qs w0 w1 f1 r _ _ _ c.from_residual-in_err-simple-in-Simple.ensures.1
-    (c.in_err-simple-in-Simple.ensures m qs))
-
-pub execute-returns-in_ok-simple-in-Simple : goal.execute-returns-in_ok-simple-in-Simple
-execute-returns-in_ok-simple-in-Simple g t c = λ m qs.
-    let k = context_in c.args.body.now m in
-    let w0 = c.args.world.now in
-    let w1 = c.simple.new.world in
-    let f1 = c.simple.new.frame in
-    flows_executed k c.args.statement.now _ qs w0 w1 c.args.frame.now f1 (Ok flow.Going)
-    c.in-Simple.is
-    (flows_goes qs w0 w1 f1 _ (c.in_ok-simple-in-Simple.ensures m qs))
+    flows_executed (context_in c.args.body.now m) c.args.statement.now _ qs w0 w1
+    c.args.frame.now f1 c.ended-in-Simple.result c.in-Simple.is
+    (c.ended-in-Simple.ensures qs w0 w1 f1 _ (c.simple.ensures m qs))
 
 -- ---- the turns of a loop
 pub turns-loop-turn-init : goal.turns-loop-turn-init
@@ -726,9 +585,8 @@ turn-returns-in-Returned g t c = λ m qs.
     (λ es. flows_stop es w2 w3 f3 r _ _ tt
     (rw c.in-Returned.is at (c.in_ok-d.ensures m es)))
 
-pub turn-returns-in_err-simple_assign-in-Going :
-    goal.turn-returns-in_err-simple_assign-in-Going
-turn-returns-in_err-simple_assign-in-Going g t c = λ m qs.
+pub turn-returns-in-Going : goal.turn-returns-in-Going
+turn-returns-in-Going g t c = λ m qs.
     let k = context_in c.args.body.now m in
     let f = c.args.frame.now in
     let w0 = c.args.world.now in
@@ -738,32 +596,10 @@ turn-returns-in_err-simple_assign-in-Going g t c = λ m qs.
     let f3 = c.execute-2.new.frame in
     let w4 = c.simple_assign.new.world in
     let f4 = c.simple_assign.new.frame in
-    let r = c.from_residual-in_err-simple_assign-in-Going.result in
-    let is = c.from_residual-in_err-simple_assign-in-Going.ensures.1 in
+    let r = c.ended.result in
     step_flows k c.args.spot (bare_statement c.args.repeated.now) c.args.step _ qs w0 w1 w2 w4 f f4
     r c.in-Some.is (c.in_ok-counted.ensures.value f qs) c.in_ok-counted.ensures.keeps
     (λ es. c.in_ok-counted-2.ensures.value f es) c.in_ok-counted-2.ensures.keeps
     (λ es. flows_going es w2 w3 w4 f3 f4 r _ _
     (rw c.in-Going.is at (c.in_ok-d.ensures m es))
-    (λ fs. flows_exit fs w3 w4 f4 r _ _ _ is
-    (c.in_err-simple_assign-in-Going.ensures m fs)))
-
-pub turn-returns-in_ok-simple_assign-in-Going :
-    goal.turn-returns-in_ok-simple_assign-in-Going
-turn-returns-in_ok-simple_assign-in-Going g t c = λ m qs.
-    let k = context_in c.args.body.now m in
-    let f = c.args.frame.now in
-    let w0 = c.args.world.now in
-    let w1 = c.counted.new.world in
-    let w2 = c.counted-2.new.world in
-    let w3 = c.execute-2.new.world in
-    let f3 = c.execute-2.new.frame in
-    let w4 = c.simple_assign.new.world in
-    let f4 = c.simple_assign.new.frame in
-    let r = Ok flow.Going in
-    step_flows k c.args.spot (bare_statement c.args.repeated.now) c.args.step _ qs w0 w1 w2 w4 f f4
-    r c.in-Some.is (c.in_ok-counted.ensures.value f qs) c.in_ok-counted.ensures.keeps
-    (λ es. c.in_ok-counted-2.ensures.value f es) c.in_ok-counted-2.ensures.keeps
-    (λ es. flows_going es w2 w3 w4 f3 f4 r _ _
-    (rw c.in-Going.is at (c.in_ok-d.ensures m es))
-    (λ fs. flows_goes fs w3 w4 f4 _ (c.in_ok-simple_assign-in-Going.ensures m fs)))
+    (λ fs. c.ended.ensures fs w3 w4 f4 _ (c.simple_assign.ensures m fs)))

@@ -28,7 +28,7 @@ returns-in-First g c = λ m qs.
           (at_spot c.args.context.now c.args.spot) (bare c.args.condition.now)
           (state_of c.args.frame.now c.args.world.now qs)
           (state_of c.args.frame.now c.number.new.world qs) (meant c.in_ok-v.v) (v m qs)
-          c.side_of.result _ c.in-First.is c.side_of.ensures,
+          c.side_of-side.result _ c.in-First.is c.side_of-side.ensures,
       lists_kept qs c.args.world.now c.number.new.world
           (kept_constraints c.number.new.world c.args.world.now (keeps m)),
     )
@@ -41,11 +41,11 @@ returns-in-Second g c = λ m qs.
     (at_spot c.args.context.now c.args.spot) (bare c.args.condition.now)
     (state_of c.args.frame.now c.args.world.now qs)
     (state_of c.args.frame.now c.number.new.world qs) (meant c.in_ok-v.v) (v m qs)
-    c.side_of.result _ c.in-Second.is c.side_of.ensures)
+    c.side_of-side.result _ c.in-Second.is c.side_of-side.ensures)
     (rw c.here-here.ensures at c.refused.ensures)
 
-pub returns : goal.returns
-returns g c = λ m qs.
+pub returns-in_ok-add-in-Both : goal.returns-in_ok-add-in-Both
+returns-in_ok-add-in-Both g c = λ m qs.
     let k = context_of c.args.context.now m.call m.make in
     let w = at_spot c.args.context.now c.args.spot in
     let e = bare c.args.condition.now in
@@ -65,8 +65,8 @@ returns g c = λ m qs.
     c.add.new.self (uncounted_kept f w0 w1 qs (keeps m)) c.new-cost.ensures c.node.ensures
     (cost m qs) in
     leads_as qs w0 f w3 c.stepped.result _ _
-    (assert_told k w e s (state_of f w1 qs) (meant c.in_ok-v.v) (v m qs) c.side_of.result _
-    c.in-Both.is c.side_of.ensures)
+    (assert_told k w e s (state_of f w1 qs) (meant c.in_ok-v.v) (v m qs) c.side_of-side.result _
+    c.in-Both.is c.side_of-side.ensures)
     (leads_step qs w0 f w3 c.stepped.result _
     (subst (λ z. Gives (λ _. state_of f w3 qs) c.stepped.result
     (stepped k w (assert_cost k w e s) 0 z)) (same m f qs)

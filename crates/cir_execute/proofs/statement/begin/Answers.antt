@@ -1,22 +1,37 @@
-use Rattle.std.proofs.Common.{ap}
-use Rattle.cir_ast.specs.Tree.{bare_first}
-use Rattle.cir_meaning.specs.Simple.{simple}
-use Rattle.cir_meaning.specs.Statement.{first_simple}
-use Rattle.cir_frame.specs.Shown.{state_of}
-use Rattle.cir_assign.specs.Makes.{context_in}
-use Rattle.cir_assign.proofs.Stepping.{leads_as}
+use Rattle.cir_assign.proofs.Stepping.{leads_exit, leads_next}
+use Rattle.cir_execute.proofs.Going.{counted_led, counted_leads}
 use Rattle.cir_execute.proofs.statement.begin.Goals as goal
 
-pub returns-in-Vars : goal.returns-in-Vars
-returns-in-Vars g c = λ m qs.
-    leads_as qs c.args.world.now c.simple_vars.new.frame c.simple_vars.new.world _ _ _
-    (ap (λ f. simple (context_in c.args.body.now m) c.args.first.now.spot (first_simple (bare_first
-    f))
-    (state_of c.args.frame.now c.args.world.now qs)) c.in-Vars.is) (c.simple_vars.ensures m qs)
+pub returns-in_err-counted : goal.returns-in_err-counted
+returns-in_err-counted g c = λ m qs.
+    let f = c.args.frame.now in
+    leads_exit qs c.args.world.now f c.counted.new.world c.from_residual.result _ _ _
+    c.from_residual.ensures.1 (c.in_err-counted.ensures.value f qs)
 
-pub returns-in-Assign : goal.returns-in-Assign
-returns-in-Assign g c = λ m qs.
-    leads_as qs c.args.world.now c.simple_assign.new.frame c.simple_assign.new.world _ _ _
-    (ap (λ f. simple (context_in c.args.body.now m) c.args.first.now.spot (first_simple (bare_first
-    f))
-    (state_of c.args.frame.now c.args.world.now qs)) c.in-Assign.is) (c.simple_assign.ensures m qs)
+pub returns-in_err-first_statement : goal.returns-in_err-first_statement
+returns-in_err-first_statement g c = λ m qs.
+    let f = c.args.frame.now in
+    let w0 = c.args.world.now in
+    let w1 = c.counted.new.world in
+    let w2 = c.first_statement.new.world in
+    let f2 = c.first_statement.new.frame in
+    let r = c.from_residual-in_err-first_statement.result in
+    leads_next qs w0 w1 f f2 w2 r _ _
+    (counted_led qs w0 w1 f _ (c.in_ok-counted.ensures.value f qs) c.in_ok-counted.ensures.keeps)
+    (λ es. leads_exit es w1 f2 w2 r _ _ _ c.from_residual-in_err-first_statement.ensures.1
+    (c.in_err-first_statement.ensures m es))
+
+pub returns : goal.returns
+returns g c = λ m qs.
+    let f = c.args.frame.now in
+    let w0 = c.args.world.now in
+    let w1 = c.counted.new.world in
+    let w2 = c.first_statement.new.world in
+    let w3 = c.counted-2.new.world in
+    let f2 = c.first_statement.new.frame in
+    let r = c.counted-2.result in
+    leads_next qs w0 w1 f f2 w3 r _ _
+    (counted_led qs w0 w1 f _ (c.in_ok-counted.ensures.value f qs) c.in_ok-counted.ensures.keeps)
+    (λ es. leads_next es w1 w2 f2 f2 w3 r _ _ (c.in_ok-first_statement.ensures m es)
+    (λ fs. counted_leads fs w2 w3 f2 r _ (c.counted-2.ensures.value f2 fs)
+    c.counted-2.ensures.keeps))

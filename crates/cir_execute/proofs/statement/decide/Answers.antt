@@ -31,7 +31,7 @@ returns-clause-side g c = λ m qs.
           (state_of c.args.frame.now c.number.new.world qs)
           (state_of c.args.frame.now c.settle.new.world qs) (meant c.in_ok-v.v) (v m qs)
           (c.in_ok-settle.ensures.value c.args.frame.now qs),
-      c.side_of.ensures,
+      c.side_of-side.ensures,
     )
 
 pub returns-clause-constraints : goal.returns-clause-constraints

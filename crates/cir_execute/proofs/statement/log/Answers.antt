@@ -21,22 +21,20 @@ use Rattle.cir_execute.proofs.Logging.{logged_end, logs_are, logs_stop}
 use Rattle.cir_execute.proofs.Scanning.{kept_constraints}
 use Rattle.cir_execute.proofs.statement.log.Given as given
 use Rattle.cir_execute.proofs.statement.log.Goals as goal
-use Rattle.cir_execute.proofs.statement.log.Goals.{in-Value+in_ok-_v+in-Linear-1}
-use Rattle.cir_execute.proofs.statement.log.Goals.{in-Value+in_ok-_v+in-Quadratic-1}
-use Rattle.cir_execute.proofs.statement.log.Goals.{in-Value+in_ok-_v+in-Known-1, in_default}
+use Rattle.cir_execute.proofs.statement.log.Goals.{in-Value+in_ok-v, in_default}
 
 pub loop-argument-init : goal.loop-argument-init
 loop-argument-init g c =
     record { values = λ m qs. refl; keeps = λ m. refl; cells = omega arith }
 
-pub returns-in_err-_v : goal.returns-in_err-_v
-returns-in_err-_v g c = λ m qs.
+pub returns-in_err-v : goal.returns-in_err-v
+returns-in_err-v g c = λ m qs.
     let k = context_of c.args.context.now m.call m.make in
     let w = at_spot c.args.context.now c.args.spot in
     let xs = c.args.arguments.now in
     let i = c.loop-argument.argument-index in
     let s = state_of c.args.frame.now c.args.world.now qs in
-    let v = rw c.here-here.ensures at c.in_err-_v.ensures.value in
+    let v = rw c.here-here.ensures at c.in_err-v.ensures.value in
     leads_refused qs c.args.world.now c.args.frame.now c.number.new.world c.from_residual.result _ _
     c.from_residual.ensures.1
     (logs_stop k w xs s _
@@ -94,9 +92,9 @@ loop-argument-preserved g c =
     let xs = c.args.arguments.now in
     let i = loop.argument-index in
     elim c.match-argument.branch [
-      | in-Value+in_ok-_v+in-Linear-1 w ↦
-          let number = rw c.here-here.ensures at w.in_ok-_v.ensures.value in
-          let kept = rw c.here-here.ensures at w.in_ok-_v.ensures.keeps in
+      | in-Value+in_ok-v w ↦
+          let number = rw c.here-here.ensures at w.in_ok-v.ensures.value in
+          let kept = rw c.here-here.ensures at w.in_ok-v.ensures.keeps in
           let value : cells_from xs i ≡ 1 + cells_from xs (i + 1) =
           cells_value xs i c.argument-item.result w.in-Value.e c.loop-argument-test.true
           c.argument-item.is w.in-Value.is in
@@ -105,39 +103,7 @@ loop-argument-preserved g c =
                 ∙ logged_value (context_of c.args.context.now m.call m.make)
                 (at_spot c.args.context.now c.args.spot) xs i c.argument-item.result w.in-Value.e
                 (state_of c.args.frame.now loop.world qs)
-                (state_of c.args.frame.now w.number.new.world qs) (meant w.in_ok-_v._v)
-                c.loop-argument-test.true c.argument-item.is w.in-Value.is (number m qs);
-            keeps = λ m. kept m ∙ loop.invariant.keeps m;
-            cells = omega (arith, loop.invariant.cells, value);
-          }
-      | in-Value+in_ok-_v+in-Quadratic-1 w ↦
-          let number = rw c.here-here.ensures at w.in_ok-_v.ensures.value in
-          let kept = rw c.here-here.ensures at w.in_ok-_v.ensures.keeps in
-          let value : cells_from xs i ≡ 1 + cells_from xs (i + 1) =
-          cells_value xs i c.argument-item.result w.in-Value.e c.loop-argument-test.true
-          c.argument-item.is w.in-Value.is in
-          rw (w.world-is, w.cells-is) record {
-            values = λ m qs. loop.invariant.values m qs
-                ∙ logged_value (context_of c.args.context.now m.call m.make)
-                (at_spot c.args.context.now c.args.spot) xs i c.argument-item.result w.in-Value.e
-                (state_of c.args.frame.now loop.world qs)
-                (state_of c.args.frame.now w.number.new.world qs) (meant w.in_ok-_v._v)
-                c.loop-argument-test.true c.argument-item.is w.in-Value.is (number m qs);
-            keeps = λ m. kept m ∙ loop.invariant.keeps m;
-            cells = omega (arith, loop.invariant.cells, value);
-          }
-      | in-Value+in_ok-_v+in-Known-1 w ↦
-          let number = rw c.here-here.ensures at w.in_ok-_v.ensures.value in
-          let kept = rw c.here-here.ensures at w.in_ok-_v.ensures.keeps in
-          let value : cells_from xs i ≡ 1 + cells_from xs (i + 1) =
-          cells_value xs i c.argument-item.result w.in-Value.e c.loop-argument-test.true
-          c.argument-item.is w.in-Value.is in
-          rw (w.world-is, w.cells-is) record {
-            values = λ m qs. loop.invariant.values m qs
-                ∙ logged_value (context_of c.args.context.now m.call m.make)
-                (at_spot c.args.context.now c.args.spot) xs i c.argument-item.result w.in-Value.e
-                (state_of c.args.frame.now loop.world qs)
-                (state_of c.args.frame.now w.number.new.world qs) (meant w.in_ok-_v._v)
+                (state_of c.args.frame.now w.number.new.world qs) (meant w.in_ok-v.v)
                 c.loop-argument-test.true c.argument-item.is w.in-Value.is (number m qs);
             keeps = λ m. kept m ∙ loop.invariant.keeps m;
             cells = omega (arith, loop.invariant.cells, value);

@@ -17,8 +17,9 @@ use Rattle.cir_meaning.specs.Tried.{next}
 use Rattle.cir_meaning.specs.Costs.{Cost}
 use Rattle.cir_meaning.specs.Unknown.{Fault, outer_assigned}
 use Rattle.cir_evaluate.specs.Within.{context_of}
+use Rattle.cir_cost.specs.declared.cost.Cost.{Cost as CodeCost}
 use Rattle.cir_cost.specs.Adds.{IsCost, read_alone}
-use Rattle.cir_execute.specs.Again.{Repeats}
+use Rattle.cir_execute.specs.Again.{IsOnce}
 use Rattle.cir_execute.specs.Rests.{inside, rest_by, rest_fault}
 use Rattle.cir_execute.proofs.Going.{given, refusal}
 use Rattle.cir_execute.proofs.Leaving.{allowed_stops, enclosing, memory_refuses, none_faulty}
@@ -28,39 +29,43 @@ use Rattle.cir_execute.proofs.undecided.undecided.Goals as goal
 -- what is left behind the scan: of lemmas' variables, since a `let` is written out where it stands
 module _ (k : Context) (spot : Spot) (fault : Option Fault) (a : Statement Spot Meant) (s : State)
     (free : allowed k fault (Ok s) ≡ Ok s) where
-  whole : (xs : List ℕ) (s0 s1 s2 : State) (c : Cost) (count : ℕ) → xs ≡ outer_assigned a
-      → s0 ≡ forget xs s → scan k (at k spot) a s0 ≡ Ok s1 → Repeats c (inside k (at k spot) a s1)
+  whole : (xs : List ℕ) (s0 s1 s2 : State) (cost : CodeCost) (count : ℕ)
+      (once : IsOnce cost (inside k (at k spot) a s1)) → xs ≡ outer_assigned a
+      → s0 ≡ forget xs s → scan k (at k spot) a s0 ≡ Ok s1
       → count ≡ standing (sum_by (λ n. elements (variable_at s.frame n).dims) xs) → s2 ≡ s1
       → undecided k spot fault a s
-      ≡ next (stepped k (at k spot) (enclosing k spot fault a s free c) count s2)
+      ≡ next (stepped k (at k spot) (enclosing k spot fault a s free once.once) count s2)
       (settle (at k spot))
-  whole xs s0 s1 s2 c count is begun went h cells same =
-      scan_goes k spot fault a s free s1 s2 c count
-      (ap (scan k (at k spot) a) (sym (begun ∙ ap (λ l. forget l s) is)) ∙ went) h
+  whole xs s0 s1 s2 cost count once is begun went cells same =
+      scan_goes k spot fault a s free s1 s2 once.once count
+      (ap (scan k (at k spot) a) (sym (begun ∙ ap (λ l. forget l s) is)) ∙ went) once.repeats
       (cells ∙ ap (λ l. standing (sum_by (λ n. elements (variable_at s.frame n).dims) l)) is) same
 
-  stops_whole : (f : CodeFault) (xs : List ℕ) (s0 s1 s2 : State) (c : Cost) (count : ℕ)
+  stops_whole : (f : CodeFault) (xs : List ℕ) (s0 s1 s2 : State) (cost : CodeCost) (count : ℕ)
+      (once : IsOnce cost (inside k (at k spot) a s1))
       → xs ≡ outer_assigned a → s0 ≡ forget xs s → scan k (at k spot) a s0 ≡ Ok s1
-      → Repeats c (inside k (at k spot) a s1)
       → count ≡ standing (sum_by (λ n. elements (variable_at s.frame n).dims) xs) → s2 ≡ s1
-      → IsRefusal f (stepped k (at k spot) (enclosing k spot fault a s free c) count s2)
+      → ((c : Cost) → IsCost cost c
+      → IsRefusal f (stepped k (at k spot) (enclosing k spot fault a s free c) count s2))
       → IsRefusal f (undecided k spot fault a s)
-  stops_whole f xs s0 s1 s2 c count is begun went h cells same step =
+  stops_whole f xs s0 s1 s2 cost count once is begun went cells same step =
       refusal f (undecided k spot fault a s)
-      (next (stepped k (at k spot) (enclosing k spot fault a s free c) count s2)
-      (settle (at k spot))) (whole xs s0 s1 s2 c count is begun went h cells same)
-      (exits f _ _ step)
+      (next (stepped k (at k spot) (enclosing k spot fault a s free once.once) count s2)
+      (settle (at k spot))) (whole xs s0 s1 s2 cost count once is begun went cells same)
+      (exits f _ _ (step once.once once.is))
 
   given_whole : {A : Type 0} (view : A → State) (r : Result A CodeFault) (xs : List ℕ)
-      (s0 s1 s2 s3 : State) (c : Cost) (count : ℕ) → xs ≡ outer_assigned a
-      → s0 ≡ forget xs s → scan k (at k spot) a s0 ≡ Ok s1 → Repeats c (inside k (at k spot) a s1)
+      (s0 s1 s2 s3 : State) (cost : CodeCost) (count : ℕ)
+      (once : IsOnce cost (inside k (at k spot) a s1)) → xs ≡ outer_assigned a
+      → s0 ≡ forget xs s → scan k (at k spot) a s0 ≡ Ok s1
       → count ≡ standing (sum_by (λ n. elements (variable_at s.frame n).dims) xs) → s2 ≡ s1
-      → stepped k (at k spot) (enclosing k spot fault a s free c) count s2 ≡ Ok s3
+      → ((c : Cost) → IsCost cost c
+      → stepped k (at k spot) (enclosing k spot fault a s free c) count s2 ≡ Ok s3)
       → Gives view r (settle (at k spot) s3) → Gives view r (undecided k spot fault a s)
-  given_whole view r xs s0 s1 s2 s3 c count is begun went h cells same step last =
+  given_whole view r xs s0 s1 s2 s3 cost count once is begun went cells same step last =
       given view r (undecided k spot fault a s) (settle (at k spot) s3)
-      (whole xs s0 s1 s2 c count is begun went h cells same
-      ∙ ap (λ z. next z (settle (at k spot))) step) last
+      (whole xs s0 s1 s2 cost count once is begun went cells same
+      ∙ ap (λ z. next z (settle (at k spot))) (step once.once once.is)) last
 
 pub returns-in_err-allowed-clause-state : goal.returns-in_err-allowed-clause-state
 returns-in_err-allowed-clause-state g c =
@@ -108,17 +113,17 @@ returns-in_err-stepped-clause-state g c =
     let s = state_of c.args.frame.now old qs in
     let k = context_of c.args.context.now m.call m.make in
     let free = c.in_ok-allowed.ensures m.call m.make s in
-    let once = costs m spot qs refl (none_faulty k fault s free) in
     exit_gives _ _ _ _ c.from_residual-in_err-stepped.ensures.1
     (stops_whole k spot fault a s free _ c.as_slice-variables.result.now
     (state_of c.forget.new.frame old qs) (state_of f c.scan_rest.new.world qs)
-    (state_of f c.inside_cost.new.world qs) once.once c.in_ok-cost.cells is
-    (c.forget.ensures old qs) (scans m spot qs refl) once.repeats
+    (state_of f c.inside_cost.new.world qs) c.in_ok-inside.inside c.in_ok-cost.cells
+    (costs m spot qs refl (none_faulty k fault s free)) is
+    (c.forget.ensures old qs) (scans m spot qs refl)
     (begun.cells (counts_of old.added)) ((sames m).states f qs)
-    (steps m.call m.make (enclosing k spot fault a s free once.once) f qs
-    (c.in_ok-enclose.ensures a (start_reads _ s) once.once touched
+    (λ d once. steps m.call m.make (enclosing k spot fault a s free d) f qs
+    (c.in_ok-enclose.ensures a (start_reads _ s) d touched
     (subst (λ l. IsCost c.in_ok-cost.cost (read_alone (start_reads l s))) is (begun.reads old qs))
-    once.is)))
+    once)))
 
 pub returns-clause-state : goal.returns-clause-state
 returns-clause-state g c =
@@ -138,14 +143,14 @@ returns-clause-state g c =
     let s = state_of c.args.frame.now old qs in
     let k = context_of c.args.context.now m.call m.make in
     let free = c.in_ok-allowed.ensures m.call m.make s in
-    let once = costs m spot qs refl (none_faulty k fault s free) in
     given_whole k spot fault a s free _ c.settle.result c.as_slice-variables.result.now
     (state_of c.forget.new.frame old qs) (state_of f c.scan_rest.new.world qs)
-    (state_of f c.inside_cost.new.world qs) _ once.once c.in_ok-cost.cells is
-    (c.forget.ensures old qs) (scans m spot qs refl) once.repeats
+    (state_of f c.inside_cost.new.world qs) _ c.in_ok-inside.inside c.in_ok-cost.cells
+    (costs m spot qs refl (none_faulty k fault s free)) is
+    (c.forget.ensures old qs) (scans m spot qs refl)
     (begun.cells (counts_of old.added)) ((sames m).states f qs)
-    (steps m.call m.make (enclosing k spot fault a s free once.once) f qs
-    (c.in_ok-enclose.ensures a (start_reads _ s) once.once touched
+    (λ d once. steps m.call m.make (enclosing k spot fault a s free d) f qs
+    (c.in_ok-enclose.ensures a (start_reads _ s) d touched
     (subst (λ l. IsCost c.in_ok-cost.cost (read_alone (start_reads l s))) is (begun.reads old qs))
-    once.is))
+    once))
     (c.settle.ensures.value f qs)

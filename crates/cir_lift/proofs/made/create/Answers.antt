@@ -9,13 +9,10 @@ use Rattle.cir_lift.proofs.made.create.Goals as goal
 pub returns : goal.returns
 returns c =
     let own : List ℕ = own_name c.args.own.index in
-    let named : c.in_ok-name-2.name ≡ c.args.a.now.name ++ own =
-    c.in_ok-name-2.ensures ∙ c.as_slice-4.ensures.value
-    ∙ c.in_ok-extend_from_slice.ensures.items
-    ∙ ap (λ l. l ++ c.as_slice-2.result.now) (c.in_ok-name.ensures.items ∙ c.as_slice.ensures)
-    ∙ ap (λ l. c.args.a.now.name ++ l) (c.as_slice-2.ensures ∙ c.in_ok-own_part.ensures) in
+    let named : c.in_ok-name.name ≡ c.args.a.now.name ++ own =
+    c.in_ok-name.ensures ∙ ap (λ l. l ++ own) c.as_slice.ensures in
     ap (map bare_simple) c.in_ok-push.ensures.items
     ∙ map-append bare_simple c.args.before.now.items _
     ∙ ap (λ x. map bare_simple c.args.before.now.items ++ x ∷ [])
     (creation_made c.args.a.now own c.args.own.number _ _ _ _ named c.in_ok-template.ensures
-    c.in_ok-arguments.ensures c.as_slice-3.ensures)
+    c.in_ok-arguments.ensures c.as_slice-2.ensures)

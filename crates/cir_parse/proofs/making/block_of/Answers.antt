@@ -7,6 +7,6 @@ use Rattle.cir_parse.proofs.making.block_of.Goals as goal
 
 pub returns : goal.returns
 returns g c =
-    ap seen_statement c.in_ok-new.ensures.ok ∙ ap plain_statement c.block-block.ensures
+    ap seen_statement c.in_ok-boxed.ensures ∙ ap plain_statement c.block-block.ensures
     ∙ ap (Block c.args.spot)
     (seen_statements c.tight.result c.args.statements.items c.tight.ensures)

@@ -9,7 +9,8 @@ returns g c =
     rw (
       c.in_ok-arguments.ensures,
       c.in_ok-behind.ensures,
-      c.in_ok-new.ensures.ok,
+      c.in_ok-stated.ensures.0,
+      c.in_ok-stated.ensures.1,
       seen_map plain_argument bare_argument c.tight.result c.in_ok-arguments.arguments.items
           c.tight.ensures,
     ) refl

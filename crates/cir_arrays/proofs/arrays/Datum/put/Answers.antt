@@ -33,8 +33,8 @@ loop-at-preserved c =
       many = length-set c.loop-at.items.items at c.replace-v.new.dest ∙ c.loop-at.invariant.many;
     }
 
-pub returns : goal.returns
-returns c =
+pub returns-after-loop-at : goal.returns-after-loop-at
+returns-after-loop-at c =
     let over : (length c.loop-at.items.items ≤ c.loop-at.at) ⊎ (c.args.count ≤ c.loop-at.at) =
     min_either _ _ _
     (omega (arith, c.min-at-end.ensures, c.len.ensures, c.loop-at.invariant.many)) in

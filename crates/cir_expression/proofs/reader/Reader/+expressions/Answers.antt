@@ -71,21 +71,22 @@ list-returns-in_err-behind-clause-read g t c =
 
 pub list-returns-else-begins-clause-read : goal.list-returns-else-begins-clause-read
 list-returns-else-begins-clause-read g t c = (
-  rw (c.in_ok-push.ensures.items, map-append)
+  rw (c.in_ok-push.ensures.items, map-append, c.into_tree.ensures)
       (last_item c.loop.invariant.read (omega arith) _ _ _ c.in_ok-item.ensures.read.0
       (sym c.begins.ensures ∙ c.if-begins.false) c.in_ok-behind.ensures),
   one_higher height_seen _ _ _ _ _ c.in_ok-push.ensures.items c.loop.invariant.measured
-      (rw (← c.in_ok-item.ensures.read.1) c.max-height.ensures) ∙ exprs_high c.push.new.self.items,
+      (rw (c.into_tree.ensures, ← c.in_ok-item.ensures.read.1) c.max-height.ensures)
+      ∙ exprs_high c.push.new.self.items,
 )
 
 pub list-loop-preserved : goal.list-loop-preserved
 list-loop-preserved g t c = record {
-  read = rw (c.in_ok-push.ensures.items, map-append, c.skip.ensures)
+  read = rw (c.in_ok-push.ensures.items, map-append, c.into_tree.ensures, c.skip.ensures)
       (more_items c.loop.invariant.read (omega arith) _ _ _ (omega arith)
       c.in_ok-item.ensures.read.0 (sym c.begins.ensures ∙ c.if-begins.true));
   measured =
       one_higher height_seen _ _ _ _ _ c.in_ok-push.ensures.items c.loop.invariant.measured
-      (rw (← c.in_ok-item.ensures.read.1) c.max-height.ensures);
+      (rw (c.into_tree.ensures, ← c.in_ok-item.ensures.read.1) c.max-height.ensures);
   low = omega (arith, c.loop.invariant.low, c.in_ok-item.ensures.low, c.max-height.ensures);
 }
 
@@ -123,7 +124,7 @@ accessors-loop-preserved g t c = elim c.if-begins.branch [
   | goal.accessors-then-begins+in_ok-found+in_ok-behind+in_ok-push w ↦
       let items : c.if-begins.accessors.items
       ≡ c.loop.accessors.items ++ Index w.in_ok-found.found.tree ∷ [] =
-      rw w.accessors-is w.in_ok-push.ensures.items in
+      rw (w.accessors-is, ← w.into_tree.ensures) w.in_ok-push.ensures.items in
       let height : c.if-begins.height ≡ max w.in_ok-found.found.height c.loop.height =
       rw w.height-is w.max-height.ensures in
       record {
@@ -215,25 +216,27 @@ named_inputs-returns-in_err-behind-clause-read g t c =
 
 pub named_inputs-returns-else-begins-clause-read : goal.named_inputs-returns-else-begins-clause-read
 named_inputs-returns-else-begins-clause-read g t c = (
-  rw (c.in_ok-push.ensures.items, map-append)
+  rw (c.in_ok-push.ensures.items, map-append, c.into_tree.ensures)
       (last_item c.loop.invariant.read (omega arith) _ _ _
       (one_value (climb c.args.room 1) (kinds c.loop.self.rest.now) _ _ _ _ c.in_ok-name.ensures
       c.in_ok-item.ensures.read.0)
       (sym c.begins.ensures ∙ c.if-begins.false) c.in_ok-behind.ensures),
   one_higher input_height _ _ _ _ _ c.in_ok-push.ensures.items c.loop.invariant.measured
-      (rw (← c.in_ok-item.ensures.read.1) c.max-height.ensures) ∙ named_high c.push.new.self.items,
+      (rw (c.into_tree.ensures, ← c.in_ok-item.ensures.read.1) c.max-height.ensures)
+      ∙ named_high c.push.new.self.items,
 )
 
 pub named_inputs-loop-preserved : goal.named_inputs-loop-preserved
 named_inputs-loop-preserved g t c = record {
-  read = rw (c.in_ok-push.ensures.items, map-append, c.skip.ensures)
+  read = rw (c.in_ok-push.ensures.items, map-append, c.into_tree.ensures, c.skip.ensures)
       (more_items c.loop.invariant.read (omega arith) _ _ _ (omega arith)
       (one_value (climb c.args.room 1) (kinds c.loop.self.rest.now) _ _ _ _ c.in_ok-name.ensures
       c.in_ok-item.ensures.read.0)
       (sym c.begins.ensures ∙ c.if-begins.true));
   measured =
       one_higher input_height c.loop.inputs.items _ _ c.loop.height _ c.in_ok-push.ensures.items
-      c.loop.invariant.measured (rw (← c.in_ok-item.ensures.read.1) c.max-height.ensures);
+      c.loop.invariant.measured
+      (rw (c.into_tree.ensures, ← c.in_ok-item.ensures.read.1) c.max-height.ensures);
   low = omega (arith, c.loop.invariant.low, c.in_ok-item.ensures.low, c.max-height.ensures);
 }
 
