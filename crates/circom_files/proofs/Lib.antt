@@ -6,3 +6,4 @@ pub mod Checked
 pub mod Ended
 pub mod Numbers
 pub mod Once
+pub mod Given

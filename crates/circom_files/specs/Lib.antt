@@ -1,6 +1,7 @@
 pub mod Accepted
 pub mod Check
 pub mod Files
+pub mod Given
 pub mod Proving
 pub mod Reply
 pub mod Running

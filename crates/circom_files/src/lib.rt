@@ -12,6 +12,7 @@ mod publics;
 mod reply;
 mod running;
 mod stop;
+mod writing;
 
 pub use audit::audit_reply;
 pub use check::check_reply;
@@ -23,3 +24,4 @@ pub use publics::public_reply;
 pub use reply::{NewFile, Reply};
 pub use running::input_from;
 pub use stop::Stop;
+pub use writing::{put_fault, put_text, write_file};

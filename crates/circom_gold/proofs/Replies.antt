@@ -9,6 +9,7 @@ use Rattle.out_io.proofs.Telling.{told_on}
 use Rattle.out_io.specs.Calls.{Course, HasFailed, Told}
 use Rattle.out_io.specs.Contents.{Contents, Changes}
 use Rattle.out_io.specs.declared.fault.IoFault.{IoFault}
+use Rattle.out_io.specs.declared.fault.IoFault.TheVariants.{Failed}
 use Rattle.out_io.specs.Faults.{Rose}
 use Rattle.out_io.specs.Written.{IsAppended, IsAppendedInPart}
 use Rattle.iden_files.specs.File.{File}
@@ -20,6 +21,7 @@ use Rattle.circom_words.specs.Proving.{audit_status}
 use Rattle.lig_proof.specs.declared.verdict.Verdict.{Verdict as Audited}
 use Rattle.lig_proof.specs.declared.verdict.Verdict.TheVariants as audits
 use Rattle.circom_files.specs.Accepted.{HoldsProof, IsAccepted, WritesProof}
+use Rattle.circom_files.specs.Given.{Leaves, LeavesInPart, Puts}
 use Rattle.circom_files.specs.Reply.{Reply, NewFile, Says, said, checked, proved, published}
 use Rattle.circom_files.specs.Reply.{audited, store_failed}
 use Rattle.circom_files.specs.declared.outcome.Outcome.{Outcome}
@@ -32,7 +34,7 @@ use Rattle.circom_files.specs.declared.outcome.Generated.TheVariants as made
 use Rattle.circom_files.specs.declared.outcome.Published.{Published}
 use Rattle.circom_files.specs.declared.outcome.Published.TheVariants.{Values, Wrong}
 use Rattle.circom_gold.specs.Reply.{Answers, WritesConstraintsOf, compiled}
-use Rattle.circom_gold.specs.Run.{Ends, Stays, Leaves, LeavesInPart, Puts, Replies, Writing}
+use Rattle.circom_gold.specs.Run.{Ends, Stays, Replies, Writing}
 use Rattle.circom_words.specs.Words.{Command, Options, check, compile, witness, prove, public}
 use Rattle.circom_words.specs.Words.{audit, generate}
 use Rattle.circom_words.specs.declared.answer.Refusal.{Refusal}
@@ -64,13 +66,6 @@ writes contents source options out f r told is read =
       };
     })
     told
-
--- all of the bytes are a prefix of them
-pub front_of_all : (bytes : List ℕ) (old new : Option (List ℕ)) → IsAppended bytes old new
-    → IsAppendedInPart bytes old new
-front_of_all bytes None new h = tt
-front_of_all bytes (Some put) new h =
-    (length bytes, h ∙ ap (λ (xs : List ℕ). Some (put ++ xs)) (sym (take-length bytes)))
 
 -- nothing is a prefix of any bytes
 pub front_of_none : (bytes : List ℕ) (old : Option (List ℕ)) → IsAppendedInPart bytes old old
@@ -107,15 +102,18 @@ ends_said command r store sink result answers files puts =
     ]) puts
 
 -- the store failed
-pub ends_failed : (command : Option Command) (r : Reply) (store : Course Contents)
-    (sink : Course (List ℕ)) (result : Result ℕ AllocError) → r ≡ store_failed → HasFailed store
-    → IfOk result (Puts r sink) → IfOk result (Ends command store sink)
-ends_failed command r store sink result is failed puts =
-    IfOk-weaker result (Puts store_failed sink) (Ends command store sink)
-    (λ exit put. elim put [
-      | inl whole ↦ inr (record { status = whole.0; failed = failed; text = inl whole.1 })
-      | inr lost ↦ inr (record { status = lost.0; failed = failed; text = inr lost.1 })
-    ]) (subst (λ (x : Reply). IfOk result (Puts x sink)) is puts)
+pub ends_failed : (command : Option Command) (store : Course Contents) (sink : Course (List ℕ))
+    (fault : IoFault) (result : Result ℕ AllocError) → (fault ≡ Failed → HasFailed store)
+    → IfOk result (λ exit. (fault ≡ Failed) × Puts store_failed sink exit)
+    → IfOk result (Ends command store sink)
+ends_failed command store sink fault result failed puts =
+    IfOk-weaker result (λ exit. (fault ≡ Failed) × Puts store_failed sink exit)
+    (Ends command store sink)
+    (λ exit put. elim put.1 [
+      | inl whole ↦
+          inr (record { status = whole.0; failed = failed put.0; text = inl whole.1 })
+      | inr lost ↦ inr (record { status = lost.0; failed = failed put.0; text = inr lost.1 })
+    ]) puts
 
 pub stays_said : (command : Option Command) (r : Reply) (store : Course Contents)
     (sink : Course (List ℕ)) → Answers store.old command r
@@ -132,17 +130,6 @@ stays_said command r store sink answers files front =
       },
     )
 
-pub stays_failed : (command : Option Command) (r : Reply) (store : Course Contents)
-    (sink : Course (List ℕ)) → Writing command store.old store.new → r ≡ store_failed
-    → HasFailed store → IsAppendedInPart r.text sink.old sink.new → Stays command store sink
-stays_failed command r store sink writing is failed front =
-    let fault : IsAppendedInPart fault_line sink.old sink.new =
-    subst (λ (x : Reply). IsAppendedInPart x.text sink.old sink.new) is front in
-    elim writing [
-      | inl same ↦ inl (record { text = inr (failed, fault); files = same })
-      | inr part ↦ inr (part.0, part.1, record { text = inr (failed, fault); files = part.2 })
-    ]
-
 -- memory ran out before anything was put
 pub stays_wanting : (command : Option Command) (store : Course Contents) (sink : Course (List ℕ))
     → Writing command store.old store.new → sink.new ≡ sink.old → Stays command store sink
@@ -153,6 +140,30 @@ stays_wanting command store sink writing unput =
       | inl same ↦ inl (record { text = inl (front []); files = same })
       | inr part ↦ inr (part.0, part.1, record { text = inl (front part.0.text); files = part.2 })
     ]
+
+-- the store failed, or memory ran out before anything was put
+pub stays_failed : (command : Option Command) (store : Course Contents) (sink : Course (List ℕ))
+    (fault : IoFault) → Writing command store.old store.new → (fault ≡ Failed → HasFailed store)
+    → (sink.new ≡ sink.old)
+    ⊎ ((fault ≡ Failed) × IsAppendedInPart store_failed.text sink.old sink.new)
+    → Stays command store sink
+stays_failed command store sink fault writing failed front = elim front [
+  | inl unput ↦ stays_wanting command store sink writing unput
+  | inr said ↦
+      elim writing [
+        | inl same ↦
+            inl (record { text = inr (failed said.0, said.1); files = same })
+        | inr part ↦
+            inr (
+              part.0,
+              part.1,
+              record {
+                text = inr (failed said.0, said.1);
+                files = part.2;
+              },
+            )
+      ]
+]
 
 -- the file that was written holds the source's constraints
 pub holds_written : (old new : Option Contents) (source : List ℕ) (options : Options)

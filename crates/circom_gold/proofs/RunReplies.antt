@@ -25,7 +25,8 @@ use Rattle.circom_files.specs.declared.outcome.Halt.{Halt}
 use Rattle.circom_files.specs.declared.outcome.Ran.TheVariants.{Halted}
 use Rattle.circom_files.specs.Running.{halted}
 use Rattle.circom_gold.specs.Reply.{Answers}
-use Rattle.circom_gold.specs.Run.{Ends, Leaves, Puts, Stays}
+use Rattle.circom_files.specs.Given.{Leaves, Puts}
+use Rattle.circom_gold.specs.Run.{Ends, Stays}
 use Rattle.circom_gold.specs.Witness.{HasWitness, HoldsWitnessOf, IsWitnessed, SaysHalt}
 use Rattle.circom_gold.specs.Witness.{WritesWitnessOf}
 use Rattle.circom_gold.proofs.Replies.{status_of_success}

@@ -2,27 +2,13 @@
 use Rattle.std.specs.Prelude.{◌≡◌, ℕ, List, [], ◌⊎◌, Option, Some, None, Result, IfOk, IfSome}
 use Rattle.std.specs.declared.alloc.AllocError.{AllocError}
 use Rattle.out_io.specs.Calls.{Course, HasFailed}
-use Rattle.out_io.specs.Contents.{Contents, Changes, Replaces, ReplacesInPart}
+use Rattle.out_io.specs.Contents.{Contents, Changes}
 use Rattle.out_io.specs.Written.{IsAppended, IsAppendedInPart}
 use Rattle.circom_words.specs.Lines.{fault_line}
-use Rattle.circom_files.specs.Reply.{Reply, NewFile}
+use Rattle.circom_files.specs.Given.{Leaves, LeavesInPart}
+use Rattle.circom_files.specs.Reply.{Reply}
 use Rattle.circom_gold.specs.Reply.{Answers}
 use Rattle.circom_words.specs.Words.{Command}
-
--- the files after it are the reply's: no file, or this one, was written
-abbrev pub Leaves : Option NewFile → Contents → Contents → Type 0
-Leaves None files after = after ≡ files
-Leaves (Some f) files after = Replaces f.name f.bytes files after
-
--- no file was written, or the reply's file is as before or holds a prefix of the reply's bytes
-abbrev pub LeavesInPart : Option NewFile → Contents → Contents → Type 0
-LeavesInPart None files after = after ≡ files
-LeavesInPart (Some f) files after = ReplacesInPart f.name f.bytes files after
-
--- the status is the reply's and its text was put, or the status is 3 and the sink failed
-abbrev pub Puts : Reply → Course (List ℕ) → ℕ → Type 0
-Puts r sink exit =
-    ((exit ≡ r.status) × IsAppended r.text sink.old sink.new) ⊎ ((exit ≡ 3) × HasFailed sink)
 
 -- nothing was written, or a prefix of the file of a reply to the command
 abbrev pub Writing : Option Command → Option Contents → Option Contents → Type 0

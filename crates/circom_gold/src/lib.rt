@@ -12,7 +12,6 @@ mod running;
 mod source;
 mod waiting;
 mod witness;
-mod writing;
 
 pub use circom_files::check_laws;
 pub use laws::{check_accepts_witnesses, one_reply, witness_laws};

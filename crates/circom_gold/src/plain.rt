@@ -7,16 +7,18 @@ ghost use Rattle.out_io.specs.Contents.{Changes};
 ghost use Rattle.out_io.specs.Faults.{Rose};
 ghost use Rattle.out_io.specs.declared.fault.IoFault.TheVariants.{Failed};
 ghost use Rattle.circom_files.specs.Accepted.{HoldsProof, IsAccepted, WritesProof};
+ghost use Rattle.circom_files.specs.Given.{Leaves};
 ghost use Rattle.circom_files.specs.Shown.{shown};
 ghost use Rattle.circom_gold.specs.Compile.{HoldsConstraintsOf};
 ghost use Rattle.circom_gold.specs.Reply.{Answers, WritesConstraintsOf};
-ghost use Rattle.circom_gold.specs.Run.{Ends, Stays, Leaves, Writing};
+ghost use Rattle.circom_gold.specs.Run.{Ends, Stays, Writing};
 ghost use Rattle.circom_words.specs.Words.{Options, ProveOptions, compile, prove, audit, texts};
 ghost use Rattle.circom_words.specs.Words.{meant, plain_command_of};
 
 use crate::compile::compile_reply;
-use crate::writing::{put_text, write_file};
-use circom_files::{Reply, audit_reply, check_reply, prove_reply, public_reply};
+use circom_files::{
+    Reply, audit_reply, check_reply, prove_reply, public_reply, put_fault, put_text, write_file,
+};
 use circom_words::Command;
 use out_io::{IoFault, Sink, Store};
 use std::alloc::{AllocError, Global};
@@ -90,11 +92,7 @@ pub fn run_command<R: Threads + AllocGlobal + Sync, S: Store, K: Sink>(
     let command = Command::of(alloc, words)?;
     match answered(rt, alloc, command, store) {
         Ok(reply) => put_text(&reply, out),
-        Err(IoFault::Failed) => {
-            let reply = Reply::store_failed(alloc)?;
-            put_text(&reply, out)
-        }
-        Err(IoFault::OutOfMemory) => Err(AllocError),
+        Err(fault) => put_fault(alloc, fault, out),
     }
 }
 

@@ -6,11 +6,12 @@ ghost use Rattle.out_io.specs.Calls.{Counting, IfTold, OnlyReads, course};
 ghost use Rattle.out_io.specs.Contents.{Changes};
 ghost use Rattle.out_io.specs.Faults.{Rose};
 ghost use Rattle.out_io.specs.declared.fault.IoFault.TheVariants.{Failed};
+ghost use Rattle.circom_files.specs.Given.{Leaves};
 ghost use Rattle.circom_files.specs.Shown.{shown};
 ghost use Rattle.circom_files.specs.declared.outcome.Halt.{Halt};
 ghost use Rattle.circom_files.specs.declared.outcome.Ran.TheVariants.{Halted};
 ghost use Rattle.circom_gold.specs.Reply.{Answers};
-ghost use Rattle.circom_gold.specs.Run.{Ends, Stays, Leaves, Writing};
+ghost use Rattle.circom_gold.specs.Run.{Ends, Stays, Writing};
 ghost use Rattle.circom_gold.specs.Witness.{HasWitness, HoldsWitnessOf, IsWitnessed, SaysHalt};
 ghost use Rattle.circom_words.specs.Ranges.{HasRanges};
 ghost use Rattle.circom_words.specs.Words.{Options, witness, texts, run_command_of, meant_run};
@@ -18,8 +19,7 @@ ghost use Rattle.circom_words.specs.declared.options.RunOptions.{RunOptions};
 
 use crate::generate::generate_reply;
 use crate::witness::witness_reply;
-use crate::writing::{put_text, write_file};
-use circom_files::Reply;
+use circom_files::{Reply, put_fault, put_text, write_file};
 use circom_words::RunCommand;
 use out_io::{IoFault, Sink, Store};
 use std::alloc::{AllocError, AllocGlobal, Global};
@@ -74,11 +74,7 @@ pub fn run_circuit<R: Threads + Wait + AllocGlobal + Sync, S: Store, K: Sink>(
     let command = RunCommand::of(alloc, words)?;
     match answered(rt, alloc, command, store) {
         Ok(reply) => put_text(&reply, out),
-        Err(IoFault::Failed) => {
-            let reply = Reply::store_failed(alloc)?;
-            put_text(&reply, out)
-        }
-        Err(IoFault::OutOfMemory) => Err(AllocError),
+        Err(fault) => put_fault(alloc, fault, out),
     }
 }
 

@@ -1,11 +1,11 @@
-use Rattle.std.proofs.Common.{◌∙◌, List, ℕ, Option, refl, subst}
+use Rattle.std.proofs.Common.{◌∙◌, List, ℕ, Option, Err, ap, subst}
 use Rattle.out_io.specs.Calls.{Course, course}
 use Rattle.out_io.specs.Contents.{Contents}
 use Rattle.circom_gold.specs.Reply.{Answers}
 use Rattle.circom_gold.specs.Run.{Writing}
 use Rattle.circom_files.specs.Shown.{shown}
 use Rattle.circom_words.specs.Words.{Command, plain_command_of, texts}
-use Rattle.circom_gold.proofs.Replies.{audit_told, proof_written, stays_said, stays_wanting}
+use Rattle.circom_gold.proofs.Replies.{audit_told, proof_written, stays_failed, stays_said}
 use Rattle.circom_gold.proofs.Replies.{success_written}
 use Rattle.circom_gold.proofs.plain.run_command.Goals as goal
 
@@ -53,17 +53,16 @@ returns-in-Ok-clause-audited g c = λ r1cs publics proof is.
     (c.in-Ok.ensures.audited r1cs publics proof (c.in_ok-command.ensures ∙ is))
     c.put_text.ensures.puts
 
-pub returns-in_err-reply-in-Err-Failed-clause-kept :
-    goal.returns-in_err-reply-in-Err-Failed-clause-kept
-returns-in_err-reply-in-Err-Failed-clause-kept g c =
+pub returns-in-Err-clause-kept : goal.returns-in-Err-clause-kept
+returns-in-Err-clause-kept g c =
     let store : Course Contents =
     course (g.S.Store.contents c.args.store.now) (g.S.Store.contents c.answered.new.store)
     (g.S.Store.faults c.args.store.now) (g.S.Store.faults c.answered.new.store) in
     let sink : Course (List ℕ) =
-    course (g.K.Sink.contents c.args.out.now) (g.K.Sink.contents c.args.out.now)
-    (g.K.Sink.faults c.args.out.now) (g.K.Sink.faults c.args.out.now) in
-    stays_wanting (plain_command_of (texts c.args.words.now)) store sink
+    course (g.K.Sink.contents c.args.out.now) (g.K.Sink.contents c.put_fault.new.out)
+    (g.K.Sink.faults c.args.out.now) (g.K.Sink.faults c.put_fault.new.out) in
+    stays_failed (plain_command_of (texts c.args.words.now)) store sink c.in-Err.fault
     (subst
     (λ (x : Option Command). Writing x (g.S.Store.contents c.args.store.now)
-    (g.S.Store.contents c.answered.new.store)) c.in_ok-command.ensures c.in-Err-Failed.ensures.kept)
-    refl
+    (g.S.Store.contents c.answered.new.store)) c.in_ok-command.ensures c.in-Err.ensures.kept)
+    (λ failed. c.in-Err.ensures.fault (ap Err failed)) c.put_fault.ensures.front

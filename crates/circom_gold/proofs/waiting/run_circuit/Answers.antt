@@ -1,11 +1,11 @@
-use Rattle.std.proofs.Common.{◌∙◌, List, ℕ, Option, refl, subst}
+use Rattle.std.proofs.Common.{◌∙◌, List, ℕ, Option, Err, ap, subst}
 use Rattle.out_io.specs.Calls.{Course, course}
 use Rattle.out_io.specs.Contents.{Contents}
 use Rattle.circom_gold.specs.Reply.{Answers}
 use Rattle.circom_gold.specs.Run.{Writing}
 use Rattle.circom_files.specs.Shown.{shown}
 use Rattle.circom_words.specs.Words.{Command, run_command_of, texts}
-use Rattle.circom_gold.proofs.Replies.{stays_said, stays_wanting}
+use Rattle.circom_gold.proofs.Replies.{stays_failed, stays_said}
 use Rattle.circom_gold.proofs.RunReplies.{witness_halted, witness_told, witness_written}
 use Rattle.circom_gold.proofs.waiting.run_circuit.Goals as goal
 
@@ -56,18 +56,16 @@ returns-in-Ok-clause-halted g c = λ source input out options running h is.
     (shown c.in-Ok.reply)) (c.in_ok-command.ensures.meant ∙ is) c.in-Ok.ensures.answers)
     c.put_text.ensures.puts h
 
-pub returns-in_err-reply-in-Err-Failed-clause-kept :
-    goal.returns-in_err-reply-in-Err-Failed-clause-kept
-returns-in_err-reply-in-Err-Failed-clause-kept g c =
+pub returns-in-Err-clause-kept : goal.returns-in-Err-clause-kept
+returns-in-Err-clause-kept g c =
     let store : Course Contents =
     course (g.S.Store.contents c.args.store.now) (g.S.Store.contents c.answered.new.store)
     (g.S.Store.faults c.args.store.now) (g.S.Store.faults c.answered.new.store) in
     let sink : Course (List ℕ) =
-    course (g.K.Sink.contents c.args.out.now) (g.K.Sink.contents c.args.out.now)
-    (g.K.Sink.faults c.args.out.now) (g.K.Sink.faults c.args.out.now) in
-    stays_wanting (run_command_of (texts c.args.words.now)) store sink
+    course (g.K.Sink.contents c.args.out.now) (g.K.Sink.contents c.put_fault.new.out)
+    (g.K.Sink.faults c.args.out.now) (g.K.Sink.faults c.put_fault.new.out) in
+    stays_failed (run_command_of (texts c.args.words.now)) store sink c.in-Err.fault
     (subst
     (λ (x : Option Command). Writing x (g.S.Store.contents c.args.store.now)
-    (g.S.Store.contents c.answered.new.store)) c.in_ok-command.ensures.meant
-    c.in-Err-Failed.ensures.kept)
-    refl
+    (g.S.Store.contents c.answered.new.store)) c.in_ok-command.ensures.meant c.in-Err.ensures.kept)
+    (λ failed. c.in-Err.ensures.fault (ap Err failed)) c.put_fault.ensures.front

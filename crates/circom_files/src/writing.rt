@@ -1,13 +1,16 @@
-ghost use Rattle.std.specs.Prelude.{◌≡◌, None, IfOk, IsErrOf, IsOk, OnOk, OnErr};
+//! What is done with a reply.
+
+ghost use Rattle.std.specs.Prelude.{◌≡◌, ◌⊎◌, None, IfOk, IsErrOf, IsOk, OnOk, OnErr};
 ghost use Rattle.out_io.specs.Calls.{Counting, course};
 ghost use Rattle.out_io.specs.Contents.{Changes};
 ghost use Rattle.out_io.specs.Faults.{Rose};
 ghost use Rattle.out_io.specs.Written.{IsAppendedInPart};
 ghost use Rattle.out_io.specs.declared.fault.IoFault.TheVariants.{Failed};
+ghost use Rattle.circom_files.specs.Given.{Leaves, LeavesInPart, Puts};
+ghost use Rattle.circom_files.specs.Reply.{store_failed};
 ghost use Rattle.circom_files.specs.Shown.{shown};
-ghost use Rattle.circom_gold.specs.Run.{Leaves, LeavesInPart, Puts};
 
-use circom_files::Reply;
+use crate::reply::Reply;
 use out_io::{IoFault, Sink, Store};
 use std::alloc::{AllocError, Global};
 
@@ -46,5 +49,21 @@ pub fn put_text<K: Sink>(reply: &Reply<'_>, out: &mut K) -> Result<u8, AllocErro
         Ok(()) => Ok(reply.status),
         Err(IoFault::Failed) => Ok(FAULT),
         Err(IoFault::OutOfMemory) => Err(AllocError),
+    }
+}
+
+/// Says that the store failed, where that is the fault, and gives the exit status.
+pub fn put_fault<K: Sink>(alloc: Global, fault: IoFault, out: &mut K) -> Result<u8, AllocError>
+    ensures puts { IfOk result (λ exit. (fault ≡ Failed) × Puts store_failed
+        (course (K.contents out.old) (K.contents out.new) (K.faults out.old) (K.faults out.new))
+        exit) }
+    ensures front { (K.contents out.new ≡ K.contents out.old) ⊎ ((fault ≡ Failed)
+        × IsAppendedInPart store_failed.text (K.contents out.old) (K.contents out.new)) }
+    ensures counting { Counting (K.faults out.old) (K.faults out.new)
+        (K.never_fails out.old) (K.never_fails out.new) }
+{
+    match fault {
+        IoFault::Failed => put_text(&Reply::store_failed(alloc)?, out),
+        IoFault::OutOfMemory => Err(AllocError),
     }
 }

@@ -1,6 +1,6 @@
 use Rattle.std.proofs.Common.{◌≡◌}
-use Rattle.circom_gold.proofs.Replies.{front_of_all}
-use Rattle.circom_gold.proofs.writing.put_text.Goals as goal
+use Rattle.circom_files.proofs.Given.{front_of_all}
+use Rattle.circom_files.proofs.writing.put_text.Goals as goal
 
 pub returns-in-Ok-clause-front : goal.returns-in-Ok-clause-front
 returns-in-Ok-clause-front g c =
