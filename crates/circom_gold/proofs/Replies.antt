@@ -1,5 +1,5 @@
 -- What a run does with its reply.
-use Rattle.std.proofs.Common.{◌≡◌, ◌<◌, ◌∙◌, ◌++◌, ◌↔◌, ◌⊎◌, ℕ, List, [], length, Option, Some}
+use Rattle.std.proofs.Common.{◌≡◌, ◌<◌, ◌∙◌, ◌↔◌, ◌⊎◌, ℕ, List, [], length, Option, Some}
 use Rattle.std.proofs.Common.{None, Result, Ok, Err, IfOk, refl, sym, ap, subst, inl, inr, arith}
 use Rattle.std.proofs.Math.Seq.{take-length}
 use Rattle.std.proofs.lemmas.List.{append-nil}
@@ -11,12 +11,12 @@ use Rattle.out_io.specs.Contents.{Contents, Changes}
 use Rattle.out_io.specs.declared.fault.IoFault.{IoFault}
 use Rattle.out_io.specs.declared.fault.IoFault.TheVariants.{Failed}
 use Rattle.out_io.specs.Faults.{Rose}
-use Rattle.out_io.specs.Written.{IsAppended, IsAppendedInPart}
+use Rattle.out_io.specs.Written.{IsAppendedInPart}
 use Rattle.iden_files.specs.File.{File}
 use Rattle.iden_files.specs.ReadR1cs.{r1cs_of}
 use Rattle.iden_files.specs.Spelling.{r1cs_bytes}
 use Rattle.circom_gold.specs.Compile.{Compiles, HoldsConstraintsOf}
-use Rattle.circom_words.specs.Lines.{fault_line, verdict_status}
+use Rattle.circom_words.specs.Lines.{verdict_status}
 use Rattle.circom_words.specs.Proving.{audit_status}
 use Rattle.lig_proof.specs.declared.verdict.Verdict.{Verdict as Audited}
 use Rattle.lig_proof.specs.declared.verdict.Verdict.TheVariants as audits

@@ -1,5 +1,5 @@
 -- What a run of the program does to the store and the sink.
-use Rattle.std.specs.Prelude.{◌≡◌, ℕ, List, [], ◌⊎◌, Option, Some, None, Result, IfOk, IfSome}
+use Rattle.std.specs.Prelude.{◌≡◌, ℕ, List, [], ◌⊎◌, Option, Result, IfOk, IfSome}
 use Rattle.std.specs.declared.alloc.AllocError.{AllocError}
 use Rattle.out_io.specs.Calls.{Course, HasFailed}
 use Rattle.out_io.specs.Contents.{Contents, Changes}
