@@ -1,6 +1,6 @@
 -- The cells that are read.
 use Rattle.std.proofs.Common.{◌≡◌, ◌∙◌, ℕ, zero, suc, ◌+◌, List, [], ◌∷◌, ◌++◌, length, ap, sym}
-use Rattle.std.proofs.Common.{refl}
+use Rattle.std.proofs.Common.{arith, refl}
 use Rattle.std.specs.Prelude.{Bool, true, false, not, if◌then◌else◌, map, filter, Option, Some, Ok}
 use Rattle.std.specs.Prelude.{Err}
 use Rattle.cir_ast.specs.declared.program.Meant.{Meant}
@@ -10,7 +10,7 @@ use Rattle.cir_arrays.specs.Shown.{datum_of}
 use Rattle.cir_evaluate.proofs.Literals.{sized_of}
 use Rattle.cir_meaning.specs.Tried.{Where, Refused}
 use Rattle.cir_meaning.specs.Arrays.{Datum, Whole, is_known, item_at, reach, single}
-use Rattle.cir_meaning.specs.Values.{Known}
+use Rattle.cir_meaning.specs.Values.{Known, Value}
 use Rattle.cir_meaning.specs.Limits.{is_too_large}
 use Rattle.cir_meaning.specs.Places.{elements, is_inside, left_of, numbers_from, places_of}
 use Rattle.cir_arrays.specs.Reached.{places_within}
@@ -44,6 +44,17 @@ unknown_none n d (k ∷ ks) h =
     let rest : List ℕ = filter (λ j. not (is_known (item_at d.items j))) ks in
     ap (λ b. map (λ j. M.Element n j) (if not b then k ∷ rest else rest)) (h k)
     ∙ unknown_none n d ks h
+
+unmade_known : (items : List Value) → length items ≡ 0 → (k : ℕ)
+    → is_known (item_at items k) ≡ true
+unmade_known [] h zero = refl
+unmade_known [] h (suc k) = refl
+unmade_known (x ∷ xs) h k = absurd (omega arith)
+
+-- of an array that isn't made nothing is unknown
+pub unmade_none : (n : ℕ) (d : Datum) (places : List ℕ) → length d.items ≡ 0
+    → M.unknown_at n d places ≡ []
+unmade_none n d places h = unknown_none n d places (unmade_known d.items h)
 
 zero_known : (k : ℕ) → is_known (item_at (Known 0 ∷ []) k) ≡ true
 zero_known zero = refl

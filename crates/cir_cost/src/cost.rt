@@ -21,7 +21,9 @@ ghost use Rattle.cir_evaluate.specs.Parts.{look_shading};
 ghost use Rattle.cir_cost.specs.Adds.{Adds, IsCost, called_alone, read_alone};
 
 use crate::nodes::nodes_of;
-use crate::reads::{Cell, add_all_unknown, add_unknown, add_wires, places_in, source_or_lost};
+use crate::reads::{
+    Cell, add_all_unknown, add_unknown, add_wires, item_count, places_in, source_or_lost,
+};
 use crate::seen::{index_seen, right_look_in, seen, side_looks_in};
 use cir_arrays::{Datum, Fault, place_of};
 use cir_ast::program::{Accessor, Expr, LogArgument, Meant, Place, Spot};
@@ -322,6 +324,10 @@ impl Cost {
     {
         match meant {
             Meant::Variable(n) => {
+                // An array that passes a limit isn't made, and none of its elements is unknown.
+                if item_count(d) == 0 {
+                    return Ok(());
+                }
                 let dims = d.dims();
                 if let Some(place) = place_of(dims, indices) {
                     return add_unknown(&mut self.reads, n, d, &[place]);

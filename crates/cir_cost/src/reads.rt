@@ -113,7 +113,7 @@ fn add_if_unknown(
     Ok(())
 }
 
-fn item_count(d: &Datum) -> u64
+pub fn item_count(d: &Datum) -> u64
     ensures { result ≡ length (datum_of d.now).items }
 {
     match d {
