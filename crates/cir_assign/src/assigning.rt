@@ -30,7 +30,7 @@ use cir_arrays::{Datum, Fault, Reach, Want, elements, reach_of, same_dims};
 use cir_ast::Kind;
 use cir_ast::program::{Accessor, Assign, Compound, Expr, Meant, Place, Spot};
 use cir_cost::{Cost, stepped};
-use cir_evaluate::{Here, datum, indices_in, number, place_number, strict};
+use cir_evaluate::{Here, compound_operator, datum, indices_in, number, place_number, strict};
 use cir_frame::{Frame, World};
 use cir_values::Value;
 use gold_field::{Gold, Op2};
@@ -85,25 +85,6 @@ fn at<'a>(place: &'a Place, given: Given<'a>) -> Placed<'a>
     }
 }
 
-fn compound_of(op: Compound) -> Op2
-    ensures { O.operator_of (O.compound_of op) ≡ O.Strict result }
-{
-    match op {
-        Compound::Pow => Op2::Pow,
-        Compound::ShiftLeft => Op2::Shl,
-        Compound::ShiftRight => Op2::Shr,
-        Compound::Add => Op2::Add,
-        Compound::Sub => Op2::Sub,
-        Compound::Mul => Op2::Mul,
-        Compound::Div => Op2::Div,
-        Compound::Quotient => Op2::Quot,
-        Compound::Remainder => Op2::Rem,
-        Compound::And => Op2::And,
-        Compound::Or => Op2::Or,
-        Compound::Xor => Op2::Xor,
-    }
-}
-
 /// The value that an assignment gives.
 pub fn given_value<C: Fn(Spot, u32, Vec<Datum>, &mut World) -> Result<Datum, Fault>>(
     here: &Here<C>,
@@ -124,7 +105,7 @@ pub fn given_value<C: Fn(Spot, u32, Vec<Datum>, &mut World) -> Result<Datum, Fau
         Given::Compound(op, place, e) => {
             let x = place_number(here, place, frame, world)?;
             let y = number(here, e, frame, world)?;
-            let v = strict(here, compound_of(op), x, y)?;
+            let v = strict(here, compound_operator(op), x, y)?;
             Ok(Datum::Number(v))
         }
         Given::Increment(place) => stepped_number(here, Op2::Add, place, frame, world),

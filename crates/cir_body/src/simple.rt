@@ -1,5 +1,5 @@
 //! The execution of simple statements. Limits are tested at the end of each, with all that it adds.
-ghost use Rattle.std.specs.Prelude.{◌≡◌, length, map, IfOk};
+ghost use Rattle.std.specs.Prelude.{map};
 ghost use Rattle.cir_ast.specs.declared.program.Meant.{Meant as AnyMeant};
 ghost use Rattle.cir_ast.specs.Tree.{Assigned, Simple as AnySimple, Vars as AnyVars, bare};
 ghost use Rattle.cir_ast.specs.Tree.{bare_assign, bare_simple, bare_slot, bare_source, bare_target};
@@ -22,13 +22,13 @@ use cir_assign::{Wiring, placed_of};
 use cir_ast::Kind;
 use cir_ast::program::{Arrow, Assign, Components, Expr, Simple, Slot, Source, Spot, Target, Vars};
 use cir_evaluate::datum;
-use cir_frame::{Frame, World};
+use cir_execute::next_component;
+use cir_frame::World;
 use cir_lift::{Lifted, assign_holds, holds, lift_assign, lift_simple};
 use cir_make::{Body, Cast, Inside, Whole};
 use cir_write::{
     created, declare_components, declare_signals, declare_variables, equal, set, set_signal,
 };
-use std::alloc::AllocError;
 
 /// Executes a simple statement: first the statements for its anonymous components, at its own
 /// place.
@@ -118,16 +118,6 @@ where
 {
     declare_variables(body, spot, vars.variables.as_slice(), inside, whole)?;
     body.context.counted(spot, &mut whole.world)
-}
-
-/// The number of the next component.
-fn next_component(frame: &Frame) -> Result<u32, AllocError>
-    ensures { IfOk result (λ n. n ≡ length frame.now.components.items) }
-{
-    match u32::try_from(frame.components.len()) {
-        Ok(n) => Ok(n),
-        Err(_) => Err(AllocError),
-    }
 }
 
 /// A statement and those that are lifted before it, each counted.

@@ -11,4 +11,6 @@ mod operands;
 pub use context::{Context, Here, reading};
 pub use evaluate::{data, datum, number, place_number};
 pub use looking::{arguments_in, dims_in, indices_in};
-pub use operands::{Look, Operator, operator_of, right_look, side_looks, strict};
+pub use operands::{
+    Look, Operator, compound_operator, op_of, operator_of, right_look, side_looks, strict,
+};

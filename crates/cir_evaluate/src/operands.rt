@@ -10,7 +10,7 @@ ghost use Rattle.cir_evaluate.specs.Parts.{look_shading, operator_by};
 use crate::context::Here;
 use cir_arrays::Fault;
 use cir_ast::Kind;
-use cir_ast::program::{Binary, Unary};
+use cir_ast::program::{Binary, Compound, Unary};
 use cir_values::{Lazy, Side, Value, and_left, or_left, result_of, side_of, truth_of};
 use gold_field::{Op1, Op2};
 
@@ -58,6 +58,26 @@ pub fn operator_of(op: Binary) -> Operator
         Binary::GreaterEqual => Operator::Strict(Op2::Ge),
         Binary::And => Operator::And,
         Binary::Or => Operator::Or,
+    }
+}
+
+/// The operator of a symbol such as `+=`.
+pub fn compound_operator(op: Compound) -> Op2
+    ensures { O.operator_of (O.compound_of op) ≡ O.Strict result }
+{
+    match op {
+        Compound::Pow => Op2::Pow,
+        Compound::ShiftLeft => Op2::Shl,
+        Compound::ShiftRight => Op2::Shr,
+        Compound::Add => Op2::Add,
+        Compound::Sub => Op2::Sub,
+        Compound::Mul => Op2::Mul,
+        Compound::Div => Op2::Div,
+        Compound::Quotient => Op2::Quot,
+        Compound::Remainder => Op2::Rem,
+        Compound::And => Op2::And,
+        Compound::Or => Op2::Or,
+        Compound::Xor => Op2::Xor,
     }
 }
 

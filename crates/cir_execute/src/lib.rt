@@ -8,6 +8,7 @@ mod statement;
 mod undecided;
 
 pub use inside::inside_cost;
+pub use simple::next_component;
 pub use statement::{Flow, decide, decide_branch, execute_all, log, too_many};
 pub use undecided::{
     Loop, Rest, allowed, enclose, forget, read_before, scan_rest, touched,

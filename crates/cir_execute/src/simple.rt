@@ -115,7 +115,7 @@ where
 }
 
 /// The number of the next component.
-fn next_component(frame: &Frame) -> Result<u32, AllocError>
+pub fn next_component(frame: &Frame) -> Result<u32, AllocError>
     ensures { IfOk result (λ n. n ≡ length frame.now.components.items) }
 {
     match u32::try_from(frame.components.len()) {

@@ -97,16 +97,24 @@ pub fn place(alloc: Global, p: &Place) -> Result<Place, AllocError>
     ensures { IfOk result (λ r. bare_place r ≡ bare_place p.now) }
 {
     let name = text(alloc, &p.name)?;
-    let mut accessors = Vec::with_capacity(alloc, p.accessors.len())?;
-    for a in p.accessors.as_slice() {
-        let copy = accessor(alloc, a)?;
-        accessors.push(copy)?;
-    }
+    let accessors = accessors(alloc, p.accessors.as_slice())?;
     Ok(Place {
         name,
         meant: p.meant,
-        accessors: Items::of(accessors),
+        accessors,
     })
+}
+
+#[cycle(copying)]
+pub fn accessors(alloc: Global, list: &[Accessor]) -> Result<Items<Accessor>, AllocError>
+    ensures { IfOk result (λ r. as_accessors r ≡ as_accessors list.now) }
+{
+    let mut copies = Vec::with_capacity(alloc, list.len())?;
+    for a in list {
+        let copy = accessor(alloc, a)?;
+        copies.push(copy)?;
+    }
+    Ok(Items::of(copies))
 }
 
 #[cycle(copying)]

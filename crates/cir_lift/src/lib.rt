@@ -10,5 +10,6 @@ mod lifting;
 mod made;
 mod values;
 
+pub use copies::{accessors as accessors_copy, expr as expr_copy, place as place_copy};
 pub use holding::{assign_holds, holds};
 pub use lifting::{Lifted, lift_assign, lift_simple};

@@ -3,6 +3,7 @@
 #![tactic(auto)]
 
 mod arrays;
+mod assigned;
 mod calls;
 mod cells;
 mod collecting;

@@ -16,13 +16,13 @@ ghost use Rattle.wit_statements.specs.Asked.{element_of, task_of};
 ghost use Rattle.cir_make.specs.Arrays.{StandsIn};
 ghost use Rattle.cir_make.specs.Steps.{IsKnownAt, elements_of, work_of};
 
+use crate::assigned::assign_copy;
 use crate::calls::call_values;
 use crate::collecting::{Standing, arrays_of};
 use crate::make::{Doing, Elements};
 use crate::told::{Told, code_of};
 use cir_arrays::{Datum, Fault};
 use cir_ast::program::Spot;
-use cir_copies::assign_copy;
 use cir_evaluate::Here;
 use cir_execute::Rest;
 use cir_frame::World;

@@ -9,4 +9,4 @@ mod texts;
 
 pub use bodies::{declaration_of, has_run_dimension, text_of, written_dims};
 pub use literals::{has_literal, has_misplaced};
-pub use texts::{Assigned, Called, Texts, Wanted, value_of};
+pub use texts::{Assigned, Called, Texts, Wanted, compound_of, value_of};

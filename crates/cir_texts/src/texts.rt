@@ -63,7 +63,7 @@ impl<'p> Drop for Texts<'p> {
 }
 
 /// The operator of a symbol such as `+=`.
-fn compound_of(op: Compound) -> Binary
+pub fn compound_of(op: Compound) -> Binary
     ensures { result ≡ compound_of op }
 {
     match op {

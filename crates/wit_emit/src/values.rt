@@ -16,12 +16,12 @@ use crate::pieces::{bounds, constants, truth};
 use crate::reading::read;
 use crate::shapes::size_of;
 use cir_ast::program::{Accessor, Expr, Meant};
-use cir_evaluate::{Operator, operator_of};
+use cir_evaluate::{Operator, op_of, operator_of};
 use gold_field::Gold;
 use items::Items;
 use std::alloc::AllocError;
 use wit_code::Op;
-use wit_sourced::{Scope, behind, op_of};
+use wit_sourced::{Scope, behind};
 
 /// What a known left operand decides.
 fn decided(op: Operator, left: Option<u64>) -> Option<Gold>

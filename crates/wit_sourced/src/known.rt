@@ -5,7 +5,6 @@ ghost use Rattle.std.specs.Option.{option_copied};
 ghost use Rattle.cir_ast.specs.Tree.{as_accessors, bare};
 ghost use Rattle.cir_evaluate.specs.Parts.{operator_by};
 ghost use Rattle.gold_field.specs.Operators.{unary_of as number_by};
-ghost use Rattle.cir_meaning.specs.Operators.{unary_of};
 ghost use Rattle.cir_meaning.specs.Values.{truth_number};
 ghost use Rattle.wit_lower.specs.Homes.{Variable};
 ghost use Rattle.wit_lower.specs.Known as K;
@@ -21,21 +20,10 @@ use crate::loaded::{CallValue, Called, Loaded};
 use crate::same::is_same;
 use crate::sources::Input;
 use cir_arrays::all_known;
-use cir_ast::program::{Accessor, Expr, Meant, Unary};
-use cir_evaluate::{Operator, operator_of};
+use cir_ast::program::{Accessor, Expr, Meant};
+use cir_evaluate::{Operator, op_of, operator_of};
 use gold_field::{Gold, Op1, Op2, binary, unary};
 use std::alloc::{AllocError, Global};
-
-/// The machine's operator.
-pub fn op_of(op: Unary) -> Op1
-    ensures { result ≡ unary_of op }
-{
-    match op {
-        Unary::Negate => Op1::Neg,
-        Unary::Not => Op1::Not,
-        Unary::Complement => Op1::Compl,
-    }
-}
 
 /// Whether the call is one of these.
 pub fn is_listed(calls: &[CallValue], call: &Expr) -> bool

@@ -13,7 +13,7 @@ mod sources;
 
 pub use elements::{is_inside, offset};
 pub use homes::{Home, Placed, Scope, Sought};
-pub use known::{is_listed, number_of, op_of};
+pub use known::{is_listed, number_of};
 pub use loaded::{CallValue, Called, Loaded, component_dims};
 pub use reads::Reads;
 pub use same::is_same;

@@ -1,7 +1,6 @@
 //! The code of assignments: the value, the indices, then the write.
 ghost use Rattle.std.specs.Prelude.{◌≡◌, ◌+◌, [], ◌∷◌, ◌++◌, length, OnOk};
 ghost use Rattle.cir_ast.specs.Tree.{bare_assign, as_accessors, place_accessors};
-ghost use Rattle.cir_meaning.specs.Operators as O;
 ghost use Rattle.cir_meaning.specs.Reached.{indices_count as count_of};
 ghost use Rattle.wit_lower.specs.Homes as L;
 ghost use Rattle.wit_lower.specs.Values as V;
@@ -11,33 +10,14 @@ ghost use Rattle.wit_statements.specs.Parts as E;
 ghost use Rattle.wit_sourced.specs.Shown.{homes_of, scope_of};
 ghost use Rattle.wit_emit.specs.Grounds.{ground_of};
 
-use cir_ast::program::{Accessor, Assign, Compound, Expr, Place};
-use cir_evaluate::Operator;
+use cir_ast::program::{Accessor, Assign, Expr, Place};
+use cir_evaluate::{Operator, compound_operator};
 use gold_field::{Gold, Op2};
 use items::Items;
 use std::alloc::AllocError;
 use wit_code::Op;
 use wit_emit::{Front, Ground, emit, emit_place, emit_right, size_of, write};
 use wit_sourced::{Scope, behind};
-
-fn compound_of(op: Compound) -> Op2
-    ensures { O.operator_of (O.compound_of op) ≡ O.Strict result }
-{
-    match op {
-        Compound::Pow => Op2::Pow,
-        Compound::ShiftLeft => Op2::Shl,
-        Compound::ShiftRight => Op2::Shr,
-        Compound::Add => Op2::Add,
-        Compound::Sub => Op2::Sub,
-        Compound::Mul => Op2::Mul,
-        Compound::Div => Op2::Div,
-        Compound::Quotient => Op2::Quot,
-        Compound::Remainder => Op2::Rem,
-        Compound::And => Op2::And,
-        Compound::Or => Op2::Or,
-        Compound::Xor => Op2::Xor,
-    }
-}
 
 /// The code of an assignment.
 pub fn emit_assign(
@@ -57,7 +37,7 @@ pub fn emit_assign(
         }
         Assign::Compound(place, op, e) => {
             emit_read(ground, scope, code, place)?;
-            let op = Operator::Strict(compound_of(*op));
+            let op = Operator::Strict(compound_operator(*op));
             emit_right(ground, scope, code, scope.top, None, op, e)?;
             emit_write(ground, scope, code, 1, place)?;
             Ok(())

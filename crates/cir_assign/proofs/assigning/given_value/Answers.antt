@@ -35,10 +35,10 @@ returns-in_err-v-in-Compound-clause-value g c = λ m qs.
     given _ c.from_residual-in_err-v-in-Compound.result _ _
     (compound_both (context_at c.args.here.now m) (where_at c.args.here.now)
     c.args.here.now.shaded c.args.given c.in-Compound.op c.in-Compound.place c.in-Compound.e
-    (state_of c.args.frame.now c.args.world.now qs) c.in-Compound.is c.compound_of.result
+    (state_of c.args.frame.now c.args.world.now qs) c.in-Compound.is c.compound_operator.result
     (meant c.in_ok-x-in-Compound.x) (meant c.in_ok-y-in-Compound.y)
     (state_of c.args.frame.now c.place_number.new.world qs)
-    (state_of c.args.frame.now c.number.new.world qs) c.compound_of.ensures
+    (state_of c.args.frame.now c.number.new.world qs) c.compound_operator.ensures
     (c.in_ok-x-in-Compound.ensures.value m qs) (c.in_ok-y-in-Compound.ensures.value m qs))
     (leaves _ c.from_residual-in_err-v-in-Compound.result _ _ _
     c.from_residual-in_err-v-in-Compound.ensures.1 c.in_err-v-in-Compound.ensures)
@@ -53,10 +53,10 @@ pub returns-in_ok-v-in-Compound-clause-value : goal.returns-in_ok-v-in-Compound-
 returns-in_ok-v-in-Compound-clause-value g c = λ m qs.
     compound_both (context_at c.args.here.now m) (where_at c.args.here.now)
     c.args.here.now.shaded c.args.given c.in-Compound.op c.in-Compound.place c.in-Compound.e
-    (state_of c.args.frame.now c.args.world.now qs) c.in-Compound.is c.compound_of.result
+    (state_of c.args.frame.now c.args.world.now qs) c.in-Compound.is c.compound_operator.result
     (meant c.in_ok-x-in-Compound.x) (meant c.in_ok-y-in-Compound.y)
     (state_of c.args.frame.now c.place_number.new.world qs)
-    (state_of c.args.frame.now c.number.new.world qs) c.compound_of.ensures
+    (state_of c.args.frame.now c.number.new.world qs) c.compound_operator.ensures
     (c.in_ok-x-in-Compound.ensures.value m qs) (c.in_ok-y-in-Compound.ensures.value m qs)
     ∙ rw c.in_ok-v-in-Compound.ensures refl
 

@@ -1,5 +1,5 @@
-use Rattle.std.proofs.Common.{refl}
-use Rattle.cir_ast.specs.Tree.{bare}
+use Rattle.std.proofs.Common.{◌∙◌, ap, refl}
+use Rattle.cir_ast.specs.Tree.{as_accessors, bare}
 use Rattle.cir_lift.proofs.Copied.{accessors_more, accessors_all, named_start, named_more}
 use Rattle.cir_lift.proofs.Copied.{named_all, mapped_more}
 use Rattle.cir_lift.proofs.Trees.{call_copied, array_copied, place_copied, anonymous_copied}
@@ -26,15 +26,19 @@ exprs-loop-e-preserved t c =
     mapped_more bare bare _ _ _ _ _ _ _ c.loop-e-test.true c.e-item.is c.in_ok-e.ensures
     c.in_ok-push.ensures.items c.loop-e.invariant
 
-pub place-loop-a-preserved : goal.place-loop-a-preserved
-place-loop-a-preserved t c =
+pub accessors-loop-a-preserved : goal.accessors-loop-a-preserved
+accessors-loop-a-preserved t c =
     accessors_more _ _ _ _ _ _ _ c.loop-a-test.true c.a-item.is c.in_ok-copy.ensures
     c.in_ok-push.ensures.items c.loop-a.invariant
+
+pub accessors-returns : goal.accessors-returns
+accessors-returns t c =
+    accessors_all _ _ _ _ _ c.loop-a-test.false c.of.ensures c.loop-a.invariant
 
 pub place-returns : goal.place-returns
 place-returns t c =
     place_copied c.args.p.now _ c.in_ok-name.ensures refl
-    (accessors_all _ _ _ _ _ c.loop-a-test.false c.of.ensures c.loop-a.invariant)
+    (c.in_ok-accessors.ensures ∙ ap as_accessors c.as_slice.ensures)
 
 pub inputs-returns-in_ok-es-in-Listed : goal.inputs-returns-in_ok-es-in-Listed
 inputs-returns-in_ok-es-in-Listed t c =

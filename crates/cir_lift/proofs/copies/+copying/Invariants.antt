@@ -8,9 +8,9 @@ abbrev pub invariant-exprs-loop-e : goal.invariant-exprs-loop-e
 invariant-exprs-loop-e l =
     map bare l.copies.items ++ map bare (drop l.e-index l.es) ≡ map bare l.es
 
-abbrev pub invariant-place-loop-a : goal.invariant-place-loop-a
-invariant-place-loop-a l =
-    as_accessors (l.accessors.items ++ drop l.a-index l.a-items) ≡ as_accessors l.p.accessors
+abbrev pub invariant-accessors-loop-a : goal.invariant-accessors-loop-a
+invariant-accessors-loop-a l =
+    as_accessors (l.copies.items ++ drop l.a-index l.list) ≡ as_accessors l.list
 
 abbrev pub invariant-inputs-loop-i : goal.invariant-inputs-loop-i
 invariant-inputs-loop-i l =

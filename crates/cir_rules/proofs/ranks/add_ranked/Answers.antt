@@ -15,7 +15,8 @@ use Rattle.cir_texts.specs.Shown.{called_of}
 use Rattle.cir_rules.specs.Ranked.{ranked_of, ranks_in, followed}
 use Rattle.cir_rules.proofs.Reaching.{walked}
 use Rattle.cir_rules.proofs.ranks.add_ranked.Goals as goal
-use Rattle.cir_rules.proofs.ranks.add_ranked.Goals.{then-is_followed+in_ok-add_new, else-is_followed}
+use Rattle.cir_rules.proofs.ranks.add_ranked.Goals.{else-is_followed}
+use Rattle.cir_rules.proofs.ranks.add_ranked.Goals.{then-is_followed+in_ok-add_new}
 
 small_stands : (n : ℕ) → nat_le (standing n) 300 ≡ nat_le n 300
 small_stands n = grind (arith, nat_tests)

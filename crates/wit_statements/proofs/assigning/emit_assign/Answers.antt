@@ -36,7 +36,7 @@ returns-in_ok-emit_write-in-Compound c =
     let old = c.args.code.now in
     let e = bare c.in-Compound.e in
     let p = c.in-Compound.place in
-    let o = c.compound_of.result in
+    let o = c.compound_operator.result in
     let both = O.compound_of c.in-Compound.op in
     let value = Place p.name p.meant (place_accessors p) in
     rw c.in-Compound.is (changed_made g s old c.emit_right.new.code
@@ -46,7 +46,7 @@ returns-in_ok-emit_write-in-Compound c =
     (λ n. right_code g s.homes s.top n None (O.Strict o) e) c.in_ok-emit_read-in-Compound.ensures
     c.in_ok-emit_right-in-Compound.ensures
     ∙ ap (λ (k : P.Code). old ++ k)
-    (code_compound g s.homes s.top (length old) both o value e c.compound_of.ensures))
+    (code_compound g s.homes s.top (length old) both o value e c.compound_operator.ensures))
     c.in_ok-emit_write-in-Compound.ensures)
 
 pub returns-in_ok-emit_write-in-Increment : goal.returns-in_ok-emit_write-in-Increment

@@ -4,7 +4,7 @@ use Rattle.cir_ast.specs.declared.program.Meant.{Meant}
 use Rattle.cir_ast.specs.declared.program.Meant.TheVariants.{Variable}
 use Rattle.cir_ast.specs.Tree.{Set, as_accessors, bare, bare_accessors}
 use Rattle.cir_ast.proofs.Rows.{accessors_are}
-use Rattle.cir_copies.proofs.assigned.assign_copy.Goals as goal
+use Rattle.cir_make.proofs.assigned.assign_copy.Goals as goal
 
 pub returns : goal.returns
 returns c =

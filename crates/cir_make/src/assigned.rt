@@ -4,33 +4,13 @@ ghost use Rattle.cir_ast.specs.declared.program.Meant.TheVariants.{Variable};
 ghost use Rattle.cir_ast.specs.Tree.{Binary as BinaryTree, Set, as_accessors, bare, bare_assign};
 ghost use Rattle.cir_ast.specs.Tree.{bare_place};
 ghost use Rattle.cir_assign.specs.Given.{given_by};
-ghost use Rattle.cir_meaning.specs.Operators as O;
 
-use crate::copies::{accessors_copy, expr_copy, place_copy};
 use cir_assign::{Given, Written};
 use cir_ast::Text;
-use cir_ast::program::{Assign, Binary, Compound, Expr, Meant, Place};
+use cir_ast::program::{Assign, Binary, Expr, Meant, Place};
+use cir_lift::{accessors_copy, expr_copy, place_copy};
+use cir_texts::compound_of;
 use std::alloc::{AllocError, Global};
-
-/// The operator of a symbol such as `+=`.
-fn operator(op: Compound) -> Binary
-    ensures { result ≡ O.compound_of op }
-{
-    match op {
-        Compound::Pow => Binary::Pow,
-        Compound::ShiftLeft => Binary::ShiftLeft,
-        Compound::ShiftRight => Binary::ShiftRight,
-        Compound::Add => Binary::Add,
-        Compound::Sub => Binary::Sub,
-        Compound::Mul => Binary::Mul,
-        Compound::Div => Binary::Div,
-        Compound::Quotient => Binary::Quotient,
-        Compound::Remainder => Binary::Remainder,
-        Compound::And => Binary::BitAnd,
-        Compound::Or => Binary::BitOr,
-        Compound::Xor => Binary::BitXor,
-    }
-}
 
 /// An operator over what a place has.
 fn changed(alloc: Global, op: Binary, place: &Place, right: Expr) -> Result<Expr, AllocError>
@@ -51,7 +31,7 @@ fn given_copy(alloc: Global, given: Given) -> Result<Expr, AllocError>
         Given::Compound(op, place, e) => {
             let value = expr_copy(alloc, e)?;
             let inner = Box::new(alloc, value)?;
-            changed(alloc, operator(op), place, Expr::Parentheses(inner))
+            changed(alloc, compound_of(op), place, Expr::Parentheses(inner))
         }
         Given::Increment(place) => changed(alloc, Binary::Add, place, Expr::Number(1)),
         Given::Decrement(place) => changed(alloc, Binary::Sub, place, Expr::Number(1)),
@@ -59,7 +39,7 @@ fn given_copy(alloc: Global, given: Given) -> Result<Expr, AllocError>
 }
 
 /// The assignment of a new value.
-pub fn assign_copy(alloc: Global, w: &Written) -> Result<Assign, AllocError>
+pub(crate) fn assign_copy(alloc: Global, w: &Written) -> Result<Assign, AllocError>
     ensures { IfOk result (λ a. bare_assign a ≡ Set [] (Variable w.now.variable)
         (as_accessors w.now.accessors.now) (given_by w.now.given)) }
 {
