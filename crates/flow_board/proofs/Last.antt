@@ -19,7 +19,7 @@ use Rattle.flow_board.specs.Rule.{done_mark}
 use Rattle.flow_board.specs.Closed.{ClosedWords, cell_in, done_in, least_in, IsClosed, IsDoneBelow}
 use Rattle.flow_board.specs.Closed.{HasOnlyAnswers}
 use Rattle.flow_board.proofs.Openings.{start_near}
-use Rattle.flow_board.proofs.Steps.{least_told}
+use Rattle.flow_board.proofs.Steps.{least_near, least_told}
 use Rattle.flow_board.proofs.Who.{not_waiting}
 
 unrefused : (s : State) (o : Option ℕ) (k : ℕ)
@@ -93,6 +93,17 @@ least_reads w l e =
           (ap (λ (o : Option ℕ). unwrap_or o l) (sym full ∙ e), ne))
     ]
 
+least_found : (w : ClosedWords) (o : Option ℕ) (n : ℕ) → w.strands ≡ n
+    → get_or w.words 0 0 ≡ unwrap_or o n → ((l : ℕ) → o ≡ Some l → l < n) → least_in w ≡ o
+least_found w None n strands at low =
+    ap (λ (b : Bool). cond b None (Some (get_or w.words 0 0)))
+    (eq-eqb (get_or w.words 0 0) w.strands (at ∙ sym strands))
+least_found w (Some l) n strands at low =
+    let near = low l refl in
+    ap (λ (b : Bool). cond b None (Some (get_or w.words 0 0)))
+    (ne_eqb (get_or w.words 0 0) w.strands (λ z. omega arith))
+    ∙ ap Some at
+
 module _ (f : Flow) (done refused : List ℕ) (w : ClosedWords) (h : IsClosed f done refused w) where
   abbrev core : State
   core = h.closes.core
@@ -152,6 +163,11 @@ module _ (f : Flow) (done refused : List ℕ) (w : ClosedWords) (h : IsClosed f 
             (c.shows.cell_is at (c.net.writes_near k at (is_in_at ws i lt))
             ∙ ap cell_word some.1 ∙ ap (λ (x : ℕ). x + 1) same);
       }
+
+  pub least_refused : least_in w ≡ core.least
+  least_refused = let c = h.closes in
+      least_found w core.least f.net.strands h.strands_are c.shows.least_is
+      (least_near f core c.kept)
 
   pub only_answers : HasOnlyAnswers f w
   only_answers = let c = h.closes in record {

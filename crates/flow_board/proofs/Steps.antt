@@ -106,15 +106,25 @@ read_value f ok flow s h k c begun reads = elim (cases_start (start_of f c)) [
 pub none_some : (h : Hold) → None ≡ Some h → ⊥
 none_some h e = cc
 
+least_is_refused : (f : Flow) (s : State) → IsKept f s → (l : ℕ) → s.least ≡ Some l
+    → phase_of s l ≡ Refused
+least_is_refused f s h l e =
+    let P : Option ℕ → Type 0 = λ o. MatchOption o ((k : ℕ) → phase_of s k ≢ Refused)
+    (λ l. (phase_of s l ≡ Refused) × ((k : ℕ) → phase_of s k ≡ Refused → l ≤ k)) in
+    (subst P e h.sound.least_refused).0
+
+-- the strand of the word `least` is one of the net's
+pub least_near : (f : Flow) (s : State) → IsKept f s → (l : ℕ) → s.least ≡ Some l
+    → l < f.net.strands
+least_near f s h l e = let is = least_is_refused f s h l e in strand_near f s h l (λ w. cc)
+
 -- what the word `least` says of the answers
 pub least_told : (f : Flow) (s : State) → IsKept f s → (o : Option ℕ) → s.least ≡ o
     → (least_word f o ≤ f.net.strands) × (least_word f o < f.net.strands
     → answer_of f (least_word f o) ≡ Refuses)
 least_told f s h None e = (omega arith, λ less. absurd (omega arith))
 least_told f s h (Some l) e =
-    let P : Option ℕ → Type 0 = λ o. MatchOption o ((k : ℕ) → phase_of s k ≢ Refused)
-    (λ l. (phase_of s l ≡ Refused) × ((k : ℕ) → phase_of s k ≡ Refused → l ≤ k)) in
-    let is : phase_of s l ≡ Refused = (subst P e h.sound.least_refused).0 in (
+    let is = least_is_refused f s h l e in (
       (let near = strand_near f s h l (λ w. cc) in omega arith),
       λ _. h.answers_kept.refused_refuses l is,
     )

@@ -1,5 +1,5 @@
 -- What a seat knows: at first, once it is cut or joined, and after a step of each kind
-use Rattle.std.specs.Prelude.{ℕ, ◌+◌, ◌-◌, ◌++◌, Bool, cond, min, List, [], ◌∷◌, Option, Some, None}
+use Rattle.std.specs.Prelude.{◌≡◌, ℕ, ◌+◌, ◌-◌, ◌++◌, Bool, cond, min, List, [], ◌∷◌, Option, Some, None}
 use Rattle.flow_core.specs.declared.Hold.{Hold}
 use Rattle.flow_core.specs.Net.{net}
 use Rattle.flow_core.specs.Flow.{Flow}
@@ -90,3 +90,16 @@ after_refuse v i n l = record (after_step v i n) {
   refused = with_held v.holding v.refused;
   seen = l;
 }
+
+-- Each call by a seat makes one step: the count of the seat's view is one more. A seat that takes in
+-- another has the steps of both, and the one of joining.
+pub record CountsOneStep (v : View) : Type 0 where
+  pub take : (i n k : ℕ) (got : Bool) → (after_take v i n k got).steps ≡ v.steps + 1
+  pub publish : (i n : ℕ) → (after_publish v i n).steps ≡ v.steps + 1
+  pub release : (i n : ℕ) → (after_release v i n).steps ≡ v.steps + 1
+  pub read : (i n : ℕ) → (after_step v i n).steps ≡ v.steps + 1
+  pub look : (i n : ℕ) → (after_look v i n).steps ≡ v.steps + 1
+  pub finish : (i n : ℕ) → (after_finish v i n).steps ≡ v.steps + 1
+  pub refuse : (i n l : ℕ) → (after_refuse v i n l).steps ≡ v.steps + 1
+  pub split : (after_split v).steps ≡ v.steps + 1
+  pub join : (w : View) → (joined_with v w).steps ≡ v.steps + w.steps + 1

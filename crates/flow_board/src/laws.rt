@@ -8,7 +8,7 @@ ghost use Rattle.flow_board.specs.declared.view.View.{View as AView};
 ghost use Rattle.flow_core.specs.Events.{opening};
 ghost use Rattle.flow_core.specs.Quiet.{IsBelow};
 ghost use Rattle.flow_board.specs.Plays.{SeatState};
-ghost use Rattle.flow_board.specs.Views.{first};
+ghost use Rattle.flow_board.specs.Views.{first, CountsOneStep};
 ghost use Rattle.flow_board.specs.Events.{Shown, WordSteps, SeatSteps};
 ghost use Rattle.flow_board.specs.Rule.{Ruled, SaysWho};
 ghost use Rattle.flow_board.specs.Closed.{ClosedWords, IsClosed, IsDoneBelow, HasOnlyAnswers};
@@ -41,8 +41,19 @@ pub fn closed_words_have_only_answers()
         → IsClosed f done refused w → HasOnlyAnswers f w }
 {}
 
-/// Each step on a word that a board's calls make is one event of the core, or leaves its state as
-/// it was: a call's step must be allowed by the rule, and each that is stands here.
+/// The least refused strand that they name is the one of the core's state, if there is one.
+pub fn closed_words_name_the_least_refused_strand()
+    ensures { (f : Flow) (done refused : List ℕ) (w : ClosedWords)
+        (h : IsClosed f done refused w) → least_in w ≡ h.closes.core.least }
+{}
+
+/// Each of the nine calls by a seat makes one step, which its view counts.
+pub fn each_call_counts_one_step()
+    ensures { (v : AView) → CountsOneStep v }
+{}
+
+/// Each kind of step on a word that a board's calls make is one event of the core, or leaves its
+/// state as it was.
 pub fn each_step_is_one_event_or_none()
     ensures { (f : Flow) (slots id : ℕ) (m : SeatState) → 0 < m.0.share → WordSteps f slots id m }
 {}

@@ -16,7 +16,8 @@ pub use answers::Answers;
 pub use board::{Board, Released};
 pub use laws::{
     a_board_begins_in_the_opening_state, a_taken_strand_below_the_least_is_done,
-    closed_words_have_only_answers, each_step_is_one_event_or_none,
+    closed_words_have_only_answers, closed_words_name_the_least_refused_strand,
+    each_call_counts_one_step, each_step_is_one_event_or_none,
     seats_are_split_and_joined_without_an_event, the_rule_says_who_has_a_strand,
 };
 pub use seat::WorkSeat;
