@@ -1,6 +1,6 @@
 -- The proof that bytes spell, or the place of the first byte that is wrong.
 use Rattle.std.specs.Prelude.{◌==◌, ℕ, zero, suc, ◌+◌, ◌-◌, ◌*◌, List, [], ◌∷◌, length, take, drop}
-use Rattle.std.specs.Prelude.{codes}
+use Rattle.std.specs.Prelude.{◌≢◌, codes, IfErr}
 use Rattle.std.specs.Prelude.{Option, Some, None, Result, Ok, nat_lt, nat_le}
 use Rattle.std.specs.Int.{w32, w64, from_le_bytes}
 use Rattle.binary_format.specs.Reading.{◌>>=◌, front_of, number_of, or_short, required, tested}
@@ -16,6 +16,10 @@ use Rattle.lig_proof.specs.ProofBytes.{opened_count}
 abbrev pub refused : ProofFault → Option ℕ
 refused (faults.Malformed offset) = Some offset
 refused faults.OutOfMemory = None
+
+-- want of memory isn't the answer of a call that takes none
+abbrev pub TakesNoMemory : {T : Type 0} → Result T ProofFault → Type 0
+TakesNoMemory result = IfErr result (λ fault. fault ≢ faults.OutOfMemory)
 
 -- the number that follows the name
 abbrev pub version_at : List ℕ → ℕ

@@ -3,6 +3,7 @@
 ghost use Rattle.std.specs.Prelude.{◌≡◌, length};
 ghost use Rattle.binary_format.specs.Reading.{Reads, repeated};
 ghost use Rattle.lig_proof.specs.Reading.{refused, head_of, next_value, next_hash};
+ghost use Rattle.lig_proof.specs.Reading.{TakesNoMemory};
 
 use crate::fault::ProofFault;
 use binary_format::Reader;
@@ -20,6 +21,7 @@ pub fn read_head(fields: &mut Reader<'_>, version: u32) -> Result<(), ProofFault
     ensures read { Reads refused (λ x. x) fields.new.rest.now result
         (head_of version fields.old.rest.now) }
     ensures end { fields.new.end ≡ fields.old.end }
+    ensures memory { TakesNoMemory result }
 {
     let end = fields.end;
     let (Some(magic), Some(named)) = (fields.u32(), fields.u32()) else {
@@ -40,6 +42,7 @@ pub fn next_value(fields: &mut Reader<'_>) -> Result<Gold, ProofFault>
     ensures read { Reads refused (λ v. v) fields.new.rest.now result
         (next_value fields.old.end fields.old.rest.now) }
     ensures end { fields.new.end ≡ fields.old.end }
+    ensures memory { TakesNoMemory result }
 {
     let offset = fields.offset();
     let Some(number) = fields.u64() else {
@@ -57,6 +60,7 @@ pub fn next_hash(fields: &mut Reader<'_>) -> Result<Hash, ProofFault>
     ensures read { Reads refused (λ h. h) fields.new.rest.now result
         (next_hash fields.old.end fields.old.rest.now) }
     ensures end { fields.new.end ≡ fields.old.end }
+    ensures memory { TakesNoMemory result }
 {
     let Some(bytes) = fields.bytes(32) else {
         return Err(ProofFault::Malformed { offset: fields.end });
