@@ -1,3 +1,4 @@
+pub mod CompileLaws
 pub mod InputCounts
 pub mod OneCompiled
 pub mod OneReply

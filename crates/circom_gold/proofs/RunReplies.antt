@@ -1,6 +1,6 @@
 -- What the status of `witness` tells, and which words name which commands.
 use Rattle.std.proofs.Common.{◌≡◌, ◌∙◌, ◌↔◌, ◌⊎◌, ℕ, Bool, true, false, cond, List, [], ◌∷◌, Option}
-use Rattle.std.proofs.Common.{Some, None, Result, IfOk, sym, ap, subst, inl, inr}
+use Rattle.std.proofs.Common.{Some, None, Result, IfOk, refl, sym, ap, subst, inl, inr}
 use Rattle.std.specs.Prelude.{codes, option_and_then, option_map, is_some, ⊤}
 use Rattle.std.proofs.lemmas.Result.{IfOk-weaker}
 use Rattle.std.specs.declared.alloc.AllocError.{AllocError}
@@ -219,6 +219,20 @@ pub plain_so : (words : List (List ℕ)) (b : Bool) → b ≡ is_some (first_run
     → b ≡ false → plain_command_of words ≡ command_of words
 plain_so words b is e =
     sym (ap (λ (x : Bool). cond x (run_command_of words) (plain_command_of words)) (sym is ∙ e))
+
+-- where the part that waits for nobody has a status, the words are read as its own
+pub plain_told : (words : List (List ℕ)) (o : Option ℕ) (status : ℕ) → o ≡ Some status
+    → ((o ≡ None) ↔ (is_some (first_run_word words) ≡ true))
+    → plain_command_of words ≡ command_of words
+plain_told words o status is waits = by (is_some (first_run_word words)) refl
+  where
+    some_none : (n : ℕ) → Some n ≡ None → ⊥
+    some_none n e = cc
+
+    by : (b : Bool) → b ≡ is_some (first_run_word words)
+        → plain_command_of words ≡ command_of words
+    by true e = absurd (some_none status (sym is ∙ waits.1 (sym e)))
+    by false e = plain_so words false e refl
 
 -- what is said of one reading is said of the other, where they are the same
 module _ {a b : Option Command} (same : a ≡ b) (store : Course Contents) (sink : Course (List ℕ))

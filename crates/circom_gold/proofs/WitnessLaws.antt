@@ -13,6 +13,7 @@ use Rattle.cir_scope.proofs.Loaded.{loaded}
 use Rattle.cir_values.specs.declared.signals.InputShape.{InputShape}
 use Rattle.cir_meaning.specs.Compile.{InputShape as Shape}
 use Rattle.cir_meaning.specs.Scoped.{IsResolved}
+use Rattle.cir_compile.specs.Compiled.{IsCompiled}
 use Rattle.cir_compile.specs.Written.{AreValues}
 use Rattle.wit_input.specs.Input.{input_of}
 use Rattle.wit_input.specs.declared.fault.InputFault.{InputFault}
@@ -33,7 +34,7 @@ use Rattle.circom_files.specs.declared.outcome.Ran.TheVariants.{Ended, Halted}
 use Rattle.circom_files.proofs.Checked.{check_of_read}
 use Rattle.circom_files.proofs.CheckLaws.{satisfied}
 use Rattle.cir_compile.proofs.OneFile.{one_file}
-use Rattle.circom_gold.specs.Compile.{HoldsConstraintsOf, task_of}
+use Rattle.circom_gold.specs.Compile.{HoldsConstraintsOf, LoadsAgain, task_of}
 use Rattle.circom_gold.specs.Witness.{HasWitness, HoldsWitnessOf, IsWitnessed}
 use Rattle.circom_gold.specs.Witness.{Witnesses, GivesInput, IsWitnessOf, WritesWitnessOf}
 use Rattle.circom_gold.specs.Witness.{values_by_wire}
@@ -172,17 +173,25 @@ written_witness files source input out options fuel r answered zero =
     }
 
 -- the two files are read, and `check` of them is satisfied
-pub check_accepts : (files after : Contents) (source input r1cs wtns : List ℕ) (options : Options)
-    (fuel : ℕ) → HoldsConstraintsOf files source options (after r1cs)
-    → HoldsWitnessOf files source input options fuel (after wtns)
+pub check_accepts : (first second after : Contents) (source input r1cs wtns : List ℕ)
+    (options : Options) (fuel : ℕ) → LoadsAgain first second source options
+    → HoldsConstraintsOf first source options (after r1cs)
+    → HoldsWitnessOf second source input options fuel (after wtns)
     → check_of after r1cs wtns ≡ Ok Satisfied
-check_accepts files after source input r1cs wtns options fuel f w =
+check_accepts first second after source input r1cs wtns options fuel again f w =
     let task = task_of source options in
     let k = f.constraints in
+    let c = k.compiled in
+    let compiled : IsCompiled second task k.file =
+    record {
+      program = c.program;
+      loaded = again c.program c.loaded;
+      written = c.written;
+    } in
     let same : w.witness.file ≡ k.file =
-    one_file files task w.witness.file k.file
-    (compiled_as files source options w.witness.program w.witness.file w.witness.compiled)
-    k.compiled in
+    one_file second task w.witness.file k.file
+    (compiled_as second source options w.witness.program w.witness.file w.witness.compiled)
+    compiled in
     let values = values_by_wire w.witness.file w.witness.numbers in
     check_of_read after r1cs wtns f.bytes w.bytes k.file values f.there k.read w.there
     w.witness.read

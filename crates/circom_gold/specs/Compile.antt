@@ -5,8 +5,10 @@ use Rattle.out_io.specs.Contents.{Contents}
 use Rattle.gold_field.specs.Form.{Holds}
 use Rattle.iden_files.specs.File.{File}
 use Rattle.iden_files.specs.ReadR1cs.{r1cs_of}
+use Rattle.cir_ast.specs.Program.{Program}
 use Rattle.cir_lc.specs.Number.{Assignment}
 use Rattle.cir_meaning.specs.Compile.{Satisfies}
+use Rattle.cir_names.specs.Loading.{IsLoaded}
 use Rattle.cir_compile.specs.Compiled.{Task, IsCompiled, IsRefused}
 use Rattle.cir_compile.specs.Written.{AreValues}
 use Rattle.circom_words.specs.Words.{Options}
@@ -21,6 +23,11 @@ task_of source options = record {
   library = options.folder;
   level = options.level;
 }
+
+-- the source loads from the second contents as it does from the first
+abbrev pub LoadsAgain : (first second : Contents) → List ℕ → Options → Type 0
+LoadsAgain first second source options =
+    (p : Program) → IsLoaded first source options.folder p → IsLoaded second source options.folder p
 
 -- there is no source under the name, or it is refused
 abbrev pub IsUncompiled : Contents → List ℕ → Options → Refusal → Type 0

@@ -1,15 +1,18 @@
-ghost use Rattle.std.specs.Prelude.{◌≡◌, ◌↔◌, ℕ, List, Option, Some, Ok};
+ghost use Rattle.std.specs.Prelude.{◌≡◌, ◌↔◌, ℕ, List, Option, Some, Result, Ok};
 ghost use Rattle.out_io.specs.Contents.{Contents};
+ghost use Rattle.iden_files.specs.File.{File};
+ghost use Rattle.cir_compile.specs.Compiled.{IsCompiled};
 ghost use Rattle.circom_files.specs.Check.{check_of};
-ghost use Rattle.circom_files.specs.Reply.{Reply};
+ghost use Rattle.circom_files.specs.Reply.{Reply, said};
 ghost use Rattle.circom_files.specs.Running.{halted};
 ghost use Rattle.circom_files.specs.declared.outcome.Halt.{Halt};
 ghost use Rattle.circom_files.specs.declared.outcome.Ran.TheVariants.{Halted};
-ghost use Rattle.circom_gold.specs.Compile.{HoldsConstraintsOf};
-ghost use Rattle.circom_gold.specs.Reply.{Answers};
+ghost use Rattle.circom_gold.specs.Compile.{Compiles, HoldsConstraintsOf, LoadsAgain, task_of};
+ghost use Rattle.circom_gold.specs.Reply.{Answers, compiled};
 ghost use Rattle.circom_gold.specs.Witness.{HasWitness, HoldsWitnessOf, IsWitnessed};
 ghost use Rattle.circom_gold.specs.Witness.{WritesWitnessOf};
-ghost use Rattle.circom_words.specs.Words.{Command, Options, witness};
+ghost use Rattle.circom_words.specs.Words.{Command, Options, compile, witness};
+ghost use Rattle.circom_words.specs.declared.answer.Refusal.{Refusal};
 ghost use Rattle.circom_words.specs.declared.answer.Verdict.TheVariants.{Satisfied};
 ghost use Rattle.circom_words.specs.declared.options.RunOptions.{RunOptions};
 
@@ -17,6 +20,18 @@ ghost use Rattle.circom_words.specs.declared.options.RunOptions.{RunOptions};
 pub fn one_reply()
     ensures { (files : Contents) (command : Option Command) (a b : Reply)
         → Answers (Some files) command a → Answers (Some files) command b → a ≡ b }
+{}
+
+/// What a reply to `compile` means. It is that of what the source compiles to, its file or its first
+/// refusal; and its status is 0 exactly where the source compiles.
+pub fn compile_laws()
+    ensures reply { (files : Contents) (source out : List ℕ) (options : Options) (r : Reply)
+        (found : Result File Refusal)
+        → Answers (Some files) (Some (compile source out options)) r
+        → Compiles files source options found → r ≡ said (compiled out) found }
+    ensures status { (files : Contents) (source out : List ℕ) (options : Options) (r : Reply)
+        → Answers (Some files) (Some (compile source out options)) r
+        → (r.status ≡ 0) ↔ ((f : File) × IsCompiled files (task_of source options) f) }
 {}
 
 /// What a reply to `witness` means. Its status is 0 exactly where the source compiles, the input is
@@ -39,10 +54,12 @@ pub fn witness_laws()
 {}
 
 /// `check` of a file that `compile` writes and of one that `witness` writes, from the same source
-/// at the same level, says that it is satisfied.
+/// at the same level, says that it is satisfied. Files may have been written between the two, but
+/// none that the source loads.
 pub fn check_accepts_witnesses()
-    ensures { (files after : Contents) (source input r1cs wtns : List ℕ) (options : Options)
-        (fuel : ℕ) → HoldsConstraintsOf files source options (after r1cs)
-        → HoldsWitnessOf files source input options fuel (after wtns)
+    ensures { (first second after : Contents) (source input r1cs wtns : List ℕ)
+        (options : Options) (fuel : ℕ) → LoadsAgain first second source options
+        → HoldsConstraintsOf first source options (after r1cs)
+        → HoldsWitnessOf second source input options fuel (after wtns)
         → check_of after r1cs wtns ≡ Ok Satisfied }
 {}

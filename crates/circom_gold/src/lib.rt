@@ -14,5 +14,5 @@ mod waiting;
 mod witness;
 
 pub use circom_files::check_laws;
-pub use laws::{check_accepts_witnesses, one_reply, witness_laws};
+pub use laws::{check_accepts_witnesses, compile_laws, one_reply, witness_laws};
 pub use program::{run, run_in_memory, run_plain};

@@ -27,11 +27,11 @@ use std::thread::Threads;
 /// - 0: success; the values satisfy the constraints, the proof is accepted, or the file is written
 /// - 1: a file, a source, an input or public values are refused, or the run stops
 /// - 2: the values don't satisfy the constraints, or the proof is rejected
-/// - 3: a call to the store or the sink failed
+/// - 3: the count of faults of the store or of the sink rose
 /// - 64: the words have no reading
 ///
 /// The error is want of memory. `witness` and `generate` wait for other threads. On all other words
-/// this is `run_plain`, which waits for nobody.
+/// it is what `run_plain` answers, which waits for nobody.
 pub fn run<R: Threads + Wait + AllocGlobal + Sync, S: Store, K: Sink>(
     rt: &R,
     alloc: Global,
@@ -127,10 +127,9 @@ pub fn run<R: Threads + Wait + AllocGlobal + Sync, S: Store, K: Sink>(
     ensures sink { Counting (K.faults out.old) (K.faults out.new)
         (K.never_fails out.old) (K.never_fails out.new) }
 {
-    if RunCommand::is_named(words) {
-        run_circuit(rt, alloc, words, store, out)
-    } else {
-        run_command(rt, alloc, words, store, out)
+    match run_plain(rt, alloc, words, store, out)? {
+        Some(status) => Ok(status),
+        None => run_circuit(rt, alloc, words, store, out),
     }
 }
 
