@@ -200,18 +200,27 @@ fn is_fault<R: Threads + Wait + AllocGlobal + Sync + Abort>(rt: &R, words: &str,
     same(rt, store.files.contains_key("n.out"), false);
 }
 
-// The sink fails: the status is 3, and nothing is said.
-fn is_lost<R: Threads + Wait + AllocGlobal + Sync + Abort>(
+// The sink fails, and the store's call of this number where there is one: the status is 3, so many
+// calls of the store and one of the sink are made, and nothing is said.
+fn is_unsaid<R: Threads + Wait + AllocGlobal + Sync + Abort>(
     rt: &R,
     words: &str,
-    calls: u32,
-    written: bool,
-) {
-    let mut store = failing_store(rt, calls);
+    fail: u32,
+    asked: u32,
+) -> MemStore {
+    let mut store = failing_store(rt, fail);
     let lost = run_lost(rt, words, &mut store);
-    same(rt, (lost.status, lost.asked, lost.puts), (3, calls, 1));
+    same(rt, (lost.status, lost.asked, lost.puts), (3, asked, 1));
     same(rt, lost.text.is_empty(), true);
-    same(rt, store.files.contains_key("n.out"), written);
+    store
+}
+
+// The bytes of n.out; none where it isn't there.
+fn left(store: &MemStore) -> &[u8] {
+    match store.files.get("n.out") {
+        Some(bytes) => bytes.as_slice(),
+        None => &[],
+    }
 }
 
 // No call fails: so many are made.
@@ -221,10 +230,11 @@ fn is_answered<R: Threads + Wait + AllocGlobal + Sync + Abort>(
     calls: u32,
     status: u8,
     line: &str,
-) {
+) -> MemStore {
     let mut store = failing_store(rt, calls);
     says(rt, words, &mut store, status, line);
     same(rt, store.calls, calls);
+    store
 }
 
 // Each command, and words that name one file twice: how many calls of the store they make, whether
@@ -295,9 +305,21 @@ fn each_call_that_fails_is_answered_with_3(rt: HostRuntime) {
     for (words, calls, written, status, line) in CALLS.as_slice() {
         for fail in 0..*calls {
             is_fault(&rt, words, fail);
+            let store = is_unsaid(&rt, words, fail, fail.saturating_add(1));
+            same(&rt, store.files.contains_key("n.out"), false);
         }
-        is_answered(&rt, words, *calls, *status, line);
-        is_lost(&rt, words, *calls, *written);
+        let store = is_answered(&rt, words, *calls, *status, line);
+        same(&rt, store.files.contains_key("n.out"), *written);
+        let lost = is_unsaid(&rt, words, *calls, *calls);
+        same(&rt, left(&lost), left(&store));
+    }
+}
+
+// Words that ask for no file, and words without a reading, over a sink that fails.
+#[test]
+fn a_text_that_is_lost_is_answered_with_3(rt: HostRuntime) {
+    for words in ["generate 7 3", "check m.r1cs"].as_slice() {
+        let _store = is_unsaid(&rt, words, 0, 0);
     }
 }
 
