@@ -1,5 +1,6 @@
-# Sourced by the scripts here that time a small program, mostly beside one in C. The program is made in a folder of its own,
-# outside the repository, and built once; that proves the crates below it, if they aren't proved on this machine yet.
+# Sourced by the scripts here that time a small program, mostly beside one in C. The program is made
+# in a folder of its own, outside the repository, and built once; that proves the crates below it,
+# if they aren't proved on this machine yet.
 
 # The lines of crates.txt of these crates and of those that they stand on, the lowest first.
 lines_of() {
@@ -16,8 +17,9 @@ lines_of() {
     ' "$top/crates.txt"
 }
 
-# make_program FOLDER_bench CRATE ..: builds the program of bench/FOLDER over these crates and those that
-# they stand on, and bench/FOLDER.c, if there is one. Sets work, and the two programs, ours and plain.
+# make_program FOLDER_bench CRATE ..: builds the program of bench/FOLDER over these crates and those
+# that they stand on, and bench/FOLDER.c, if there is one. Sets work, and the two programs, ours and
+# plain.
 make_program() {
     name=$1
     shift
@@ -44,7 +46,8 @@ make_program() {
     if [ -f "$top/bench/$folder.c" ]; then ${CC:-cc} -O2 -o "$plain" "$top/bench/$folder.c"; fi
 }
 
-# best FILE PROGRAM WORD ..: the least processor time of the runs, whose first line goes to the file.
+# best FILE PROGRAM WORD ..: the least processor time of the runs, whose first line goes to the
+# file.
 best() {
     first=$1
     shift

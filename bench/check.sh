@@ -1,6 +1,6 @@
 #!/bin/sh
-# Times `circom_gold check` beside a plain checker in C, on satisfied files of each given number of constraints,
-# three terms each. Prints the least of the runs, reading of the files included.
+# Times `circom_gold check` beside a plain checker in C, on satisfied files of each given number of
+# constraints, three terms each. Prints the least of the runs, reading of the files included.
 #
 # usage: bench/check.sh [CONSTRAINTS ..]      (16384 and 131072 where none is given; RUNS=7 sets the runs)
 

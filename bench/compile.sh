@@ -1,6 +1,7 @@
 #!/bin/sh
-# Times `circom_gold compile` on sources of each given size, and prints the least of the runs. What one of the
-# counted things takes should stay the same as the sources grow. KIND says what is counted:
+# Times `circom_gold compile` on sources of each given size, and prints the least of the runs. What
+# one of the counted things takes should stay the same as the sources grow. KIND says what is
+# counted:
 #
 #   statements    a chain of signals, each the product of the one before it and an input, declared and written in a
 #                 statement each

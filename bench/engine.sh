@@ -1,7 +1,8 @@
 #!/bin/sh
-# Times the run of a flow of independent steps of 20 instructions, on one thread and on 1, 2 and 4 workers, by the
-# clock and in one process. Prints for each the least of RUNS (5) runs, the nanoseconds for a step, and how many times
-# faster than one worker it is; the last line says how many times longer than one thread one worker takes.
+# Times the run of a flow of independent steps of 20 instructions, on one thread and on 1, 2 and 4
+# workers, by the clock and in one process. Prints for each the least of RUNS (5) runs, the
+# nanoseconds for a step, and how many times faster than one worker it is; the last line says how
+# many times longer than one thread one worker takes.
 # Usage: bench/engine.sh [STEPS]      (1000000 where none is given)
 set -eu
 steps=${1:-1000000}

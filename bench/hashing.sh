@@ -1,7 +1,7 @@
 #!/bin/sh
-# Hashing of LEAVES (16384) leaves of WORDS (2054) words: ours beside a plain SHA-256 in C, and beside
-# openssl, which uses the processor's own instructions where it has them. Prints the best of RUNS (5)
-# runs in seconds of processor time, and the quotients.
+# Hashing of LEAVES (16384) leaves of WORDS (2054) words: ours beside a plain SHA-256 in C, and
+# beside openssl, which uses the processor's own instructions where it has them. Prints the best of
+# RUNS (5) runs in seconds of processor time, and the quotients.
 # Usage: bench/hashing.sh [LEAVES [WORDS [RUNS]]]
 set -eu
 leaves=${1:-16384}

@@ -1,6 +1,6 @@
 #!/bin/sh
-# The witness machine beside a plain C machine: a loop of TURNS turns (10^7) with ten instructions each.
-# Prints the best of RUNS (7) runs of each, in seconds of processor time, and the quotient.
+# The witness machine beside a plain C machine: a loop of TURNS turns (10^7) with ten instructions
+# each. Prints the best of RUNS (7) runs of each, in seconds of processor time, and the quotient.
 # Usage: bench/machine.sh [TURNS [RUNS]]
 set -eu
 turns=${1:-10000000}

@@ -1,8 +1,8 @@
 #!/bin/bash
 # Times the proved program against bench/loops.c, which this run compiles:
 #   measure.sh CALL SIZE TIMES ..
-# Each line has the call, its size, the nanoseconds of processor time that one call takes in ours and in C, and the
-# ratio. Each number is the least of three runs, and the checksums must agree.
+# Each line has the call, its size, the nanoseconds of processor time that one call takes in ours
+# and in C, and the ratio. Each number is the least of three runs, and the checksums must agree.
 set -eu
 here=$(cd "$(dirname "$0")" && pwd)
 cd "$here/../crates/bench"

@@ -1,7 +1,7 @@
 #!/usr/bin/env bash
-# Times `circom_gold prove` and `audit`, in both versions of a proof, on satisfied files of each given number of
-# constraints, three terms each. Prints the least seconds of the runs by the clock, reading and writing of the files
-# included, and the processor's seconds of that run.
+# Times `circom_gold prove` and `audit`, in both versions of a proof, on satisfied files of each
+# given number of constraints, three terms each. Prints the least seconds of the runs by the clock,
+# reading and writing of the files included, and the processor's seconds of that run.
 #
 # usage: bench/prove.sh [CONSTRAINTS ..]      (4096, 16384 and 131072 where none is given; RUNS=3 sets the runs)
 # With taskset, as in `taskset -c 0 bench/prove.sh`, it runs on one processor.

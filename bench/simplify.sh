@@ -1,8 +1,9 @@
 #!/bin/sh
-# Times simplification of long lists of linear constraints beside a plain C program that does the same: at --O1 a chain
-# in which each signal is equal to the one before, at --O2 one in which each is the sum of the two before. All but one
-# constraint are solved and go. Prints the least of RUNS (5) runs of each in seconds of processor time, the quotient, and
-# our microseconds for a constraint, which should stay the same as the lists grow.
+# Times simplification of long lists of linear constraints beside a plain C program that does the
+# same: at --O1 a chain in which each signal is equal to the one before, at --O2 one in which each
+# is the sum of the two before. All but one constraint are solved and go. Prints the least of RUNS
+# (5) runs of each in seconds of processor time, the quotient, and our microseconds for a
+# constraint, which should stay the same as the lists grow.
 # Usage: bench/simplify.sh [SIGNALS ..]      (10000 and 100000 where none is given)
 set -eu
 runs=${RUNS:-5}

@@ -1,5 +1,5 @@
-# Sourced by the scripts here that time the program: builds the program where that is needed, and goes to
-# a folder that is removed in the end.
+# Sourced by the scripts here that time the program: builds the program where that is needed, and
+# goes to a folder that is removed in the end.
 set -e
 top=$(dirname "$(dirname "$(readlink -f "$0")")")
 folder=$(mktemp -d)
@@ -10,7 +10,8 @@ program=$top/crates/circom_cli/out/circom_cli
 . "$top/allocator.sh"
 cd "$folder"
 
-# nanoseconds BEGINNING: the least nanoseconds of RUNS compilations of source.circom, whose line must begin so.
+# nanoseconds BEGINNING: the least nanoseconds of RUNS compilations of source.circom, whose line
+# must begin so.
 nanoseconds() {
     for _ in $(seq "${RUNS:-5}"); do
         start=$(date +%s%N)

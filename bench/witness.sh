@@ -1,5 +1,6 @@
 #!/bin/sh
-# Times what computes witnesses, with 1 and with 4 workers, and prints the least seconds of the runs by the clock.
+# Times what computes witnesses, with 1 and with 4 workers, and prints the least seconds of the runs
+# by the clock.
 #
 #   links     `circom_gold generate 7 SIZE`: SIZE links side by side, compiled and run. What one
 #             link takes should stay the same as the sizes grow. Its most memory stands behind.
@@ -9,8 +10,8 @@
 
 . "$(dirname "$0")/timed.sh"
 
-# seconds BEGINNING WORD ..: the least seconds of RUNS calls of the program, whose line must begin so, and the most
-# memory of one.
+# seconds BEGINNING WORD ..: the least seconds of RUNS calls of the program, whose line must begin
+# so, and the most memory of one.
 seconds() {
     begins=$1
     shift
