@@ -22,8 +22,8 @@ pub fn one_reply()
         → Answers (Some files) command a → Answers (Some files) command b → a ≡ b }
 {}
 
-/// What a reply to `compile` means. It is that of what the source compiles to, its file or its first
-/// refusal; and its status is 0 exactly where the source compiles.
+/// What a reply to `compile` means. It is that of what the source compiles to, its file or its
+/// first refusal; and its status is 0 exactly where the source compiles.
 pub fn compile_laws()
     ensures reply { (files : Contents) (source out : List ℕ) (options : Options) (r : Reply)
         (found : Result File Refusal)

@@ -1,5 +1,6 @@
 -- What a seat knows: at first, once it is cut or joined, and after a step of each kind
-use Rattle.std.specs.Prelude.{◌≡◌, ℕ, ◌+◌, ◌-◌, ◌++◌, Bool, cond, min, List, [], ◌∷◌, Option, Some, None}
+use Rattle.std.specs.Prelude.{◌≡◌, ℕ, ◌+◌, ◌-◌, ◌++◌, Bool, cond, min, List, [], ◌∷◌, Option}
+use Rattle.std.specs.Prelude.{Some, None}
 use Rattle.flow_core.specs.declared.Hold.{Hold}
 use Rattle.flow_core.specs.Net.{net}
 use Rattle.flow_core.specs.Flow.{Flow}
@@ -91,8 +92,8 @@ after_refuse v i n l = record (after_step v i n) {
   seen = l;
 }
 
--- Each call by a seat makes one step: the count of the seat's view is one more. A seat that takes in
--- another has the steps of both, and the one of joining.
+-- Each call by a seat makes one step: the count of the seat's view is one more. A seat that takes
+-- in another has the steps of both, and the one of joining.
 pub record CountsOneStep (v : View) : Type 0 where
   pub take : (i n k : ℕ) (got : Bool) → (after_take v i n k got).steps ≡ v.steps + 1
   pub publish : (i n : ℕ) → (after_publish v i n).steps ≡ v.steps + 1
