@@ -33,6 +33,7 @@ impl<'a> Reader<'a> {
         self.end - self.rest.len() as u64
     }
 
+    /// Whether all bytes are read.
     pub fn is_empty(&self) -> bool
         ensures { result ≡ (length self.now.rest.now == 0) }
     {
@@ -65,6 +66,7 @@ impl<'a> Reader<'a> {
         Some(Reader { rest, end })
     }
 
+    /// The number that the next 4 bytes spell, the lowest byte first.
     pub fn u32(&mut self) -> Option<u32>
         ensures taken { Takes (λ x. x) result self.old.rest.now self.new.rest.now
             (number_of w32 self.old.rest.now) }
@@ -78,6 +80,7 @@ impl<'a> Reader<'a> {
         Some(u32::from_le_bytes([front[0], front[1], front[2], front[3]]))
     }
 
+    /// The number that the next 8 bytes spell, the lowest byte first.
     pub fn u64(&mut self) -> Option<u64>
         ensures taken { Takes (λ x. x) result self.old.rest.now self.new.rest.now
             (number_of w64 self.old.rest.now) }

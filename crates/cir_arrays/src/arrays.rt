@@ -92,6 +92,7 @@ impl Datum {
         Ok(Datum::Array(Array { dims, items }))
     }
 
+    /// The dimensions, the outermost first. A number has none.
     pub fn dims(&self) -> &[u64]
         ensures { result.now ≡ (datum_of self.now).dims }
     {
@@ -101,6 +102,7 @@ impl Datum {
         }
     }
 
+    /// The same dimensions and items, in memory of their own.
     pub fn copy(&self, alloc: Global) -> Result<Datum, AllocError>
         ensures { IfOk result (λ d. datum_of d ≡ datum_of self.now) }
     {
@@ -164,6 +166,7 @@ impl Datum {
         }
     }
 
+    /// Whether each item is a known number; so it is where there is no item.
     pub fn is_all_known(&self) -> bool
         ensures { result ≡ A.is_all_known (datum_of self.now) }
     {

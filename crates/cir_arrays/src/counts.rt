@@ -52,6 +52,7 @@ const MOST_READS: u64 = 16777216;
 const MOST_STATEMENTS: u64 = 16777216;
 
 impl Counts {
+    /// Nothing is counted: each count is 0.
     pub const NOTHING: Counts = Counts {
         signals: 0,
         constraints: 0,
@@ -168,6 +169,7 @@ pub fn size_of(dims: &[u64]) -> u64
     size
 }
 
+/// Whether an array has more than 1,048,576 elements, or a dimension above that.
 pub fn is_too_large(dims: &[u64]) -> bool
     ensures { result ≡ is_large dims.now }
 {

@@ -37,6 +37,7 @@ fn is_below(dimension: u64, index: Option<u64>) -> bool
     }
 }
 
+/// Whether each index is known; one that isn't is `None`.
 pub fn is_all_known(indices: &[Option<u64>]) -> bool
     ensures { result ≡ is_some (known_ones indices.now) }
 {
@@ -209,6 +210,7 @@ fn spread(alloc: Global, firsts: &[u64], count: u64) -> Result<Vec<u64>, AllocEr
     Ok(places)
 }
 
+/// Whether both are of one shape: only then can one be assigned to the other.
 pub fn same_dims(dims: &[u64], others: &[u64]) -> bool
     ensures { result ≡ are_same dims.now others.now }
 {

@@ -18,6 +18,7 @@ pub enum Want {
 }
 
 impl Want {
+    /// Whether a value of these dimensions will do; a number has none.
     pub fn fits(self, dims: &[u64]) -> bool
         ensures { result ≡ fits (want_of self) dims.now }
     {
@@ -31,6 +32,7 @@ impl Want {
 /// The part of an array that indices mean, by its dimensions.
 #[derive(Drop)]
 pub struct Reach {
+    /// The dimensions of the part: those for which no index stands.
     pub left: Vec<u64>,
     pub part: Part,
 }
@@ -107,6 +109,7 @@ fn part_of(dims: &[u64], indices: &[Option<u64>], inside: bool) -> Part
 }
 
 impl Reach {
+    /// Whether a part is meant and it is known which; an index out of bounds means none.
     pub fn is_sure(&self) -> bool
         ensures { result ≡ is_sure self.now.part }
     {

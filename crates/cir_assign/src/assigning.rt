@@ -228,6 +228,8 @@ pub struct Step {
     pub cells: u64,
 }
 
+/// The step of an assignment to a variable. Its cells are the items of the value that aren't known,
+/// or all elements of the variable where it isn't known which of them are written.
 pub fn variable_step<C: Fn(Spot, u32, Vec<Datum>, &mut World) -> Result<Datum, Fault>>(
     here: &Here<C>,
     variable: u32,

@@ -29,6 +29,7 @@ use std::alloc::{AllocError, Global};
 pub struct Creation {
     pub component: u32,
     pub indices: Vec<u64>,
+    /// The element's place in row order.
     pub place: Option<u64>,
     pub template: u32,
     pub arguments: Vec<Datum>,

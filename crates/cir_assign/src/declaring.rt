@@ -37,6 +37,7 @@ pub fn declared_number<C>(here: &Here<C>, meant: Meant) -> Result<u32, Fault>
     }
 }
 
+/// `var name[dimension].. = value, ..`: each is declared and set before the next one.
 pub fn variables<C, M>(
     body: &Body<C, M>,
     spot: Spot,
@@ -96,6 +97,8 @@ where
     }
 }
 
+/// `signal input name[dimension].., ..`, also with values: each is declared, and written where it
+/// has one, before the next one.
 pub fn signals<C: Fn(Spot, u32, Vec<Datum>, &mut World) -> Result<Datum, Fault>>(
     context: &Context<C>,
     spot: Spot,
@@ -156,6 +159,7 @@ fn signal<C: Fn(Spot, u32, Vec<Datum>, &mut World) -> Result<Datum, Fault>>(
     }
 }
 
+/// `component name[dimension].., ..`, none of which is created yet.
 pub fn components<C: Fn(Spot, u32, Vec<Datum>, &mut World) -> Result<Datum, Fault>>(
     here: &Here<C>,
     cs: &[DeclaredComponent],

@@ -104,6 +104,7 @@ fn set_elements<C: Fn(Spot, u32, Vec<Datum>, &mut World) -> Result<Datum, Fault>
     stepped(here, cost, 0, world)
 }
 
+/// What the write of a signal costs: its nodes, and what its value and its indices read and call.
 pub fn wiring_cost<C: Fn(Spot, u32, Vec<Datum>, &mut World) -> Result<Datum, Fault>>(
     here: &Here<C>,
     w: &Wiring,

@@ -14,6 +14,7 @@ use items::Items;
 use std::alloc::{AllocError, Global};
 
 impl<N> Place<N> {
+    /// `name[index].member`, with these indices and members in their order.
     #[tactic(auto, using(crate::proofs::Rows::accessors_are))]
     pub fn of(name: Text, meant: N, accessors: Items<Accessor<N>>) -> Place<N>
         ensures { bare_place result ≡ PlaceTree name meant (as_accessors accessors) }
@@ -27,6 +28,7 @@ impl<N> Place<N> {
 }
 
 impl<N> Inputs<N> {
+    /// `(values)`, in the order in which the template declares its inputs.
     #[tactic(auto, using(crate::proofs::Rows::exprs_are))]
     pub fn listed(values: Items<Expr<N>>) -> Inputs<N>
         ensures { bare_inputs result ≡ Listed (bare_exprs values) }
@@ -34,6 +36,7 @@ impl<N> Inputs<N> {
         Inputs::Listed(values)
     }
 
+    /// `(name <== value, ..)`, one or more.
     #[tactic(auto, using(crate::proofs::Rows::named_are))]
     pub fn named(inputs: Items<NamedInput<N>>) -> Inputs<N>
         ensures { bare_inputs result ≡ Named (as_named inputs) }
@@ -43,6 +46,7 @@ impl<N> Inputs<N> {
 }
 
 impl<N> Expr<N> {
+    /// `name(arguments)`, and whether the word `parallel` stands before it.
     #[tactic(auto, using(crate::proofs::Rows::exprs_are))]
     pub fn call(parallel: bool, name: Text, meant: N, arguments: Items<Expr<N>>) -> Expr<N>
         ensures { bare result ≡ Call parallel name meant (bare_exprs arguments) }
@@ -50,6 +54,7 @@ impl<N> Expr<N> {
         Expr::Call(parallel, name, meant, arguments)
     }
 
+    /// `[elements]`, one or more.
     #[tactic(auto, using(crate::proofs::Rows::exprs_are))]
     pub fn array(elements: Items<Expr<N>>) -> Expr<N>
         ensures { bare result ≡ Array (bare_exprs elements) }
@@ -70,6 +75,7 @@ impl<N: Drop> Expr<N> {
 }
 
 impl<S, N> Block<S, N> {
+    /// `{ statements }`, as the body of a template or of a function.
     pub fn of(statements: Items<Statement<S, N>>) -> Block<S, N>
         ensures { bare_block result ≡ as_statements (map bare_statement statements) }
     {
@@ -78,6 +84,7 @@ impl<S, N> Block<S, N> {
 }
 
 impl<S, N> Statement<S, N> {
+    /// `{ statements }` as a statement of its own, with its place.
     pub fn block(spot: S, statements: Items<Statement<S, N>>) -> Statement<S, N>
         ensures { bare_statement result
             ≡ BlockTree spot (as_statements (map bare_statement statements)) }

@@ -17,12 +17,14 @@ pub struct File<S, N> {
     pub items: Items<Item<S, N>>,
 }
 
+/// What a file is a list of, with its place.
 #[derive(Drop)]
 pub struct Item<S, N> {
     pub spot: S,
     pub form: ItemForm<S, N>,
 }
 
+/// `pragma ..;`, `include ..;`, a template or a function, or `component main ..;`
 #[derive(Drop)]
 pub enum ItemForm<S, N> {
     Pragma(Pragma),
@@ -46,6 +48,7 @@ pub struct Include {
     pub name: Text,
 }
 
+/// `template ..` or `function ..`
 #[derive(Drop)]
 pub enum Definition<S, N> {
     Template(Template<S, N>),
@@ -81,12 +84,14 @@ pub struct Main<N> {
     pub arguments: Items<Expr<N>>,
 }
 
+/// `{ statements }`; there may be none.
 #[cycle(statements)]
 #[derive(Drop)]
 pub struct Block<S, N> {
     pub statements: Items<Statement<S, N>>,
 }
 
+/// A statement with its place.
 #[cycle(statements)]
 #[derive(Drop)]
 pub struct Statement<S, N> {
@@ -94,6 +99,7 @@ pub struct Statement<S, N> {
     pub form: StatementForm<S, N>,
 }
 
+/// A block, a statement that begins with a word such as `if`, or a simple one and its `;`.
 #[cycle(statements)]
 #[derive(Drop)]
 pub enum StatementForm<S, N> {
@@ -132,6 +138,7 @@ impl<S: Drop, N: Drop> Drop for First<S, N> {
     }
 }
 
+/// `var name = value`, with one or more variables, or an assignment.
 pub enum FirstForm<N> {
     Vars(Vars<N>),
     Assign(Assign<N>),
@@ -163,6 +170,7 @@ impl<S: Drop, N: Drop> Drop for Step<S, N> {
     }
 }
 
+/// `"words"` or a value, between the parentheses of `log(..);`
 #[derive(Drop)]
 pub enum LogArgument<N> {
     /// What stands between the quotes.
@@ -170,6 +178,8 @@ pub enum LogArgument<N> {
     Value(Expr<N>),
 }
 
+/// What stands before a `;`: a declaration, an assignment, a constraint, or an anonymous
+/// component.
 pub enum Simple<N> {
     Vars(Vars<N>),
     Signals(Signals<N>),
@@ -230,10 +240,12 @@ pub struct DeclaredVariable<N> {
 /// `signal`, optionally `input` or `output`, and one or more signals.
 #[derive(Drop)]
 pub struct Signals<N> {
+    /// `Inner` where neither word is written.
     pub direction: Direction,
     pub signals: Items<DeclaredSignal<N>>,
 }
 
+/// `name[dimension]..`, and optionally `<== value` or `<-- value`.
 #[derive(Drop)]
 pub struct DeclaredSignal<N> {
     pub name: Text,
@@ -250,6 +262,7 @@ pub enum SignalValue<N> {
     Given(Arrow, Expr<N>),
 }
 
+/// Components that are declared, or one that is created at once.
 #[derive(Drop)]
 pub enum Components<N> {
     /// `component` and one or more components without a template.
@@ -258,6 +271,7 @@ pub enum Components<N> {
     Created(Text, N, Expr<N>),
 }
 
+/// `name[dimension]..`
 #[derive(Drop)]
 pub struct DeclaredComponent<N> {
     pub name: Text,
@@ -265,6 +279,7 @@ pub struct DeclaredComponent<N> {
     pub dimensions: Items<Expr<N>>,
 }
 
+/// An assignment: its place stands at the left.
 pub enum Assign<N> {
     /// `place = value`
     Set(Place<N>, Expr<N>),
@@ -300,6 +315,7 @@ pub enum Target<N> {
     Tuple(Items<Slot<N>>),
 }
 
+/// One of a tuple's places: `place`, or `_`, which drops its value.
 #[derive(Drop)]
 pub enum Slot<N> {
     Place(Place<N>),
@@ -325,6 +341,7 @@ pub struct Place<N> {
     pub accessors: Items<Accessor<N>>,
 }
 
+/// `[index]` or `.member`, behind the name of a place.
 #[cycle(expressions)]
 #[derive(Drop)]
 pub enum Accessor<N> {
@@ -346,6 +363,7 @@ pub struct Anonymous<N> {
     pub inputs: Inputs<N>,
 }
 
+/// What the second parentheses of an anonymous component hold.
 #[cycle(expressions)]
 #[derive(Drop)]
 pub enum Inputs<N> {

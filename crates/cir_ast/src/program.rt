@@ -145,52 +145,78 @@ impl Drop for Main {
     }
 }
 
+/// `{ statements }`
 pub type Block = marked::Block<Spot, Meant>;
 
+/// A statement, of one of the forms of `StatementForm`.
 pub type Statement = marked::Statement<Spot, Meant>;
 
+/// A block, a statement that begins with a word such as `if`, or a simple one and its `;`.
 pub type StatementForm = marked::StatementForm<Spot, Meant>;
 
+/// What the head of a `for` begins with: `var name = value`, or an assignment.
 pub type First = marked::First<Spot, Meant>;
 
+/// `var name = value`, with one or more variables, or an assignment.
 pub type FirstForm = marked::FirstForm<Meant>;
 
+/// What the head of a `for` ends with: an assignment, such as `name++`.
 pub type Step = marked::Step<Spot, Meant>;
 
+/// `"words"` or a value, between the parentheses of `log(..);`
 pub type LogArgument = marked::LogArgument<Meant>;
 
+/// What stands before a `;`: a declaration, an assignment, a constraint, or an anonymous
+/// component.
 pub type Simple = marked::Simple<Meant>;
 
+/// `var` and one or more variables.
 pub type Vars = marked::Vars<Meant>;
 
+/// `name[dimension]..`, or `name[dimension].. = value`
 pub type DeclaredVariable = marked::DeclaredVariable<Meant>;
 
+/// `signal`, optionally `input` or `output`, and one or more signals.
 pub type Signals = marked::Signals<Meant>;
 
+/// `name[dimension]..`, and optionally `<== value` or `<-- value`.
 pub type DeclaredSignal = marked::DeclaredSignal<Meant>;
 
+/// Nothing, `<== value` or `<-- value`, behind a declared signal.
 pub type SignalValue = marked::SignalValue<Meant>;
 
+/// `component` and one or more components, or `component name = value`.
 pub type Components = marked::Components<Meant>;
 
+/// `name[dimension]..`
 pub type DeclaredComponent = marked::DeclaredComponent<Meant>;
 
+/// `place = value`, `place += value`, `place <== value`, `place++`, and their kin.
 pub type Assign = marked::Assign<Meant>;
 
+/// `_`, or `(slots)`, two or more.
 pub type Target = marked::Target<Meant>;
 
+/// One of a tuple's places: `place` or `_`.
 pub type Slot = marked::Slot<Meant>;
 
+/// What a target is given: `value`, or `(values)`, two or more.
 pub type Source = marked::Source<Meant>;
 
+/// `name[index].member`, with any number of indices and members.
 pub type Place = marked::Place<Meant>;
 
+/// `[index]` or `.member`
 pub type Accessor = marked::Accessor<Meant>;
 
+/// `template(arguments)(inputs)`: a component without a name.
 pub type Anonymous = marked::Anonymous<Meant>;
 
+/// The inputs of an anonymous component: `values`, or `name <== value` for each.
 pub type Inputs = marked::Inputs<Meant>;
 
+/// `name <-- value` or `name <== value`
 pub type NamedInput = marked::NamedInput<Meant>;
 
+/// An expression, with its parentheses.
 pub type Expr = marked::Expr<Meant>;

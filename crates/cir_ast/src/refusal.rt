@@ -77,7 +77,7 @@ pub enum Kind {
     ShapeDiffers,
 }
 
-/// A form that isn't in the language's profile.
+/// A form that is left out of the language.
 #[derive(Clone, Copy, PartialEq, Eq)]
 pub enum Form {
     Version,

@@ -21,6 +21,7 @@ pub struct Context<'p, C> {
     pub instance: u32,
     pub path: &'p [u8],
     pub grouping: Grouping<'p>,
+    /// How many components the body declares by name; the anonymous ones are numbered from there.
     pub named_components: u32,
     /// What a function answers that is called by a statement of the body with known arguments: by
     /// the statement's place, the number of the function, and the arguments.

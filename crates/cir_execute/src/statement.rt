@@ -270,6 +270,7 @@ where
     Err(too_many(body.context, spot))
 }
 
+/// The refusal of a loop that takes more turns than there may be statements.
 pub fn too_many<C>(context: &Context<C>, spot: Spot) -> Fault
     ensures { Refuses (at_spot context.now spot) (LimitKind StatementCount 16777217) result }
 {

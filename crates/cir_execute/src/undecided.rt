@@ -78,6 +78,8 @@ pub fn undecided<C: Fn(Spot, u32, Vec<Datum>, &mut World) -> Result<Datum, Fault
     context.settle(spot, world)
 }
 
+/// Scans what is left, shaded: shapes are tested, and whether the signals in it are written. An
+/// index out of bounds or a zero divisor is left to the run.
 pub fn scan_rest<C: Fn(Spot, u32, Vec<Datum>, &mut World) -> Result<Datum, Fault>>(
     dark: &Here<C>,
     rest: &Rest,
@@ -99,6 +101,8 @@ pub fn scan_rest<C: Fn(Spot, u32, Vec<Datum>, &mut World) -> Result<Datum, Fault
     }
 }
 
+/// Refuses what may not stand under a condition that isn't known: all but variables, `assert`,
+/// `if`, `while`, `for` and blocks.
 pub fn allowed<C>(context: &Context<C>, rest: &Rest) -> Result<(), Fault>
     ensures { (call : M.Caller) (make : Option M.Maker) (s : M.State) → Gives (λ _. s) result
         (S.allowed (context_of context.now call make) (rest_fault rest.now) (Ok s)) }
@@ -163,6 +167,7 @@ pub fn read_before(
     Ok((cost, cells))
 }
 
+/// Makes each item of the variables of these numbers opaque.
 pub fn forget(variables: &[u32], frame: &mut Frame)
     ensures { (w : AnyWorld) (qs : List Equation) → state_of frame.new w qs
         ≡ S.forget variables.now (state_of frame.old w qs) }

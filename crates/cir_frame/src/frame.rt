@@ -164,6 +164,7 @@ impl Frame {
         }
     }
 
+    /// Puts a value in place of the whole variable, with its own dimensions.
     pub fn set_variable(&mut self, n: u32, value: Datum)
         ensures { (c : AnyCounts) → frame_of self.new c ≡ record (frame_of self.old c) {
           variables = slice_set (frame_of self.old c).variables n (datum_of value);

@@ -38,12 +38,14 @@ impl SignalEntry {
     ghost use Rattle.cir_meaning.specs.Writing.{marked};
     ghost use Rattle.cir_frame.specs.Shown.{signal_of};
 
+    /// Whether it is an input, which its template reads and never writes.
     pub fn is_input(&self) -> bool
         ensures { result ≡ M.is_input self.now.direction }
     {
         matches!(self.direction, Direction::Input)
     }
 
+    /// Whether it is neither input nor output, and so can't be named outside its template.
     pub fn is_inner(&self) -> bool
         ensures { result ≡ M.is_inner self.now.direction }
     {
@@ -60,6 +62,7 @@ impl SignalEntry {
         }
     }
 
+    /// Whether each element is written; so it is in an array that wasn't made.
     pub fn is_all_written(&self) -> bool
         ensures { result ≡ M.is_all_written (signal_of self.now) }
     {

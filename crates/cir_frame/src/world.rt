@@ -47,6 +47,7 @@ pub struct Sizes {
 /// A declared signal in the table of all signals.
 pub struct Row {
     pub group: Group,
+    /// The number of the instance that declares it.
     pub instance: u32,
     pub name: Text,
     pub dims: Vec<u64>,
@@ -100,6 +101,7 @@ pub struct Marks {
 }
 
 impl Grouping<'_> {
+    /// The group of a signal that is declared with this direction and name.
     pub fn of(&self, direction: Direction, name: &[u8]) -> Group
         ensures { group_of result ≡ group_by self.now direction name.now }
     {
@@ -146,6 +148,7 @@ impl Group {
 }
 
 impl Sizes {
+    /// No signals.
     pub const EMPTY: Sizes = Sizes {
         outputs: 0,
         public_inputs: 0,
@@ -153,6 +156,7 @@ impl Sizes {
         others: 0,
     };
 
+    /// How many signals this group has.
     pub fn of(&self, group: Group) -> u64
         ensures { result ≡ M.size_in (group_of group) (sizes_of self.now) }
     {
@@ -221,6 +225,7 @@ impl World {
         1 + u128::from(before) + u128::from(self.sizes.of(group))
     }
 
+    /// Where the lists end now, for `restore`.
     pub fn marks(&self) -> Marks
         ensures rows { result.rows ≡ length self.now.rows.items }
         ensures constraints { result.constraints ≡ length self.now.constraints.items }

@@ -21,6 +21,7 @@ use std::alloc::Global;
 /// The elements of a signal that are to be written: an own signal, or an input of a part, by its
 /// number.
 pub struct Target {
+    /// `None` for an own signal.
     pub part: Option<u32>,
     pub number: usize,
     pub reach: Reach,

@@ -43,6 +43,7 @@ pub struct Opening<'a> {
 }
 
 impl<'a> Opening<'a> {
+    /// The same program, with this room for what is opened inside.
     pub fn inside(self, room: u32) -> Opening<'a>
         ensures { result ≡ record self.entry { room = room } }
     {
@@ -239,6 +240,7 @@ fn emptied(alloc: Global, world: &World) -> World
     }
 }
 
+/// How many of a body's variables begin at 0, since no argument gives them a value.
 pub fn more_than(variables: u32, arguments: usize) -> u32
     ensures { result ≡ variables - arguments }
 {
@@ -388,6 +390,7 @@ where
     }
 }
 
+/// Adds an instance of this path behind the others, and answers its number.
 pub fn new_instance(alloc: Global, path: &[u8], world: &mut World) -> Result<u32, AllocError>
     ensures number { IfOk result (λ n. n ≡ length world.old.instances.items) }
     ensures world { (qs : List Equation) → OnOk result (world_of world.new qs

@@ -34,6 +34,7 @@ pub fn boxed_copy(alloc: Global, e: &Expr) -> Result<Box<Expr>, AllocError>
     Ok(e)
 }
 
+/// The same expression, in memory of its own.
 #[cycle(copying)]
 pub fn expr(alloc: Global, e: &Expr) -> Result<Expr, AllocError>
     ensures { IfOk result (λ r. bare r ≡ bare e.now) }
@@ -92,6 +93,7 @@ pub fn exprs(alloc: Global, es: &[Expr]) -> Result<Items<Expr>, AllocError>
     Ok(Items::of(copies))
 }
 
+/// The same place, with copies of its name and of its indices and members.
 #[cycle(copying)]
 pub fn place(alloc: Global, p: &Place) -> Result<Place, AllocError>
     ensures { IfOk result (λ r. bare_place r ≡ bare_place p.now) }
@@ -105,6 +107,7 @@ pub fn place(alloc: Global, p: &Place) -> Result<Place, AllocError>
     })
 }
 
+/// The same indices and members, in their order.
 #[cycle(copying)]
 pub fn accessors(alloc: Global, list: &[Accessor]) -> Result<Items<Accessor>, AllocError>
     ensures { IfOk result (λ r. as_accessors r ≡ as_accessors list.now) }

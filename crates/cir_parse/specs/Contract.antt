@@ -32,7 +32,7 @@ pub record IsFirstUnread (S : Type 0) (tokens : Tokens) (token : ℕ) : Type 0 w
   pub tree : IsTree (take token tokens) before
   pub unread : NoItem (drop token tokens)
 
--- The tree, of which this is said; or the first form that is left out of the profile; or, exactly
+-- The tree, of which this is said; or the first form that is left out of the language; or, exactly
 -- where there is neither, the first token of the first item that has no reading. Want of memory is
 -- free.
 abbrev pub ParsesTo : {S N : Type 0} → (CodeFile S N → Type 0) → Tokens

@@ -1,4 +1,4 @@
--- Forms that aren't in the language's profile, as they stand in the tokens.
+-- Forms that are left out of the language, as they stand in the tokens.
 use Rattle.std.specs.Prelude.{ℕ, ◌+◌, if◌then◌else◌, ◌∷◌, [], List, Option, Some, None, codes}
 use Rattle.std.specs.Str.{bytes_eq}
 use Rattle.cir_token.specs.declared.token.TokenKind.TheVariants as token

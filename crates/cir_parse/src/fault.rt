@@ -10,7 +10,7 @@ pub const MAX_HEIGHT: u32 = 256;
 /// Why tokens have no tree.
 #[derive(Clone, Copy)]
 pub enum ParseFault {
-    /// A form that isn't in the language's profile, at its first token.
+    /// A form that is left out of the language, at its first token.
     Form { token: u32, form: Form },
     /// No tree prints the tokens. This is the first token of the first item that has no reading.
     Syntax { token: u32 },

@@ -1,4 +1,4 @@
-//! Forms that the profile of the language leaves out.
+//! Forms that are left out of the language.
 ghost use Rattle.std.specs.Prelude.{◌≡◌, ◌<◌, ◌^◌, codes, length};
 ghost use Rattle.cir_expression.specs.Answers.{kinds};
 ghost use Rattle.cir_parse.specs.LeftOut.{custom_at, tag_at, left_out_at, first_left_out};

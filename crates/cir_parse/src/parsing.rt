@@ -14,7 +14,7 @@ use std::alloc::Global;
 
 /// The tree that prints these tokens, of a height of at most 256.
 ///
-/// A form that the profile leaves out is looked for first, and the refusal names its first token.
+/// A form that the language leaves out is looked for first, and the refusal names its first token.
 /// Else, where there is no tree, the refusal names the first token of the first item that has no
 /// reading.
 #[tactic(auto, using(crate::proofs::Seen::parses))]

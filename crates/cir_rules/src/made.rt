@@ -12,6 +12,7 @@ pub struct Made {
 }
 
 impl Made {
+    /// The same call, with shapes in memory of their own.
     pub fn copy(&self, alloc: Global) -> Result<Made, AllocError>
         ensures { IfOk result (λ m. made_of m ≡ made_of self.now) }
     {

@@ -38,6 +38,7 @@ pub struct Simple {
     pub solved: Items<Solved>,
 }
 
+/// Why no simplified list is made.
 #[derive(Debug, Drop)]
 pub enum SimpFault {
     /// A list has more than 8,388,608 terms: `count`.

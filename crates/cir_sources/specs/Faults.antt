@@ -23,7 +23,7 @@ most_files = 1024
 
 -- why tokens with these places are of no file, the first of the three causes in their order
 pub data IsUnfit (name : List ℕ) (tokens : List Token) (spots : List Spot) : Refusal → Type 0 where
-  -- a form stands in them that isn't in the profile
+  -- a form stands in them that is left out of the language
   LeftOut : (token : ℕ) (form : Form) → first_left_out 0 (kinds tokens) ≡ Some (token, form)
       → IsUnfit name tokens spots (refusal_at name (NotInProfile form) (spot_of spots token))
   -- they have no tree

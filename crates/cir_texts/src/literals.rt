@@ -28,6 +28,7 @@ pub fn is_literal(e: &Expr) -> bool
     }
 }
 
+/// Whether one of them is an array literal as a whole, with parentheses or without.
 pub fn has_literal(es: &[Expr]) -> bool
     ensures { result ≡ E.has_literal (bare_exprs es.now) }
 {

@@ -109,6 +109,7 @@ pub fn value_of(assign: &Assign) -> Option<Assigned<'_>>
 }
 
 impl<'p> Texts<'p> {
+    /// Nothing yet.
     pub fn new(alloc: Global) -> Texts<'p>
         ensures wanted { result.wanted.items ≡ [] }
         ensures returned { result.returned.items ≡ [] }
@@ -164,6 +165,7 @@ impl<'p> Texts<'p> {
         Ok(())
     }
 
+    /// Adds what stands in a statement, in the order of execution; a `log` adds nothing.
     #[cycle(adding)]
     pub fn add(&mut self, statement: &'p Statement) -> Result<(), AllocError>
         ensures wanted { OnOk result (map wanted_of self.new.wanted.items
@@ -332,6 +334,7 @@ impl<'p> Texts<'p> {
         Ok(())
     }
 
+    /// Adds an assignment. Its value is wanted, then its indices; of one by an arrow, neither.
     pub fn add_assign(&mut self, assign: &'p Assign) -> Result<(), AllocError>
         ensures wanted { OnOk result (map wanted_of self.new.wanted.items
             ≡ map wanted_of self.old.wanted.items ++ T.assign_wanted (bare_assign assign.now)) }

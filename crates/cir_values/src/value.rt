@@ -28,6 +28,7 @@ impl Value {
     ghost use Rattle.cir_meaning.specs.Arrays.{is_known as is_number};
     ghost use Rattle.cir_values.specs.Meant.{meant as value_meant};
 
+    /// The same value, with forms in memory of their own.
     pub fn copy(&self, alloc: Global) -> Result<Value, AllocError>
         ensures { IfOk result (λ v. v ≡ self.now) }
     {
@@ -55,6 +56,7 @@ impl Value {
         }
     }
 
+    /// Whether it is a number that doesn't depend on a signal.
     pub fn is_known(&self) -> bool
         ensures { result ≡ is_number (value_meant self.now) }
     {
@@ -179,6 +181,7 @@ fn quadratic_sum(alloc: Global, q: Quad, y: Value) -> Result<Value, AllocError>
     }
 }
 
+/// `-x`.
 pub fn negative(alloc: Global, x: Value) -> Result<Value, AllocError>
     ensures value { IfOk result (λ v. meant v ≡ negative_of (meant x)) }
     ensures within { IfOk result (λ v. (n : ℕ) → 0 < n → IsValueWithin n x → IsValueWithin n v) }
@@ -274,6 +277,7 @@ fn add_to(alloc: Global, f: Lc, g: &Lc) -> Result<Lc, AllocError>
     }
 }
 
+/// `x * y`, which is quadratic of two linear values, and opaque where the degree would be higher.
 pub fn product(alloc: Global, x: Value, y: Value) -> Result<Value, AllocError>
     ensures value { IfOk result (λ v. meant v ≡ product_of (meant x) (meant y)) }
     ensures within { IfOk result (λ v. (n : ℕ) → 0 < n → IsValueWithin n x → IsValueWithin n y

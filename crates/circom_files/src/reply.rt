@@ -64,6 +64,7 @@ impl<'w> Reply<'w> {
         Ok(Reply::saying(64, usage_line(alloc)?))
     }
 
+    /// The reply to a file, a source or inputs that are refused.
     pub fn refused(alloc: Global, refusal: &Refusal) -> Result<Reply<'w>, AllocError>
         ensures { IfOk result (λ r. shown r ≡ refused refusal.now) }
     {

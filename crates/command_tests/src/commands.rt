@@ -579,7 +579,7 @@ static FORMS: [(&str, &str); 8] = [
 ];
 
 #[test]
-fn forms_outside_the_profile_are_named(rt: HostRuntime) {
+fn forms_that_are_left_out_are_named(rt: HostRuntime) {
     for (source, why) in FORMS.as_slice() {
         is_refused(&rt, source, why);
     }

@@ -29,8 +29,8 @@ pub fn a_cell_has_one_value()
 {}
 
 /// A strand's missing count falls by one at each release that tells it, and by nothing else. Once
-/// it is 0, just one of the releases that told the strand has found it at 1, and before that none
-/// has.
+/// that of a strand with predecessors is 0, just one of the releases that told the strand has found
+/// the count at 1, and before that none has.
 pub fn one_release_finds_a_strand_ready()
     ensures told { (n : Net) (start : List (Option ℕ)) (es : List AnEvent) (k : ℕ) → IsNet n
         → CanStart n start

@@ -45,7 +45,9 @@ pub enum Event {
 #[derive(Clone, Copy)]
 pub struct Hold {
     pub strand: u32,
+    /// How many of its cells are published.
     pub published: u32,
+    /// How many of its successors are told.
     pub released: u32,
 }
 

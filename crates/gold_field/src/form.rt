@@ -48,6 +48,7 @@ impl Lc {
         Lc { terms }
     }
 
+    /// The terms, by rising signal.
     pub fn as_slice(&self) -> &[Term]
         ensures terms { result.now ≡ self.now }
         ensures rises { RisesFrom 0 self.now }

@@ -28,10 +28,13 @@ impl Model for Gold {
 }
 
 impl Gold {
+    /// The number that counts as false.
     pub const ZERO: Gold = Gold { number: 0 };
 
+    /// The answer of a test that holds.
     pub const ONE: Gold = Gold { number: 1 };
 
+    /// A number that is a least representative already; `from_wide` takes any other.
     pub fn new(n: u64) -> Option<Gold>
         ensures none { IsNone result ↔ (P ≤ n) }
         ensures value { IfSome result (λ g. g ≡ n) }
@@ -51,6 +54,7 @@ impl Gold {
         Gold { number: n }
     }
 
+    /// The least representative, as a plain number.
     pub fn get(self) -> u64
         ensures value { result ≡ self }
         ensures below { result < P }
@@ -58,6 +62,7 @@ impl Gold {
         self.number
     }
 
+    /// The sum, by one comparison and no division.
     pub fn add(self, b: Gold) -> Gold
         ensures { result ≡ (self + b) % P }
     {
@@ -73,6 +78,7 @@ impl Gold {
         }
     }
 
+    /// The difference, by one comparison and no division.
     pub fn sub(self, b: Gold) -> Gold
         ensures { result ≡ (self + (P - b)) % P }
     {
@@ -87,6 +93,7 @@ impl Gold {
         }
     }
 
+    /// The number that gives 0 when it is added to this one.
     pub fn neg(self) -> Gold
         ensures { result ≡ (P - self) % P }
     {
@@ -99,6 +106,7 @@ impl Gold {
         }
     }
 
+    /// The product, which has up to 128 bits before it is reduced.
     pub fn mul(self, b: Gold) -> Gold
         ensures { result ≡ (self * b) % P }
     {

@@ -4,14 +4,16 @@
 ghost use Rattle.std.specs.Prelude.{◌≡◌, ◌≢◌, ℕ, ◌+◌, ◌-◌, ◌*◌, ◌%◌, ◌^◌, ◌<◌, ◌≤◌, ◌⊎◌, Some};
 ghost use Rattle.gold_field.specs.declared.operators.Op1.{Op1};
 ghost use Rattle.gold_field.specs.declared.operators.Op2.{Op2};
-ghost use Rattle.gold_field.specs.Operators.{binary_of, unary_of};
+ghost use Rattle.gold_field.specs.Operators.{HALF, binary_of, unary_of};
 ghost use Rattle.gold_field.specs.Prime.{IsPrime};
 
 use crate::gold::P;
 
-/// The order of the field, as a number.
+/// The order of the field, as a number, and the number above which one counts as negative: half of
+/// what is below the order.
 pub fn the_order()
-    ensures { P ≡ 18446744069414584321 }
+    ensures order { P ≡ 18446744069414584321 }
+    ensures half { 2 * HALF + 1 ≡ P }
 {}
 
 /// The order of the field is prime.

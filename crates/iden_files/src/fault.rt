@@ -36,6 +36,7 @@ impl FileCause {
     }
 }
 
+/// Why a file isn't read.
 #[derive(Clone, Copy)]
 pub enum FileFault {
     /// The first thing that is wrong, and the place of the byte where it is, counted from 0.

@@ -62,6 +62,7 @@ impl R1cs {
     ghost use Rattle.std.specs.Prelude.{◌≡◌};
     ghost use Rattle.iden_files.specs.File.{IsFile};
 
+    /// The constraints, in the order in which section 2 of the file lists them.
     pub fn constraints(&self) -> &[Constraint]
         ensures constraints { result.now ≡ self.now.constraints }
         ensures file { IsFile self.now }

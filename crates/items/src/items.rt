@@ -25,6 +25,7 @@ impl<T> Model for Items<T> {
 }
 
 impl<T> Items<T> {
+    /// Takes no memory.
     pub fn new(alloc: Global) -> Items<T>
         ensures { result ≡ [] }
     {
@@ -40,6 +41,7 @@ impl<T> Items<T> {
         Items { items }
     }
 
+    /// The elements, in their order.
     pub fn as_slice(&self) -> &[T]
         ensures { result.now ≡ self.now }
     {
@@ -54,18 +56,21 @@ impl<T> Items<T> {
         items
     }
 
+    /// How many elements there are.
     pub fn len(&self) -> usize
         ensures { result ≡ length self.now }
     {
         self.items.len()
     }
 
+    /// Whether there is no element.
     pub fn is_empty(&self) -> bool
         ensures { IsTrue result ↔ (self.now ≡ []) }
     {
         self.items.is_empty()
     }
 
+    /// The element at this place, counted from 0.
     pub fn get(&self, at: usize) -> Option<&T>
         ensures value { option_copied result ≡ slice_get self.now at }
         ensures within { OnSome result (at < length self.now) }
@@ -75,6 +80,7 @@ impl<T> Items<T> {
 }
 
 impl<T: Copy> Items<T> {
+    /// Copies of these elements, in memory of their own.
     pub fn from_slice(alloc: Global, items: &[T]) -> Result<Items<T>, AllocError>
         ensures { IfOk result (λ it. it ≡ items.now) }
     {
@@ -84,6 +90,7 @@ impl<T: Copy> Items<T> {
 }
 
 impl<T: Drop> Items<T> {
+    /// Puts an element behind the others. It fails for want of memory alone.
     pub fn push(&mut self, item: T) -> Result<(), AllocError>
         ensures ok { OnOk result (self.new ≡ self.old ++ item ∷ []) }
         ensures err { OnErr result (self.new ≡ self.old) }

@@ -45,12 +45,14 @@ impl Numbers {
         Ok(Numbers { items })
     }
 
+    /// The numbers, wherever they lie.
     pub fn as_slice(&self) -> &[u32]
         ensures { result.now ≡ self.now }
     {
         self.items.as_slice()
     }
 
+    /// How many numbers there are.
     pub fn len(&self) -> usize
         ensures { result ≡ length self.now }
     {

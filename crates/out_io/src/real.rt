@@ -30,6 +30,7 @@ pub struct RealSink<R: Print + Drop> {
 }
 
 impl<R: Files + Drop> RealStore<R> {
+    /// The files that this runtime opens; no call has failed yet.
     pub fn new(rt: R) -> RealStore<R>
         ensures { result.faults ≡ 0 }
     {
@@ -38,6 +39,7 @@ impl<R: Files + Drop> RealStore<R> {
 }
 
 impl<R: Print + Drop> RealSink<R> {
+    /// The standard output of this runtime; no call has failed yet.
     pub fn new(rt: R) -> RealSink<R>
         ensures { result.faults ≡ 0 }
     {

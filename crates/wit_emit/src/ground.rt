@@ -38,12 +38,15 @@ pub enum Knowing<'a> {
     Loaded(&'a Loaded<'a>),
 }
 
+/// What stays the same while code is made: the procedures that it may call, what is known of
+/// numbers, and the components of the body.
 #[derive(Drop)]
 pub struct Ground<'a> {
     pub alloc: Global,
     /// The procedures, by their function and the shapes of its arguments.
     pub keys: &'a CallTable,
     pub knowing: Knowing<'a>,
+    /// By the number of their declaration. In a function there are none.
     pub components: &'a [Option<ComponentEntry>],
 }
 

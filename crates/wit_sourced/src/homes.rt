@@ -25,6 +25,7 @@ pub struct Home {
     pub dims: Items<u64>,
 }
 
+/// A name with the home that it has.
 #[derive(Drop)]
 pub struct Placed<'a> {
     pub name: Sought<'a>,

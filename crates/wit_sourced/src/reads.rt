@@ -41,6 +41,7 @@ impl Reads {
         }
     }
 
+    /// The cells in their order; where each of them stands is given up.
     pub fn into_cells(self) -> Numbers
         ensures { result ≡ self.cells }
     {

@@ -36,6 +36,7 @@ pub enum Input {
     Cell(u32),
 }
 
+/// An element of what a step names, by its place in row order, and where its number comes from.
 #[derive(Drop)]
 pub struct Source<'a> {
     pub name: Sought<'a>,
