@@ -1,6 +1,6 @@
 //! Places of an array's elements in row order, and which of them indices mean.
 ghost use Rattle.std.specs.Prelude.{◌≡◌, ◌+◌, ◌*◌, ◌++◌, ◌≤◌, [], ◌∷◌, true, is_some, map};
-ghost use Rattle.std.specs.Prelude.{flat_map, length, IfOk, OnOk, IfSome, OnSome, Some};
+ghost use Rattle.std.specs.Prelude.{flat_map, length, IfOk, OnOk, IfSome, OnSome, Some, IfErr};
 ghost use Rattle.cir_meaning.specs.Limits.{standing};
 ghost use Rattle.cir_meaning.specs.Places.{is_inside as are_inside, all_known as known_ones};
 ghost use Rattle.cir_meaning.specs.Places.{numbers_from, left_of, elements as element_count};
@@ -9,6 +9,7 @@ ghost use Rattle.cir_meaning.specs.Arrays.{same_dims as are_same};
 ghost use Rattle.cir_arrays.specs.Reached.{items_of, first_of, is_under, parts_at, places_within};
 
 use crate::counts::elements;
+use numbers::TooLarge;
 use std::alloc::{AllocError, Global};
 
 /// More places than any array within the limits has.
@@ -192,11 +193,12 @@ fn push_run(places: &mut Vec<u64>, first: u64, count: u64, step: u64) -> Result<
 }
 
 /// No array within the limits has places past the end of the type.
-fn place_at(first: u64, i: u64, rest: u64) -> Result<u64, AllocError>
-    ensures { IfOk result (λ place. place ≡ first + i * rest) }
+fn place_at(first: u64, i: u64, rest: u64) -> Result<u64, TooLarge>
+    ensures ok { IfOk result (λ place. place ≡ first + i * rest) }
+    ensures err { IfErr result (λ _. 18446744073709551616 ≤ first + i * rest) }
 {
-    let before = i.checked_mul(rest).ok_or(AllocError)?;
-    first.checked_add(before).ok_or(AllocError)
+    let before = i.checked_mul(rest).ok_or(TooLarge)?;
+    first.checked_add(before).ok_or(TooLarge)
 }
 
 fn spread(alloc: Global, firsts: &[u64], count: u64) -> Result<Vec<u64>, AllocError>

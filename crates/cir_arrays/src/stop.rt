@@ -1,5 +1,6 @@
 use cir_ast::program::Spot;
 use cir_ast::{Kind, Text};
+use numbers::TooLarge;
 use std::alloc::{AllocError, AllocFailed, Global};
 
 /// Where a statement stands that is executed: its file among the program's, its place there, and
@@ -36,6 +37,17 @@ impl From<AllocError> for Fault {
     ghost from_gives = { λ _ r. r ≡ OutOfMemory };
 
     fn from(_error: AllocError) -> Fault {
+        Fault::OutOfMemory
+    }
+}
+
+impl From<TooLarge> for Fault {
+    ghost use Rattle.std.specs.Prelude.{◌≡◌};
+    ghost use Rattle.cir_arrays.specs.declared.stop.Fault.TheVariants.{OutOfMemory};
+
+    ghost from_gives = { λ _ r. r ≡ OutOfMemory };
+
+    fn from(_error: TooLarge) -> Fault {
         Fault::OutOfMemory
     }
 }

@@ -31,8 +31,9 @@ use cir_ast::program::{Accessor, Arrow, Expr, Meant, Spot};
 use cir_ast::{Kind, Text};
 use cir_cost::{Cost, stepped};
 use cir_evaluate::{Here, datum, indices_in, number, reading};
-use cir_frame::{Frame, Target, World, input_at, own_target, target_of, write_element};
+use cir_frame::{Frame, Target, World, input_at, number_at, own_target, target_of, write_element};
 use cir_values::{Value, signal_form};
+use numbers::TooLarge;
 use std::alloc::AllocError;
 use std::mem::replace;
 
@@ -294,20 +295,11 @@ fn wire<C>(
     }
 }
 
-/// No array within the limits has places past the end of the type.
-fn place_at(first: u64, at: u64) -> Result<u64, AllocError>
+/// The place that stands so far behind the first.
+fn place_at(first: u64, at: u64) -> Result<u64, TooLarge>
     ensures { IfOk result (λ place. place ≡ first + at) }
 {
-    first.checked_add(at).ok_or(AllocError)
-}
-
-fn number_at(first: u128, place: u64) -> Result<u32, AllocError>
-    ensures { IfOk result (λ n. n ≡ first + place) }
-{
-    match u32::try_from(first.saturating_add(u128::from(place))) {
-        Ok(number) => Ok(number),
-        Err(_) => Err(AllocError),
-    }
+    first.checked_add(at).ok_or(TooLarge)
 }
 
 /// `left === right`

@@ -14,7 +14,8 @@ ghost use Rattle.cir_body.specs.Renewed.{AreLost, AreRenewed, IsRenewed, cells_f
 
 use cir_frame::Frame;
 use cir_make::{Elements, Source, VariableCells};
-use cir_write::{item_count, number};
+use cir_write::item_count;
+use numbers::{TooLarge, behind};
 use std::alloc::{AllocError, Global};
 
 /// All elements of variables.
@@ -43,12 +44,12 @@ fn count_at(n: u32, frame: &Frame) -> u64
 }
 
 /// How many elements these are.
-pub fn count_all(wanted: &[Elements]) -> Result<u64, AllocError>
+pub fn count_all(wanted: &[Elements]) -> Result<u64, TooLarge>
     ensures { IfOk result (λ count. count ≡ count_of (map elements_of wanted.now)) }
 {
     let mut count = 0u64;
     for e in wanted {
-        count = count.checked_add(e.count).ok_or(AllocError)?;
+        count = count.checked_add(e.count).ok_or(TooLarge)?;
     }
     Ok(count)
 }
@@ -75,7 +76,7 @@ fn renew_one(variables: &mut Vec<VariableCells>, e: Elements, first: u32) -> Res
         variables.old.items variables.new.items) }
     ensures next { IfOk result (λ next. next ≡ first + e.count) }
 {
-    let next = number(first, e.count)?;
+    let next = behind(first, e.count)?;
     if (e.variable as usize) < variables.len() {
         fill(&mut variables[e.variable as usize].sources, first, e.count)?;
     }
@@ -88,7 +89,7 @@ fn fill(sources: &mut Vec<Source>, first: u32, count: u64) -> Result<(), AllocEr
 {
     sources.clear();
     for at in 0..count {
-        sources.push(Source::Cell(number(first, at)?))?;
+        sources.push(Source::Cell(behind(first, at)?))?;
     }
     Ok(())
 }

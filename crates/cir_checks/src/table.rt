@@ -1,5 +1,5 @@
 //! What a call has to know of the definitions.
-ghost use Rattle.std.specs.Prelude.{◌≡◌, ◌+◌, ◌∷◌, map, IfOk, OnOk};
+ghost use Rattle.std.specs.Prelude.{◌≡◌, ◌+◌, ◌≤◌, ◌∷◌, map, IfOk, IfErr, OnOk};
 ghost use Rattle.cir_ast.specs.Tree.{bare_signal, bare_statement};
 ghost use Rattle.cir_ast.specs.Program.{bare_template};
 ghost use Rattle.cir_resolve.specs.Definitions.{bare_definition};
@@ -12,6 +12,7 @@ use crate::name_set::NameSet;
 use cir_ast::program::{Direction, Meant, Signals, Simple, Statement, StatementForm, Template};
 use cir_resolve::Definition;
 use items::Items;
+use numbers::TooLarge;
 use std::alloc::{AllocError, Global};
 
 /// What a call has to know of a template.
@@ -41,14 +42,12 @@ pub enum Callee<'t, 'p> {
     Unknown,
 }
 
-/// A sum of counts; one that doesn't fit has no room in memory.
-fn total(count: usize, more: usize) -> Result<usize, AllocError>
-    ensures { IfOk result (λ n. n ≡ count + more) }
+/// A sum of counts.
+fn total(count: usize, more: usize) -> Result<usize, TooLarge>
+    ensures ok { IfOk result (λ n. n ≡ count + more) }
+    ensures err { IfErr result (λ _. 18446744073709551616 ≤ count + more) }
 {
-    match count.checked_add(more) {
-        Some(total) => Ok(total),
-        None => Err(AllocError),
-    }
+    count.checked_add(more).ok_or(TooLarge)
 }
 
 impl<'p> Head<'p> {

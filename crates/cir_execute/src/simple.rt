@@ -1,5 +1,5 @@
 //! The execution of simple statements. Limits are tested at the end of each, with all that it adds.
-ghost use Rattle.std.specs.Prelude.{◌≡◌, false, List, length, map, IfOk};
+ghost use Rattle.std.specs.Prelude.{◌≡◌, false, List, length, map, IfOk, ◌≤◌, IfErr};
 ghost use Rattle.cir_ast.specs.Tree.{Assigned, Simple as AnySimple, Vars as AnyVars, bare};
 ghost use Rattle.cir_ast.specs.Tree.{bare_assign, bare_simple, bare_slot, bare_source, bare_target};
 ghost use Rattle.cir_ast.specs.Tree.{bare_variable};
@@ -24,6 +24,7 @@ use cir_ast::program::{Arrow, Assign, Components, Expr, Simple, Slot, Source, Sp
 use cir_evaluate::{Here, datum};
 use cir_frame::{Frame, SignalEntry, World};
 use cir_lift::{Lifted, assign_holds, holds, lift_assign, lift_simple};
+use numbers::{TooLarge, narrow};
 use std::alloc::AllocError;
 
 /// Executes a simple statement: first the statements for its anonymous components, at its own
@@ -115,13 +116,11 @@ where
 }
 
 /// The number of the next component.
-pub fn next_component(frame: &Frame) -> Result<u32, AllocError>
-    ensures { IfOk result (λ n. n ≡ length frame.now.components.items) }
+pub fn next_component(frame: &Frame) -> Result<u32, TooLarge>
+    ensures ok { IfOk result (λ n. n ≡ length frame.now.components.items) }
+    ensures err { IfErr result (λ _. 4294967296 ≤ length frame.now.components.items) }
 {
-    match u32::try_from(frame.components.len()) {
-        Ok(n) => Ok(n),
-        Err(_) => Err(AllocError),
-    }
+    narrow(frame.components.len() as u64)
 }
 
 /// A statement and those that are lifted before it, each counted.

@@ -11,7 +11,8 @@ mod writing;
 
 pub use frame::{ComponentEntry, Frame, Part};
 pub use reading::{
-    Reading, Root, Source, inner_source, number_of, part_at, read_datum, read_number, source_of,
+    Reading, Root, Source, inner_source, number_at, number_of, part_at, read_datum, read_number,
+    source_of,
 };
 pub use signal::SignalEntry;
 pub use world::{GROUP_SIZE, Group, Grouping, Marks, Row, Sizes, World};

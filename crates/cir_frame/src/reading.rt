@@ -1,5 +1,6 @@
 //! What a name is read as: a variable, an own signal, or a signal of a component.
 ghost use Rattle.std.specs.Prelude.{◌≡◌, ◌+◌, ℕ, true, is_some, List, [], ◌∷◌, Option, map, IfOk};
+ghost use Rattle.std.specs.Prelude.{◌≤◌, IfErr};
 ghost use Rattle.std.specs.List.{list_all};
 ghost use Rattle.cir_ast.specs.declared.refusal.Kind.TheVariants.{ReadBeforeWrite};
 ghost use Rattle.cir_values.specs.Meant.{meant};
@@ -26,6 +27,7 @@ use cir_ast::Kind;
 use cir_ast::program::Meant;
 use cir_values::{Value, signal_form};
 use gold_field::Gold;
+use numbers::TooLarge;
 use std::alloc::{AllocError, Global};
 
 /// What is read.
@@ -305,14 +307,20 @@ fn signal_item(alloc: Global, entry: &SignalEntry, place: u64) -> Result<Value, 
     Ok(Value::Linear(f))
 }
 
-/// The number of an element. One past all numbers counts as want of memory.
-pub fn number_of(entry: &SignalEntry, place: u64) -> Result<u32, AllocError>
-    ensures { IfOk result (λ n. n ≡ entry.now.first + place) }
+/// The number of an element.
+pub fn number_of(entry: &SignalEntry, place: u64) -> Result<u32, TooLarge>
+    ensures ok { IfOk result (λ n. n ≡ entry.now.first + place) }
+    ensures err { IfErr result (λ _. 4294967296 ≤ entry.now.first + place) }
 {
-    match u32::try_from(entry.first.saturating_add(u128::from(place))) {
-        Ok(number) => Ok(number),
-        Err(_) => Err(AllocError),
-    }
+    number_at(entry.first, place)
+}
+
+/// The number of an element, by the number of the first one.
+pub fn number_at(first: u128, place: u64) -> Result<u32, TooLarge>
+    ensures ok { IfOk result (λ n. n ≡ first + place) }
+    ensures err { IfErr result (λ _. 4294967296 ≤ first + place) }
+{
+    u32::try_from(first.saturating_add(u128::from(place))).map_err(|_| TooLarge)
 }
 
 /// What a name in front of indices is.

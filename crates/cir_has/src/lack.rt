@@ -1,5 +1,6 @@
 //! What a step's code lacks.
 use cir_rules::Made;
+use numbers::TooLarge;
 use std::alloc::{AllocError, AllocFailed};
 
 /// What is wanting.
@@ -11,6 +12,17 @@ pub enum Lack {
     /// or an array literal is empty.
     Home,
     OutOfMemory,
+}
+
+impl From<TooLarge> for Lack {
+    ghost use Rattle.std.specs.Prelude.{◌≡◌};
+    ghost use Rattle.cir_has.specs.declared.lack.Lack.TheVariants.{OutOfMemory};
+
+    ghost from_gives = { λ _ r. r ≡ OutOfMemory };
+
+    fn from(_error: TooLarge) -> Lack {
+        Lack::OutOfMemory
+    }
 }
 
 impl From<AllocError> for Lack {

@@ -12,7 +12,7 @@ ghost use Rattle.cir_homes.specs.Homed.{signal_homes};
 use crate::homes::add_signals;
 use cir_frame::{GROUP_SIZE, Group, SignalEntry, Sizes};
 use cir_make::{Homes, Run};
-use cir_write::behind;
+use numbers::{TooLarge, behind};
 use std::alloc::{AllocError, Global};
 
 /// The cells of all signals by their final numbers, that of signal 0 first, from those of main and
@@ -83,7 +83,7 @@ fn nothing_yet(alloc: Global, count: usize) -> Result<Vec<Option<u32>>, AllocErr
 }
 
 /// The cells of the numbers from the first on, as the rows have them.
-fn put_all(homes: &[Homes], first: u64, found: &mut [Option<u32>]) -> Result<(), AllocError>
+fn put_all(homes: &[Homes], first: u64, found: &mut [Option<u32>]) -> Result<(), TooLarge>
     ensures { found.old ≡ replicate (length found.old) None → OnOk result
         (found.new ≡ map (home_in homes.now) (numbers_from first (length found.old))) }
 {
@@ -94,7 +94,7 @@ fn put_all(homes: &[Homes], first: u64, found: &mut [Option<u32>]) -> Result<(),
 }
 
 /// The elements of a row that have no cell yet have the row's.
-fn put(row: &Homes, first: u64, found: &mut [Option<u32>]) -> Result<(), AllocError>
+fn put(row: &Homes, first: u64, found: &mut [Option<u32>]) -> Result<(), TooLarge>
     ensures { OnOk result (Puts row.now first found.old found.new) }
 {
     for k in 0..row.count {
@@ -103,7 +103,7 @@ fn put(row: &Homes, first: u64, found: &mut [Option<u32>]) -> Result<(), AllocEr
     Ok(())
 }
 
-fn put_one(row: &Homes, k: u64, first: u64, found: &mut [Option<u32>]) -> Result<(), AllocError>
+fn put_one(row: &Homes, k: u64, first: u64, found: &mut [Option<u32>]) -> Result<(), TooLarge>
     ensures { OnOk result (PutsOne row.now k first found.old found.new) }
 {
     let Some(place) = place_of(row.number, k, first, found.len()) else {

@@ -1,6 +1,6 @@
 //! The table of a circuit's signals, and the final numbers.
 ghost use Rattle.std.specs.Prelude.{◌≡◌, ◌≤◌, ◌+◌, ◌++◌, IfOk, OnOk, All, List, flat_map, map};
-ghost use Rattle.std.specs.Prelude.{sum_by};
+ghost use Rattle.std.specs.Prelude.{sum_by, IfErr};
 ghost use Rattle.cir_meaning.specs.Places.{elements as element_count};
 ghost use Rattle.cir_meaning.specs.Source.{Equation};
 ghost use Rattle.cir_meaning.specs.Frame as F;
@@ -17,6 +17,7 @@ use cir_frame::{GROUP_SIZE, Group, Row, Sizes, World};
 use cir_values::{InputShape, SignalName, Signals, Text, indexed};
 use gold_field::{Constraint, Lc, Term};
 use items::Items;
+use numbers::{TooLarge, narrow};
 use std::alloc::{AllocError, Global};
 
 /// The signals in the order of their numbers, and main's inputs.
@@ -36,15 +37,6 @@ pub fn table_of(alloc: Global, world: &World) -> Result<Signals, AllocError>
         private_inputs,
         inputs: Items::of(inputs),
     })
-}
-
-fn narrow(n: u64) -> Result<u32, AllocError>
-    ensures { IfOk result (λ m. m ≡ n) }
-{
-    match u32::try_from(n) {
-        Ok(n) => Ok(n),
-        Err(_) => Err(AllocError),
-    }
 }
 
 fn names_of(alloc: Global, rows: &[Row]) -> Result<Vec<SignalName>, AllocError>
@@ -92,8 +84,9 @@ fn add_row(alloc: Global, row: &Row, names: &mut Vec<SignalName>) -> Result<(), 
     Ok(())
 }
 
-fn count_of(row: &Row) -> Result<u32, AllocError>
-    ensures { IfOk result (λ n. n ≡ element_count row.now.dims.items) }
+fn count_of(row: &Row) -> Result<u32, TooLarge>
+    ensures ok { IfOk result (λ n. n ≡ element_count row.now.dims.items) }
+    ensures err { IfErr result (λ _. 4294967296 ≤ element_count row.now.dims.items) }
 {
     narrow(elements(row.dims.as_slice()))
 }

@@ -25,6 +25,7 @@ use cir_arrays::{Datum, is_too_large};
 use cir_frame::{Frame, SignalEntry};
 use cir_values::Value;
 use gold_field::Gold;
+use numbers::{TooLarge, behind};
 use std::alloc::AllocError;
 use wit_sourced::{Input, Sought};
 
@@ -47,7 +48,7 @@ pub struct StepArray<'a> {
 
 impl Stands<'_> {
     /// Where an element has its number from, if it has one.
-    pub fn input(&self, element: u64) -> Result<Option<Input>, AllocError>
+    pub fn input(&self, element: u64) -> Result<Option<Input>, TooLarge>
         ensures { IfOk result (λ i. option_map input_of i ≡ input_at self.now element) }
     {
         match self {
@@ -91,16 +92,12 @@ fn source_at(sources: &[Source], element: u64) -> Input
 }
 
 /// The cell of an element of a signal.
-fn wired_input(rows: &[Run], element: u64) -> Result<Option<Input>, AllocError>
+fn wired_input(rows: &[Run], element: u64) -> Result<Option<Input>, TooLarge>
     ensures { IfOk result (λ i. option_map input_of i ≡ cell_input (cell_in rows.now element)) }
 {
     for row in rows {
         if element < row.count {
-            let cell = u64::from(row.first).checked_add(element).ok_or(AllocError)?;
-            return match u32::try_from(cell) {
-                Ok(cell) => Ok(Some(Input::Cell(cell))),
-                Err(_) => Err(AllocError),
-            };
+            return Ok(Some(Input::Cell(behind(row.first, element)?)));
         }
     }
     Ok(None)

@@ -17,7 +17,7 @@ use cir_frame::Frame;
 use cir_has::{Arrays, add_keys};
 use cir_rules::CallTable;
 use items::Items;
-use numbers::Numbers;
+use numbers::{Numbers, TooLarge};
 use std::alloc::{AllocError, Global};
 use wit_code::Step;
 use wit_sourced::{Input, Named, Shape, Sought};
@@ -34,7 +34,7 @@ pub struct Told<'a> {
 impl Inputs for Told<'_> {
     ghost offer = { λ t. input_in t.arrays.now };
 
-    fn input(&self, name: Sought, element: u64) -> Result<Option<Input>, AllocError> {
+    fn input(&self, name: Sought, element: u64) -> Result<Option<Input>, TooLarge> {
         match find(self.arrays, name) {
             Some(array) => array.stands.input(element),
             None => Ok(None),

@@ -1,4 +1,4 @@
-ghost use Rattle.std.specs.Prelude.{◌≡◌, ◌<◌, ◌+◌, ◌-◌, ◌%◌, ℕ, IfOk};
+ghost use Rattle.std.specs.Prelude.{◌≡◌, ◌<◌, ◌+◌, ◌-◌, ◌%◌, ℕ, IfOk, ◌≤◌, IfErr};
 ghost use Rattle.gold_field.specs.declared.gold.TheConstants.{P};
 ghost use Rattle.gold_field.specs.Operators.{inverse_of};
 ghost use Rattle.cir_lc.specs.Terms.{IsWithin};
@@ -7,6 +7,7 @@ ghost use Rattle.cir_simplify.specs.Turn.{solution as solution_of};
 
 use cir_lc::signal_and;
 use gold_field::{Constraint, Gold, Lc, Term};
+use numbers::TooLarge;
 use std::alloc::{AllocError, Global};
 
 /// What `c = 0` says of the term's signal.
@@ -40,8 +41,9 @@ fn minus_inverse(coef: Gold) -> Gold
 }
 
 /// How many terms the constraint has, where the count fits.
-pub(crate) fn terms(q: &Constraint) -> Result<u64, AllocError>
-    ensures { IfOk result (λ n. n ≡ terms_in q.now) }
+pub(crate) fn terms(q: &Constraint) -> Result<u64, TooLarge>
+    ensures ok { IfOk result (λ n. n ≡ terms_in q.now) }
+    ensures err { IfErr result (λ _. 18446744073709551616 ≤ terms_in q.now) }
 {
     let a = q.a.as_slice().len() as u64;
     let b = q.b.as_slice().len() as u64;
@@ -49,9 +51,10 @@ pub(crate) fn terms(q: &Constraint) -> Result<u64, AllocError>
     sum(sum(a, b)?, c)
 }
 
-/// The sum, where it fits: memory ends long before.
-pub(crate) fn sum(a: u64, b: u64) -> Result<u64, AllocError>
-    ensures { IfOk result (λ n. n ≡ a + b) }
+/// The sum, where it fits.
+pub(crate) fn sum(a: u64, b: u64) -> Result<u64, TooLarge>
+    ensures ok { IfOk result (λ n. n ≡ a + b) }
+    ensures err { IfErr result (λ _. 18446744073709551616 ≤ a + b) }
 {
-    a.checked_add(b).ok_or(AllocError)
+    a.checked_add(b).ok_or(TooLarge)
 }

@@ -16,6 +16,7 @@ use crate::row::{sum, terms};
 use crate::types::Rules;
 use cir_lc::subst;
 use gold_field::{Constraint, Lc, Term};
+use numbers::TooLarge;
 use std::alloc::{AllocError, Global};
 use std::collections::BTreeSet;
 
@@ -112,13 +113,12 @@ fn queue(ready: &mut Ready, rules: Rules, q: &Constraint, i: usize) -> Result<()
     Ok(())
 }
 
-fn recount(count: u64, old: &Constraint, new: &Constraint) -> Result<u64, AllocError>
+fn recount(count: u64, old: &Constraint, new: &Constraint) -> Result<u64, TooLarge>
     requires { terms_in old.now ≤ count }
     ensures { IfOk result (λ n. n + terms_in old.now ≡ count + terms_in new.now) }
 {
     let gone = terms(old)?;
-    let n = sum(count - gone, terms(new)?)?;
-    Ok(n)
+    sum(count - gone, terms(new)?)
 }
 
 pub(crate) fn at(rows: &Vec<Constraint>, i: usize) -> &Constraint

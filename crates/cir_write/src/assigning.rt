@@ -37,7 +37,7 @@ use cir_evaluate::Here;
 use cir_frame::{Frame, World};
 use cir_make::{Body, Cast, Doing, Inside, Source, VariableCells, Whole, plain_step};
 use gold_field::Gold;
-use numbers::Numbers;
+use numbers::{Numbers, behind};
 use std::alloc::{AllocError, Global};
 
 /// A variable is written. It is a step where an element that it writes isn't known afterwards.
@@ -203,7 +203,7 @@ pub fn numbers(alloc: Global, first: u32, count: u64) -> Result<Numbers, AllocEr
 {
     let mut numbers = Numbers::new(alloc);
     for at in 0..count {
-        numbers.push(number(first, at)?)?;
+        numbers.push(behind(first, at)?)?;
     }
     Ok(numbers)
 }
@@ -219,7 +219,7 @@ fn put_cells(
         variables.new.items) }
     ensures next { IfOk result (λ next. next ≡ first + length places.now) }
 {
-    let next = number(first, places.len() as u64)?;
+    let next = behind(first, places.len() as u64)?;
     if (n as usize) < variables.len() {
         put_all(&mut variables[n as usize].sources, places, first)?;
     }
@@ -231,7 +231,7 @@ fn put_all(sources: &mut Vec<Source>, places: &[u64], first: u32) -> Result<(), 
         ≡ put_at_places places.now first (source_in (map source_by sources.old.items)) k) }
 {
     for at in 0..places.len() {
-        let cell = number(first, at as u64)?;
+        let cell = behind(first, at as u64)?;
         put(sources, places[at], cell)?;
     }
     Ok(())
@@ -259,15 +259,4 @@ fn lengthen(sources: &mut Vec<Source>, place: usize) -> Result<(), AllocError>
         sources.push(Source::Constant(Gold::ZERO))?;
     }
     Ok(())
-}
-
-/// The number so far behind one.
-pub fn number(first: u32, count: u64) -> Result<u32, AllocError>
-    ensures { IfOk result (λ n. n ≡ first + count) }
-{
-    let number = u64::from(first).checked_add(count).ok_or(AllocError)?;
-    match u32::try_from(number) {
-        Ok(number) => Ok(number),
-        Err(_) => Err(AllocError),
-    }
 }

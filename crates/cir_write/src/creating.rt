@@ -25,6 +25,7 @@ use cir_declare::{add_part, declare_component, opened};
 use cir_evaluate::{arguments_in, indices_in};
 use cir_frame::World;
 use cir_make::{Body, Cast, Inside, PartCells, Whole};
+use numbers::narrow;
 use std::alloc::AllocError;
 
 /// A component without dimensions is declared and created.
@@ -162,7 +163,7 @@ where
     } = cast;
     let part = opened(spot, template, signals);
     add_part(component, place, part, &mut inside.frame)?;
-    let j = count(inside.cells.parts.as_slice())?;
+    let j = narrow(inside.cells.parts.as_slice().len() as u64)?;
     inside.cells.parts.push(PartCells {
         ports,
         inside: homes,
@@ -170,13 +171,4 @@ where
     })?;
     free(Some(j), false, &inside.frame, &mut inside.cells)?;
     Ok(())
-}
-
-fn count(parts: &[PartCells]) -> Result<u32, AllocError>
-    ensures { IfOk result (λ n. n ≡ length parts.now) }
-{
-    match u32::try_from(parts.len()) {
-        Ok(n) => Ok(n),
-        Err(_) => Err(AllocError),
-    }
 }

@@ -10,11 +10,11 @@ mod signals;
 mod variables;
 mod wiring;
 
-pub use assigning::{number, numbers};
+pub use assigning::numbers;
 pub use comparing::equal;
 pub use components::components as declare_components;
 pub use creating::created;
 pub use setting::set;
 pub use signals::signals as declare_signals;
 pub use variables::variables as declare_variables;
-pub use wiring::{behind, cell, item_count, rows, set_signal};
+pub use wiring::{cell, item_count, rows, set_signal};

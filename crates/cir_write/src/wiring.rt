@@ -34,7 +34,7 @@ use cir_cost::stepped;
 use cir_evaluate::{Here, datum};
 use cir_frame::{Frame, Target, World};
 use cir_make::{Body, Cast, Cells, Doing, Inside, Run, Whole, plain_step};
-use numbers::Numbers;
+use numbers::{Numbers, TooLarge, behind};
 use std::alloc::{AllocError, Global};
 
 /// A signal is written, and constrained by `<==`. A write of no signal is no step.
@@ -181,7 +181,7 @@ pub fn rows(signals: &[Vec<Run>], number: usize) -> &[Run]
 }
 
 /// The cell of an element, or 0.
-pub fn cell(rows: &[Run], place: u64) -> Result<u32, AllocError>
+pub fn cell(rows: &[Run], place: u64) -> Result<u32, TooLarge>
     ensures { IfOk result (λ c. c ≡ unwrap_or (cell_in rows.now place) 0) }
 {
     for row in rows {
@@ -190,17 +190,6 @@ pub fn cell(rows: &[Run], place: u64) -> Result<u32, AllocError>
         }
     }
     Ok(0)
-}
-
-/// The cell that stands so far behind the first.
-pub fn behind(first: u32, place: u64) -> Result<u32, AllocError>
-    ensures { IfOk result (λ c. c ≡ first + place) }
-{
-    let cell = u64::from(first).checked_add(place).ok_or(AllocError)?;
-    match u32::try_from(cell) {
-        Ok(cell) => Ok(cell),
-        Err(_) => Err(AllocError),
-    }
 }
 
 /// Whether all inputs of a component are written.

@@ -11,9 +11,10 @@ use crate::shapes::shapes_of;
 use cir_ast::program::{Expr, Meant};
 use cir_rules::Made;
 use items::Items;
+use numbers::narrow;
 use std::alloc::AllocError;
 use wit_code::Op;
-use wit_sourced::{Scope, narrow};
+use wit_sourced::Scope;
 
 /// The call behind its arguments.
 pub fn emit_call(

@@ -1,20 +1,19 @@
 //! Jumps whose ends are told later.
 ghost use Rattle.std.specs.Prelude.{◌≡◌, ◌+◌, ◌<◌, [], ◌∷◌, ◌++◌, length, slice_set, IfOk, OnOk};
+ghost use Rattle.std.specs.Prelude.{◌≤◌, IfErr};
 ghost use Rattle.wit_code.specs.declared.code.Op.TheVariants as op;
 
 use items::Items;
+use numbers::{TooLarge, narrow};
 use std::alloc::AllocError;
 use wit_code::Op;
-use wit_sourced::narrow;
 
 /// The place so far behind another one, as a jump names it.
-pub fn narrow_place(place: usize, count: u64) -> Result<u32, AllocError>
-    ensures { IfOk result (λ n. n ≡ place + count) }
+pub fn narrow_place(place: usize, count: u64) -> Result<u32, TooLarge>
+    ensures ok { IfOk result (λ n. n ≡ place + count) }
+    ensures err { IfErr result (λ _. 4294967296 ≤ place + count) }
 {
-    match (place as u64).checked_add(count) {
-        Some(n) => narrow(n),
-        None => Err(AllocError),
-    }
+    narrow((place as u64).checked_add(count).ok_or(TooLarge)?)
 }
 
 /// The place of a jump that stands here until its end is told.

@@ -8,9 +8,9 @@ ghost use Rattle.gold_field.specs.declared.operators.Op2.TheVariants as op2;
 
 use gold_field::{Gold, Op1, Op2};
 use items::Items;
+use numbers::{behind, narrow};
 use std::alloc::AllocError;
 use wit_code::Op;
-use wit_sourced::{behind, narrow};
 
 /// 1 in the place of every number but 0.
 pub fn truth(code: &mut Items<Op>, s: u32) -> Result<(), AllocError>

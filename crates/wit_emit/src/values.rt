@@ -19,9 +19,10 @@ use cir_ast::program::{Accessor, Expr, Meant};
 use cir_evaluate::{Operator, op_of, operator_of};
 use gold_field::Gold;
 use items::Items;
+use numbers::behind;
 use std::alloc::AllocError;
 use wit_code::Op;
-use wit_sourced::{Scope, behind};
+use wit_sourced::Scope;
 
 /// What a known left operand decides.
 fn decided(op: Operator, left: Option<u64>) -> Option<Gold>

@@ -18,6 +18,7 @@ use cir_ast::program::Program;
 use cir_ast::{Form, Kind};
 use cir_rules::{CallTable, Made, Verdict, judge};
 use items::Items;
+use numbers::{TooLarge, narrow};
 use std::alloc::{AllocError, AllocFailed, Global};
 use wit_code::{Op, Proc};
 use wit_emit::{Ground, Knowing, place_of};
@@ -47,6 +48,17 @@ impl From<AllocError> for LowerFault {
     }
 }
 
+impl From<TooLarge> for LowerFault {
+    ghost use Rattle.std.specs.Prelude.{◌≡◌};
+    ghost use Rattle.wit_procs.specs.declared.procs.LowerFault.TheVariants.{OutOfMemory};
+
+    ghost from_gives = { λ _ r. r ≡ OutOfMemory };
+
+    fn from(_error: TooLarge) -> LowerFault {
+        LowerFault::OutOfMemory
+    }
+}
+
 impl<T: Drop> From<AllocFailed<T>> for LowerFault {
     ghost use Rattle.std.specs.Prelude.{◌≡◌};
     ghost use Rattle.wit_procs.specs.declared.procs.LowerFault.TheVariants.{OutOfMemory};
@@ -67,16 +79,6 @@ pub struct Procs<'p> {
     pub procs: Vec<Proc>,
 }
 
-/// The number of a place; there is no memory for more.
-fn number(place: usize) -> Result<u32, AllocError>
-    ensures { IfOk result (λ n. n ≡ place) }
-{
-    match u32::try_from(place) {
-        Ok(n) => Ok(n),
-        Err(_) => Err(AllocError),
-    }
-}
-
 /// Arguments stand in a row.
 fn arguments(alloc: Global, shapes: &[Vec<u64>]) -> Result<Scope, AllocError>
     ensures { IfOk result (λ scope. scope_of scope
@@ -88,7 +90,7 @@ fn arguments(alloc: Global, shapes: &[Vec<u64>]) -> Result<Scope, AllocError>
     };
     for at in 0..shapes.len() {
         let dims = Items::from_slice(alloc, shapes[at].as_slice())?;
-        scope.declare(number(at)?, dims)?;
+        scope.declare(narrow(at as u64)?, dims)?;
     }
     Ok(scope)
 }
@@ -214,7 +216,7 @@ impl<'p> Procs<'p> {
         if place >= self.keys.calls.len() {
             self.add(key)?;
         }
-        Ok(number(place)?)
+        Ok(narrow(place as u64)?)
     }
 
     /// The procedures of these keys and of all that they reach, which is added behind them.

@@ -5,9 +5,9 @@ ghost use Rattle.wit_lower.specs.Homes as L;
 ghost use Rattle.wit_sourced.specs.Behind.{IsBehind, with_home};
 ghost use Rattle.wit_sourced.specs.Shown.{sought_name, home_of, homes_of, scope_of};
 
-use crate::slots::behind;
 use cir_arrays::made_elements;
 use items::Items;
+use numbers::behind;
 use std::alloc::{AllocError, Global};
 
 /// The name of what has a home: a variable, a signal, or a signal of an element of a component.

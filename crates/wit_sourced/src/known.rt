@@ -23,6 +23,7 @@ use cir_arrays::all_known;
 use cir_ast::program::{Accessor, Expr, Meant};
 use cir_evaluate::{Operator, op_of, operator_of};
 use gold_field::{Gold, Op1, Op2, binary, unary};
+use numbers::TooLarge;
 use std::alloc::{AllocError, Global};
 
 /// Whether the call is one of these.
@@ -62,7 +63,12 @@ impl Loaded<'_> {
             Expr::Place(place) => {
                 self.place_known(alloc, place.meant, place.accessors.as_slice())
             }
-            Expr::Call(_, _, _, _) => called_known(self.called(e)),
+            Expr::Call(_, _, _, _) => match self.called(e) {
+                Some(value) if value.dims.as_slice().is_empty() => {
+                    Ok(Some(value.number().ok_or(AllocError)?))
+                }
+                _ => Ok(None),
+            },
             Expr::Parentheses(inner) => self.known(alloc, inner),
             Expr::Unary(op, a) => Ok(unary_known(op_of(*op), self.known(alloc, a)?)),
             Expr::Binary(op, a, b) => {
@@ -102,13 +108,13 @@ impl Loaded<'_> {
             }
         }
         match all_known(alloc, indices.as_slice())? {
-            Some(indices) => self.variable_known(meant, indices.as_slice()),
+            Some(indices) => Ok(self.variable_known(meant, indices.as_slice())?),
             None => Ok(None),
         }
     }
 
     /// The number of an element of a variable, where it is a constant and doesn't change.
-    fn variable_known(&self, meant: Meant, indices: &[u64]) -> Result<Option<Gold>, AllocError>
+    fn variable_known(&self, meant: Meant, indices: &[u64]) -> Result<Option<Gold>, TooLarge>
         ensures { IfOk result (λ n. n ≡ K.variable_known (loaded_sources self.now)
             (changed_in self.now) meant (Some indices.now)) }
     {
@@ -136,7 +142,7 @@ impl Loaded<'_> {
         n: u32,
         home: Option<&Home>,
         indices: &[u64],
-    ) -> Result<Option<Gold>, AllocError>
+    ) -> Result<Option<Gold>, TooLarge>
         ensures { IfOk result (λ known. known ≡ K.element_known (loaded_sources self.now) n
             (option_map home_of (option_copied home.entry)) indices.now) }
     {
@@ -181,23 +187,6 @@ pub fn number_of(known: Option<Gold>) -> Option<u64>
     match known {
         Some(n) => Some(n.get()),
         None => None,
-    }
-}
-
-/// The number of a call that has its value already, where that is one number.
-fn called_known(called: Option<&Called>) -> Result<Option<Gold>, AllocError>
-    ensures { IfOk result (λ n. n
-        ≡ K.called_known (option_map called_of (option_copied called.entry))) }
-{
-    let Some(value) = called else {
-        return Ok(None);
-    };
-    if !value.dims.as_slice().is_empty() {
-        return Ok(None);
-    }
-    match value.items.as_slice().first() {
-        Some(n) => Ok(Some(Gold::new(*n).ok_or(AllocError)?)),
-        None => Err(AllocError),
     }
 }
 

@@ -8,7 +8,6 @@ mod known;
 mod loaded;
 mod reads;
 mod same;
-mod slots;
 mod sources;
 
 pub use elements::{is_inside, offset};
@@ -17,5 +16,4 @@ pub use known::{is_listed, number_of};
 pub use loaded::{CallValue, Called, Loaded, component_dims};
 pub use reads::Reads;
 pub use same::is_same;
-pub use slots::{behind, narrow};
 pub use sources::{Input, Named, Shape, Source, Sources, emit_sources};

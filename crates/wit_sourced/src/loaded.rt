@@ -1,11 +1,13 @@
 //! What is known of a step's numbers, and of its calls.
-ghost use Rattle.std.specs.Prelude.{◌≡◌};
-ghost use Rattle.wit_sourced.specs.Loaded.{components_in};
+ghost use Rattle.std.specs.Prelude.{◌≡◌, IfSome};
+ghost use Rattle.cir_meaning.specs.RunValues.{the_number};
+ghost use Rattle.wit_sourced.specs.Loaded.{called_of, components_in};
 
 use crate::sources::Sources;
 use cir_ast::program::Expr;
 use cir_frame::ComponentEntry;
 use cir_known::Touched;
+use gold_field::Gold;
 use items::Items;
 
 /// The value of a call that isn't made.
@@ -13,6 +15,15 @@ use items::Items;
 pub struct Called {
     pub dims: Items<u64>,
     pub items: Items<u64>,
+}
+
+impl Called {
+    /// The number that stands first.
+    pub fn number(&self) -> Option<Gold>
+        ensures { IfSome result (λ n. n ≡ the_number (called_of self.now)) }
+    {
+        Gold::new(*self.items.as_slice().first()?)
+    }
 }
 
 /// A call that stands in a step, with its value where it has one already.

@@ -4,9 +4,8 @@ ghost use Rattle.wit_lower.specs.Sources as R;
 ghost use Rattle.wit_sourced.specs.Loads.{input_of, source_of};
 ghost use Rattle.wit_sourced.specs.Told.{AreTold};
 
-use crate::slots::narrow;
 use crate::sources::{Input, Source};
-use numbers::Numbers;
+use numbers::{Numbers, TooLarge, narrow};
 use std::alloc::{AllocError, Global};
 use std::collections::BTreeMap;
 
@@ -32,12 +31,12 @@ impl Reads {
     }
 
     /// The place of a cell.
-    pub fn place(&self, cell: u32) -> Result<u32, AllocError>
+    pub fn place(&self, cell: u32) -> Result<u32, TooLarge>
         ensures { IfOk result (λ n. n ≡ R.place_of cell self.now.cells) }
     {
         match self.places.get(&cell) {
             Some(place) => Ok(*place),
-            None => Ok(narrow(self.cells.len() as u64)?),
+            None => narrow(self.cells.len() as u64),
         }
     }
 

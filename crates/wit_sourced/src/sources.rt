@@ -7,9 +7,9 @@ ghost use Rattle.wit_sourced.specs.Shown.{homes_of, sought_name, scope_of};
 
 use crate::homes::{Scope, Sought};
 use crate::reads::Reads;
-use crate::slots::behind;
 use gold_field::Gold;
 use items::Items;
+use numbers::behind;
 use std::alloc::{AllocError, Global};
 use wit_code::Op;
 

@@ -14,8 +14,9 @@ ghost use Rattle.wit_sources.specs.Collected.{homes_in, seen};
 use crate::found::Found;
 use crate::inputs::Inputs;
 use cir_arrays::{all_known, made_elements, places_of};
+use numbers::behind;
 use std::alloc::{AllocError, Global};
-use wit_sourced::{Home, Input, Sought, Source, behind, is_inside, offset};
+use wit_sourced::{Home, Input, Sought, Source, is_inside, offset};
 
 /// A constant is a number of the field.
 fn is_constant(input: &Input) -> bool

@@ -14,10 +14,11 @@ use cir_ast::program::{Accessor, Assign, Expr, Place};
 use cir_evaluate::{Operator, compound_operator};
 use gold_field::{Gold, Op2};
 use items::Items;
+use numbers::behind;
 use std::alloc::AllocError;
 use wit_code::Op;
 use wit_emit::{Front, Ground, emit, emit_place, emit_right, size_of, write};
-use wit_sourced::{Scope, behind};
+use wit_sourced::Scope;
 
 /// The code of an assignment.
 pub fn emit_assign(

@@ -11,10 +11,11 @@ ghost use Rattle.wit_emit.specs.Grounds.{ground_of};
 use cir_arrays::made_elements;
 use cir_ast::program::{DeclaredVariable, Expr, Meant};
 use items::Items;
+use numbers::behind;
 use std::alloc::AllocError;
 use wit_code::Op;
 use wit_emit::{Front, Ground, emit, size_of, write, zeros};
-use wit_sourced::{Scope, behind};
+use wit_sourced::Scope;
 
 /// Dimensions are evaluated, although their numbers are known.
 fn emit_dims(

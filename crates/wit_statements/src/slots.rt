@@ -6,12 +6,11 @@ ghost use Rattle.wit_lower.specs.Procedures.{params_at, params_of};
 
 use cir_arrays::made_elements;
 use cir_rules::Made;
-use std::alloc::AllocError;
+use numbers::{TooLarge, behind};
 use wit_code::Op;
-use wit_sourced::behind;
 
 /// How many slots the arguments of a procedure take.
-pub fn params_of(key: &Made) -> Result<u32, AllocError>
+pub fn params_of(key: &Made) -> Result<u32, TooLarge>
     ensures { IfOk result (λ n. n ≡ params_of (made_of key.now)) }
 {
     let mut params = 0;
@@ -21,7 +20,7 @@ pub fn params_of(key: &Made) -> Result<u32, AllocError>
     Ok(params)
 }
 
-fn params_at(keys: &[Made], f: u32) -> Result<u32, AllocError>
+fn params_at(keys: &[Made], f: u32) -> Result<u32, TooLarge>
     ensures { IfOk result (λ n. n ≡ params_at (map made_of keys.now) f) }
 {
     match keys.get(f as usize) {
@@ -31,7 +30,7 @@ fn params_at(keys: &[Made], f: u32) -> Result<u32, AllocError>
 }
 
 /// How many slots an instruction names.
-fn named(keys: &[Made], op: &Op) -> Result<u32, AllocError>
+fn named(keys: &[Made], op: &Op) -> Result<u32, TooLarge>
     ensures { IfOk result (λ n. n ≡ L.named (params_at (map made_of keys.now)) op.now) }
 {
     match *op {
@@ -51,7 +50,7 @@ fn named(keys: &[Made], op: &Op) -> Result<u32, AllocError>
 }
 
 /// A frame has the slots that its code names.
-pub fn most_named(keys: &[Made], code: &[Op]) -> Result<u32, AllocError>
+pub fn most_named(keys: &[Made], code: &[Op]) -> Result<u32, TooLarge>
     ensures { IfOk result (λ n. n ≡ L.most_named (params_at (map made_of keys.now)) code.now) }
 {
     let mut most = 0;

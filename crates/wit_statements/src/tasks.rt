@@ -10,10 +10,11 @@ use crate::assigning::emit_assign;
 use crate::statements::{emit_inner, emit_turns};
 use cir_ast::program::{Assign, Expr, LogArgument, Spot, Statement, Step};
 use items::Items;
+use numbers::behind;
 use std::alloc::AllocError;
 use wit_code::Op;
 use wit_emit::{Ground, emit, size_of};
-use wit_sourced::{Scope, Sought, behind};
+use wit_sourced::{Scope, Sought};
 
 /// An element of a variable.
 #[derive(Clone, Copy)]

@@ -47,7 +47,7 @@ returns-in_ok-left-in-Constrain g c = λ k r qs size.
     (leads_as qs c.args.world.now c.write_element.new.frame c.constrain.new.world
     c.constrain.result _ (constrained k w (Linear form) v after)
     (element_constrained k w t c.args.place v s after told.0 c.in_ok-first.first
-    c.in_ok-number-in-Constrain.number form told.1 told.2 c.in_ok-number-in-Constrain.ensures
+    c.in_ok-number-in-Constrain.number form told.1 told.2 c.in_ok-number-in-Constrain.ensures.ok
     c.in_ok-left-in-Constrain.ensures.value)
     (subst (λ (y : CodeValue). Leads qs c.args.world.now c.write_element.new.frame
     c.constrain.new.world c.constrain.result (constrained k w (Linear form) (meant y) after))

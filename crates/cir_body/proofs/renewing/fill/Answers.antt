@@ -17,8 +17,8 @@ loop-at-preserved c =
     let at = c.loop-at.at in
     let had = c.loop-at.sources.items in
     ap (map source_by) c.in_ok-push.ensures.items
-    ∙ map-append source_by had (source.Cell c.in_ok-number.field-0 ∷ [])
-    ∙ ap (λ (l : List S.Source). l ++ S.Cell c.in_ok-number.field-0 ∷ []) c.loop-at.invariant
-    ∙ ap (λ (n : ℕ). cells_from first at ++ S.Cell n ∷ []) c.in_ok-number.ensures
+    ∙ map-append source_by had (source.Cell c.in_ok-behind.field-0 ∷ [])
+    ∙ ap (λ (l : List S.Source). l ++ S.Cell c.in_ok-behind.field-0 ∷ []) c.loop-at.invariant
+    ∙ ap (λ (n : ℕ). cells_from first at ++ S.Cell n ∷ []) c.in_ok-behind.ensures.ok
     ∙ sym (ap (map (λ (n : ℕ). S.Cell n)) (one_more first at)
     ∙ map-append (λ (n : ℕ). S.Cell n) (numbers_from first at) _)

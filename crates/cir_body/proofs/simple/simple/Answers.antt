@@ -27,7 +27,7 @@ returns g c = λ m d shows.
     emits_as m.first c.lifted-result.new.inside c.lifted-result.new.whole
     c.lifted-result.result _ _
     (ap (λ z. go_on d (λ x. z)) (lifting_emits (emitting_in b m) c.args.spot a
-    c.args.inside.now.frame d.state c.in_ok-next.next c.in_ok-next.ensures
+    c.args.inside.now.frame d.state c.in_ok-next.next c.in_ok-next.ensures.ok
     (ap (λ (s : State). s.frame.components) shows.state)))
     (c.lifted-result.ensures m
     (lift_simple (bare_program b.context.now.program.now) b.context.now.named_components a

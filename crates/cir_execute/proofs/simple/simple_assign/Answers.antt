@@ -38,7 +38,7 @@ returns g c =
     leads_as qs c.args.world.now c.lifted-result.new.frame c.lifted-result.new.world
     c.lifted-result.result _ _
     (lifting_is (context_in b m) c.args.spot x c.args.frame.now
-    (state_of c.args.frame.now c.args.world.now qs) c.in_ok-next.next c.in_ok-next.ensures refl)
+    (state_of c.args.frame.now c.args.world.now qs) c.in_ok-next.next c.in_ok-next.ensures.ok refl)
     (c.lifted-result.ensures m
     (lift_simple (bare_program b.context.now.program.now) b.context.now.named_components x
     c.in_ok-next.next) qs c.in_ok-l.ensures)

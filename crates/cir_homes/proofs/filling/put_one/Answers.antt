@@ -19,4 +19,4 @@ returns c =
     let at = c.in-Some.ensures.found c.in-Some.place refl in
     puts_new c.args.row.now c.args.k c.args.first c.args.found.now c.in-Some.place _ at.0
     (none_at c.args.found.now c.in-Some.place at.1 (sym c.is_some.ensures ∙ c.if-is_some.false))
-    (ap (λ z. Some z) c.in_ok-behind.ensures)
+    (ap (λ z. Some z) c.in_ok-behind.ensures.ok)

@@ -12,7 +12,8 @@ pub returns : goal.returns
 returns c =
     let xs : List F.Row = rows_in PublicInputs c.args.rows.now in
     let ys : List F.Row = rows_in PrivateInputs c.args.rows.now in
-    let first : c.from-first.result + 1 ≡ 1 + c.args.outputs = omega arith in
+    let first : c.from-first.result + 1 ≡ 1 + c.args.outputs =
+    omega (arith, c.in_ok-narrow.ensures.ok) in
     let next : c.in_ok-next.next ≡ 1 + c.args.outputs + total_of xs =
     c.in_ok-next.ensures.next ∙ ap (λ (n : ℕ). n + total_of xs) first in
     c.in_ok-_end.ensures.shapes

@@ -6,6 +6,6 @@ use Rattle.cir_write.proofs.assigning.numbers.Goals as goal
 pub loop-at-preserved : goal.loop-at-preserved
 loop-at-preserved c =
     c.in_ok-push.ensures.ok
-    ∙ ap (λ (l : List ℕ). l ++ c.in_ok-number.field-0 ∷ []) c.loop-at.invariant
-    ∙ ap (λ (n : ℕ). numbers_from c.args.first c.loop-at.at ++ n ∷ []) c.in_ok-number.ensures
+    ∙ ap (λ (l : List ℕ). l ++ c.in_ok-behind.field-0 ∷ []) c.loop-at.invariant
+    ∙ ap (λ (n : ℕ). numbers_from c.args.first c.loop-at.at ++ n ∷ []) c.in_ok-behind.ensures.ok
     ∙ sym (one_more c.args.first c.loop-at.at)

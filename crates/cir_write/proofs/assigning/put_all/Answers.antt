@@ -6,4 +6,4 @@ pub loop-at-preserved : goal.loop-at-preserved
 loop-at-preserved c = λ k.
     c.loop-at.invariant k
     ∙ put_more c.args.places.now c.loop-at.at c.args.first c.in_ok-cell.cell k _ _
-    c.loop-at-test.true c.in_ok-cell.ensures (c.in_ok-put.ensures k)
+    c.loop-at-test.true c.in_ok-cell.ensures.ok (c.in_ok-put.ensures k)

@@ -154,7 +154,7 @@ returns g c = λ m x qs z steps is listed kept.
     c.in_ok-push.ensures.items casts.4 kept in
     let free = c.in_ok-free.ensures m.first w1.made y steps refl
     (was_cast (keys_of w1.made) cells c.push.new.self c.in_ok-cast.cast o k w x u z c.in_ok-j.j
-    c.in_ok-push.ensures.items (c.in_ok-j.ensures ∙ ap length c.as_slice-3.ensures.value) many
+    c.in_ok-push.ensures.items (c.in_ok-j.ensures.ok ∙ ap length c.as_slice-3.ensures.value) many
     casts.4.steps) here in (
       record {
         state = y;
@@ -166,6 +166,6 @@ returns g c = λ m x qs z steps is listed kept.
         are_listed = casts.3;
         kept = subst (λ (n : ℕ). IsKept m.first h c.free.new.cells w1.made y
             (steps ++ freed_at (Some n) false y))
-            (c.in_ok-j.ensures ∙ ap length c.as_slice-3.ensures.value ∙ sym many) free;
+            (c.in_ok-j.ensures.ok ∙ ap length c.as_slice-3.ensures.value ∙ sym many) free;
       },
     )

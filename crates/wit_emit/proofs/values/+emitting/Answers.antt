@@ -212,7 +212,7 @@ emit_all-loop-e-preserved t c =
     let whole = at_read (λ l. loop.code ++ V.exprs_code g homes loop.at (length loop.code)
     (bare_exprs l)) es loop.e-index x c.loop-e-test.true c.e-item.is in
     ap (λ (n : ℕ). c.emit.new.code ++ V.exprs_code g homes n (length c.emit.new.code) rest)
-    (c.in_ok-at.ensures ∙ ap (λ (n : ℕ). loop.at + n) c.in_ok-size_of.ensures)
+    (c.in_ok-at.ensures.ok ∙ ap (λ (n : ℕ). loop.at + n) c.in_ok-size_of.ensures)
     ∙ ap (λ (k : P.Code). k ++ V.exprs_code g homes (loop.at + size) (length k) rest)
     c.in_ok-emit.ensures
     ∙ chained loop.code (V.expr_code g homes loop.at (length loop.code) (bare x))
@@ -239,7 +239,7 @@ emit_place-loop-accessor-preserved t c =
       | goal.emit_place-in-Index+in_ok-emit-in-Index+in_ok-index-in-Index+in_ok-push-in-Index w ↦
           let e = bare w.in-Index.e in
           let at : c.in_ok-next.next ≡ top + length indices =
-          c.in_ok-next.ensures
+          c.in_ok-next.ensures.ok
           ∙ ap (λ (n : ℕ). top + n) (c.len.ensures ∙ loop.indices.ok.0) in
           rw (
             w.code-is,
@@ -297,8 +297,8 @@ emit_right-returns-in_ok-push-in-Strict t c =
     (then_ended old c.emit.new.code c.push-in-Strict.new.self
     (V.expr_code g homes (top + 1) (length old) (bare c.args.b.now))
     (op.Bin c.in-Strict.op top top (top + 1) ∷ [])
-    (rw c.in_ok-next-in-Strict.ensures at c.in_ok-emit-in-Strict.ensures)
-    (rw c.in_ok-next-in-Strict.ensures at c.in_ok-push-in-Strict.ensures.ok))
+    (rw c.in_ok-next-in-Strict.ensures.ok at c.in_ok-emit-in-Strict.ensures)
+    (rw c.in_ok-next-in-Strict.ensures.ok at c.in_ok-push-in-Strict.ensures.ok))
 
 pub emit_right-end_jump_zero-requires : goal.emit_right-end_jump_zero-requires
 emit_right-end_jump_zero-requires t c =

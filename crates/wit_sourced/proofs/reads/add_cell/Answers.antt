@@ -33,4 +33,4 @@ returns-clause-places c =
     ∙ c.if-contains_key.false) in
     subst (λ (ds : List ℕ). AreTold c.insert.new.self ds) (sym c.in_ok-push.ensures.ok)
     (told_more c.args.places.now c.insert.new.self cells cell c.in_ok-narrow.field-0 c.requires
-    c.in_ok-insert.ensures.updates none (c.in_ok-narrow.ensures ∙ c.len.ensures))
+    c.in_ok-insert.ensures.updates none (c.in_ok-narrow.ensures.ok ∙ c.len.ensures))

@@ -25,9 +25,9 @@ returns c =
     then_ended old c.emit_indices.new.code c.write.new.code
     (V.indices_code g homes (top + size) (length old) (place_accessors p))
     (P.write_code home (top + size) (indices_count (place_accessors p)) top size)
-    ((rw c.in_ok-top.ensures at c.in_ok-emit_indices.ensures)
+    ((rw c.in_ok-top.ensures.ok at c.in_ok-emit_indices.ensures)
     ∙ ap (λ (a : Accessors Meant). old ++ V.indices_code g homes (top + size) (length old) a) is)
-    ((rw (c.home-home.ensures, c.in_ok-top.ensures, c.indices_count.ensures)
+    ((rw (c.home-home.ensures, c.in_ok-top.ensures.ok, c.indices_count.ensures)
     at c.in_ok-write.ensures)
     ∙ ap (λ (a : Accessors Meant). c.emit_indices.new.code
     ++ P.write_code home (top + size) (indices_count a) top size) is)

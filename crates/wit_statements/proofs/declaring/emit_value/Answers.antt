@@ -16,5 +16,5 @@ returns c =
     rw c.in-Some.is (then_made old c.emit.new.code c.write.new.code
     (V.expr_code g s.homes s.top (length old) e)
     (λ p. E.write_behind g s p (V.size_of g s.homes e) c.args.meant done) c.in_ok-emit.ensures
-    (rw (c.home-home.ensures, c.in_ok-behind.ensures, c.in_ok-size.ensures)
+    (rw (c.home-home.ensures, c.in_ok-behind.ensures.ok, c.in_ok-size.ensures)
     at c.in_ok-write.ensures))

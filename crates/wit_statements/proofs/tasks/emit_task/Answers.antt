@@ -40,8 +40,8 @@ returns-in_ok-push-in-Equal c =
     (λ p. V.expr_code g s.homes (s.top + 1) p (bare c.in-Equal.b.now) ++ last)
     c.in_ok-emit-in-Equal.ensures
     (then_ended one c.emit-in-Equal-2.new.code c.push.new.self b last
-    (rw c.in_ok-next-in-Equal.ensures at c.in_ok-emit-in-Equal-2.ensures)
-    (rw c.in_ok-next-in-Equal.ensures at c.in_ok-push-in-Equal.ensures.ok)))
+    (rw c.in_ok-next-in-Equal.ensures.ok at c.in_ok-emit-in-Equal-2.ensures)
+    (rw c.in_ok-next-in-Equal.ensures.ok at c.in_ok-push-in-Equal.ensures.ok)))
 
 pub returns-in_ok-emit_logs-in-Logs : goal.returns-in_ok-emit_logs-in-Logs
 returns-in_ok-emit_logs-in-Logs c = rw c.in-Logs.is c.in_ok-emit_logs-in-Logs.ensures

@@ -18,11 +18,11 @@ returns-clause-number c =
     c.place_of-place.ensures in
     elim c.if-place-len.branch [
       | then-place-len+in_ok-add w ↦
-          rw w.self-is (c.in_ok-number.ensures
+          rw w.self-is (c.in_ok-narrow.ensures.ok
           ∙ added_place (map made_of old) (map made_of w.add.new.self.keys.calls.items) key
           c.place_of-place.result here
           (omega (arith, size, c.len.ensures, w.if-place-len.true)) w.in_ok-add.ensures.grows)
-      | else-place-len w ↦ rw w.self-is (c.in_ok-number.ensures ∙ here)
+      | else-place-len w ↦ rw w.self-is (c.in_ok-narrow.ensures.ok ∙ here)
     ]
 
 pub returns-clause-there : goal.returns-clause-there

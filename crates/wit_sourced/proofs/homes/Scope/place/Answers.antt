@@ -12,4 +12,4 @@ returns c =
     let home : Placed =
     record { name = c.args.name; home = record { base = s.top; dims = c.args.dims } } in
     placed s t home (s.top + L.slots_of c.args.dims) c.in_ok-push.ensures.items
-    (rw (c.made_elements.ensures, c.as_slice.ensures) at c.in_ok-top.ensures)
+    (rw (c.made_elements.ensures, c.as_slice.ensures) at c.in_ok-top.ensures.ok)

@@ -8,9 +8,9 @@ returns-in-Some c =
     found reads.cells c.args.cell c.in-Some.place.now
     (sym (reads.told c.args.cell) ∙ sym (rw c.in-Some.is at c.get.ensures.value))
 
-pub returns-in_ok-narrow-in-None : goal.returns-in_ok-narrow-in-None
-returns-in_ok-narrow-in-None c =
+pub returns-in-None : goal.returns-in-None
+returns-in-None c =
     let reads = c.args.self.now in
-    c.in_ok-narrow-in-None.ensures ∙ c.len.ensures
-    ∙ sym (missing reads.cells c.args.cell
-    (sym (reads.told c.args.cell) ∙ sym (rw c.in-None.is at c.get.ensures.value)))
+    rw (c.len.ensures ∙ sym (missing reads.cells c.args.cell
+    (sym (reads.told c.args.cell) ∙ sym (rw c.in-None.is at c.get.ensures.value))))
+    at c.narrow.ensures.ok
