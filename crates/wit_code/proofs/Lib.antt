@@ -1,4 +1,5 @@
 pub mod Ends
 pub mod Runs
 pub mod Stack
+pub mod Clearing
 pub mod Numbers

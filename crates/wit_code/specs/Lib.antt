@@ -1,4 +1,5 @@
 pub mod Code
 pub mod Frames
+pub mod Room
 pub mod Seen
 pub mod Table

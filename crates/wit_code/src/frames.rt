@@ -1,9 +1,10 @@
-ghost use Rattle.std.specs.Prelude.{◌≡◌, ◌+◌, ◌-◌, ◌<◌, ◌≤◌, [], ◌∷◌, ◌++◌, length, slice_index};
-ghost use Rattle.std.specs.Prelude.{slice_set, slice_range, replicate, IfOk, OnOk, OnErr};
-ghost use Rattle.wit_code.specs.Frames.{Closes};
+ghost use Rattle.std.specs.Prelude.{◌≡◌, ◌+◌, ◌-◌, ◌<◌, ◌≤◌, ◌^◌, [], ◌∷◌, ◌++◌, length, slice_index};
+ghost use Rattle.std.specs.Prelude.{false, slice_set, slice_range, replicate, IfOk, OnOk};
+ghost use Rattle.wit_code.specs.Frames.{Closes, own_numbers, width_of};
 
+use crate::room::{Room, lengthened, push_zeros, zeros_again};
 use gold_field::Gold;
-use std::alloc::{AllocError, Global};
+use std::alloc::AllocError;
 use std::marker::Model;
 
 /// Whose code runs: the step's own, or that of a procedure, by its number.
@@ -28,44 +29,79 @@ pub struct Caller {
     pub width: usize,
 }
 
+/// A step's own frame of at most so many slots is cleared whole, and no place of it is noted.
+const FEW_SLOTS: usize = 32;
+
 /// The frames of all open calls, on one stack of numbers. The running frame is the last, from
-/// `base` on.
+/// `base` on. The step's own frame, from `first` on, is cleared behind the run: `places` notes
+/// where the step wrote in it, until there are as many notes as slots.
 #[derive(Drop)]
 pub struct Frames {
     numbers: Vec<Gold>,
     callers: Vec<Caller>,
     base: usize,
+    first: usize,
+    places: Vec<usize>,
+    is_full: bool,
 }
 
 impl Model for Frames {
-    ghost use Rattle.std.specs.Prelude.{◌≡◌, ◌≤◌, [], drop, length};
+    ghost use Rattle.std.specs.Prelude.{[], drop};
     ghost use Rattle.wit_code.specs.Frames as F;
-    ghost use Rattle.wit_code.specs.Frames.{opened, width_of};
+    ghost use Rattle.wit_code.specs.Frames.{opened, IsLaid};
 
     ghost Value = { F.Frames };
 
     ghost view = { λ a. record {
       slots = drop a.base a.numbers.items;
       open_calls =
-          opened [] a.callers.items a.numbers.items;
+          opened [] a.callers.items (drop a.first a.numbers.items);
     } };
 
-    ghost invariant = { λ a. (a.base ≡ width_of a.callers.items)
-        × (a.base ≤ length a.numbers.items) };
+    ghost invariant = { λ a. IsLaid a.first a.base a.is_full a.callers.items a.places.items
+        a.numbers.items };
 }
 
 impl Frames {
-    /// One frame, all zeros.
-    pub fn new(alloc: Global, slots: usize) -> Result<Frames, AllocError>
+    /// One frame, all zeros, at the end of the room.
+    pub fn over(room: Room, slots: usize) -> Result<Frames, AllocError>
         ensures { IfOk result (λ f. f ≡ record { slots = replicate slots 0; open_calls = [] }) }
     {
-        let mut numbers = Vec::new(alloc);
-        push_zeros(&mut numbers, slots)?;
+        let Room {
+            zeros,
+            mut places,
+            mut callers,
+        } = room;
+        places.clear();
+        callers.clear();
+        let numbers = lengthened(zeros, slots)?;
+        let first = numbers.len() - slots;
         Ok(Frames {
             numbers,
-            callers: Vec::new(alloc),
-            base: 0,
+            callers,
+            base: first,
+            first,
+            places,
+            is_full: slots <= FEW_SLOTS,
         })
+    }
+
+    /// The room for the next run. It takes as long as the run did, however long the frame is.
+    pub fn into_room(self) -> Room {
+        let Frames {
+            numbers,
+            callers,
+            base: _,
+            first,
+            places,
+            is_full,
+        } = self;
+        let own = up_to_own(numbers, callers.as_slice(), first);
+        Room {
+            zeros: zeros_again(own, places.as_slice(), first, is_full),
+            places,
+            callers,
+        }
     }
 
     /// How many slots the running frame has.
@@ -98,7 +134,17 @@ impl Frames {
         ensures { self.new
             ≡ record { slots = slice_set self.old.slots slot v; open_calls = self.old.open_calls } }
     {
-        self.numbers[self.base + slot] = v;
+        let at = self.base + slot;
+        if self.is_full {
+            self.numbers[at] = v;
+            return;
+        }
+        if self.callers.len() > 0 {
+            self.numbers[at] = v;
+            return;
+        }
+        self.is_full = note(&mut self.places, at, self.numbers.len() - self.first);
+        self.numbers[at] = v;
     }
 
     /// Opens a call, whose parameters are the slots from `first` on.
@@ -120,10 +166,14 @@ impl Frames {
     {
         let width = self.width();
         let start = self.base + first;
+        // Frames that aren't complete would be cleared whole.
+        let was_full = self.is_full;
+        self.is_full = true;
         self.numbers.extend_from_within(start..start + params)?;
         push_zeros(&mut self.numbers, slots - params)?;
         self.callers.push(Caller { resume, width })?;
         self.base += width;
+        self.is_full = was_full;
         Ok(())
     }
 
@@ -140,13 +190,22 @@ impl Frames {
     }
 }
 
-fn push_zeros(numbers: &mut Vec<Gold>, count: usize) -> Result<(), AllocError>
-    ensures ok { OnOk result (numbers.new.items ≡ numbers.old.items ++ replicate count 0) }
-    ensures err { OnErr result (numbers.new.items ≡ numbers.old.items) }
+// The numbers up to the end of the step's own frame.
+fn up_to_own(mut numbers: Vec<Gold>, callers: &[Caller], first: usize) -> Vec<Gold>
+    requires { first + width_of callers.now < 2 ^ 64 }
+    ensures { result.items ≡ own_numbers first callers.now numbers.items }
 {
-    let width = numbers.len();
-    if width > usize::MAX - count {
-        return Err(AllocError);
+    if callers.is_empty() {
+        return numbers;
     }
-    numbers.resize(width + count, Gold::ZERO)
+    numbers.truncate(first + callers[0].width);
+    numbers
+}
+
+// Notes a place, so long as there are fewer notes than `most` and memory for one more. Whether the
+// notes are full.
+fn note(places: &mut Vec<usize>, place: usize, most: usize) -> bool
+    ensures { result ≡ false → places.new.items ≡ places.old.items ++ place ∷ [] }
+{
+    most <= places.len() || places.push(place).is_err()
 }

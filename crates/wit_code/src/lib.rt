@@ -6,8 +6,10 @@ mod code;
 mod frames;
 pub mod laws;
 mod machine;
+mod room;
 mod well_formed;
 
 pub use code::{Op, Proc, Stands, Step, Stop};
 pub use machine::Machine;
+pub use room::Room;
 pub use well_formed::is_well_formed;

@@ -10,8 +10,10 @@ ghost use Rattle.wit_code.specs.Table.{turn_of, unless, written_with};
 
 use crate::code::{Op, Proc, Stop};
 use crate::frames::{Frames, Resume, Running};
+use crate::room::Room;
 use gold_field::{Gold, Op2, binary, unary};
 use std::alloc::{AllocError, AllocFailed, Global};
+use std::mem::replace;
 
 /// At most so many calls are open at once.
 pub const MAX_OPEN_CALLS: usize = 256;
@@ -59,10 +61,10 @@ impl<T: Drop> From<AllocFailed<T>> for Stop {
 }
 
 impl Run {
-    fn start(alloc: Global, code: &Proc, fuel: u64) -> Result<Run, AllocError>
+    fn start(alloc: Global, room: Room, code: &Proc, fuel: u64) -> Result<Run, AllocError>
         ensures { IfOk result (λ r. seen r ≡ start_of code.now fuel) }
     {
-        let frames = Frames::new(alloc, code.slots as usize)?;
+        let frames = Frames::over(room, code.slots as usize)?;
         Ok(Run {
             running: Running::Own,
             place: 0,
@@ -365,12 +367,30 @@ impl Machine {
         ensures table { IsOutcome result (RunsTo procs.now code.now reads.now fuel) }
         ensures outcome { IsOutcome result (λ o. o ≡ outcome_of procs.now code.now reads.now fuel) }
     {
-        run_to_end(alloc, procs, code, reads, fuel)
+        Machine::run_in(alloc, &mut Room::new(alloc), procs, code, reads, fuel)
+    }
+
+    /// The same in a room that runs hand on: then the time goes by what the run does, and not by
+    /// how long the step's frame is. After a stop the room is empty.
+    pub fn run_in(
+        alloc: Global,
+        room: &mut Room,
+        procs: &[Proc],
+        code: &Proc,
+        reads: &[Gold],
+        fuel: u64,
+    ) -> Result<Vec<Gold>, Stop>
+        requires { IsWellFormed procs.now (length reads.now) code.now }
+        ensures table { IsOutcome result (RunsTo procs.now code.now reads.now fuel) }
+        ensures outcome { IsOutcome result (λ o. o ≡ outcome_of procs.now code.now reads.now fuel) }
+    {
+        run_to_end(alloc, room, procs, code, reads, fuel)
     }
 }
 
 fn run_to_end(
     alloc: Global,
+    room: &mut Room,
     procs: &[Proc],
     code: &Proc,
     reads: &[Gold],
@@ -379,13 +399,17 @@ fn run_to_end(
     requires { IsWellFormed procs.now (length reads.now) code.now }
     ensures { IsOutcome result (RunsTo procs.now code.now reads.now fuel) }
 {
-    let mut run = Run::start(alloc, code, fuel)?;
+    let own_room = replace(room, Room::new(alloc));
+    let mut run = Run::start(alloc, own_room, code, fuel)?;
     let mut body = code.body.as_slice();
     loop {
         match run.step(procs, reads, body)? {
             Flow::Stays => {}
             Flow::Moves => body = body_of(procs, code, run.running),
-            Flow::Ends => return Ok(run.written),
+            Flow::Ends => {
+                *room = run.frames.into_room();
+                return Ok(run.written);
+            }
         }
     }
 }

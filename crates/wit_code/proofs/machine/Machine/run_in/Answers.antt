@@ -1,5 +1,5 @@
 use Rattle.wit_code.proofs.Runs.{is_outcome}
-use Rattle.wit_code.proofs.machine.Machine.run.Goals as goal
+use Rattle.wit_code.proofs.machine.Machine.run_in.Goals as goal
 
 pub returns-clause-outcome : goal.returns-clause-outcome
 returns-clause-outcome c =
