@@ -1,7 +1,6 @@
 -- The run of all steps, strand by strand
 use Rattle.std.proofs.Common.{◌≡◌, ◌≢◌, ℕ, zero, suc, ◌+◌, ◌-◌, ◌<◌, ◌≤◌, ◌⊎◌, cond, Bool, List, []}
 use Rattle.std.proofs.Common.{◌∷◌, ◌++◌, length, drop, refl, sym, ◌∙◌, ap, subst, inl, inr, arith}
-use Rattle.std.proofs.lemmas.List.{get_or-take, get_or-drop, length-drop, length-take-le}
 use Rattle.std.proofs.lemmas.List.Folds.{drop_split}
 use Rattle.std.proofs.lemmas.Bool.{cases_lt}
 use Rattle.wit_code.specs.declared.code.Step.{Step}
@@ -10,7 +9,7 @@ use Rattle.flow_core.specs.Net.{reads_of, writes_of}
 use Rattle.flow_core.specs.Flow.{Unreached, Refuses, Gives}
 use Rattle.wit_flow.specs.declared.flow.Strand.{Strand}
 use Rattle.wit_flow.specs.Cells.{Cells, no_values, with_values, numbers_at}
-use Rattle.wit_flow.specs.Run.{no_step, step_at, reads_at, writes_at, reads_in, writes_in, End, Ran}
+use Rattle.wit_flow.specs.Run.{reads_at, writes_at, writes_in, End, Ran}
 use Rattle.wit_flow.specs.Run.{StopsAt, run_steps}
 use Rattle.wit_flow.specs.Cut.{strand_at, part, Follow}
 use Rattle.wit_flow.specs.Plan.{Plan, IsPlan}
@@ -18,7 +17,7 @@ use Rattle.wit_flow.specs.Answers.{start_cells, strand_end, answer_end, answer_o
 use Rattle.wit_flow.specs.Answers.{cells_before, answer_at}
 use Rattle.wit_flow.specs.OneThread.{Ended, Halted, ending, one_thread}
 use Rattle.wit_flow.proofs.Values.{HasOne, with_values_few, with_values_has, with_values_keep}
-use Rattle.wit_flow.proofs.Values.{with_numbers, have_all, in_left, in_right, in_either}
+use Rattle.wit_flow.proofs.Values.{with_numbers, have_all}
 use Rattle.wit_flow.proofs.Runs.{Needs, Fills, run_fills, same_run, run-append, then_end}
 use Rattle.wit_flow.proofs.Runs.{ending_after, steps_end}
 use Rattle.wit_flow.proofs.Spans.{read_in, wrote_in, writes_of_one, reads_of_one, part_at}

@@ -1,7 +1,7 @@
 -- The reads and writes of what `cut` drafts are those of a graph
-use Rattle.std.proofs.Common.{◌≡◌, ℕ, ◌+◌, ◌-◌, ◌<◌, ◌≤◌, List, [], length, get_or, sym, ◌∙◌, ap}
+use Rattle.std.proofs.Common.{◌≡◌, ℕ, ◌+◌, ◌-◌, ◌<◌, ◌≤◌, List, [], length, sym, ◌∙◌, ap}
 use Rattle.std.proofs.Common.{subst, inl, inr, arith}
-use Rattle.std.proofs.Common.{take, drop}
+use Rattle.std.proofs.Common.{drop}
 use Rattle.std.proofs.lemmas.Bool.{cases_eq, cases_lt}
 use Rattle.std.proofs.lemmas.List.{get_or_past}
 use Rattle.wit_code.specs.declared.code.Proc.{Proc}
@@ -11,9 +11,9 @@ use Rattle.flow_core.specs.Drawn.{row, IsDrawn}
 use Rattle.flow_core.proofs.Nets.{in_range}
 use Rattle.wit_flow.specs.declared.drafting.Draft.{Draft}
 use Rattle.wit_flow.specs.declared.flow.Strand.{Strand}
-use Rattle.wit_flow.specs.Run.{reads_at, writes_at, writes_in}
-use Rattle.wit_flow.specs.Cut.{CanCut, strand_at, part}
-use Rattle.wit_flow.specs.Draft.{IsStrand, HasCome}
+use Rattle.wit_flow.specs.Run.{reads_at, writes_at}
+use Rattle.wit_flow.specs.Cut.{CanCut, strand_at}
+use Rattle.wit_flow.specs.Draft.{HasCome}
 use Rattle.wit_flow.proofs.Spans.{part_reads, part_writes, in_order, writes_once_in, take_writes}
 use Rattle.wit_flow.proofs.Spans.{drop_writes}
 

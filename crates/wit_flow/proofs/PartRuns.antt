@@ -1,24 +1,23 @@
 -- The run of one strand's steps, by the sources of what they read
-use Rattle.std.proofs.Common.{◌≡◌, ℕ, zero, suc, ◌+◌, ◌-◌, ◌<◌, ◌≤◌, List, [], ◌∷◌, ◌++◌, map}
-use Rattle.std.proofs.Common.{length, take, drop, get_or, refl, sym, ◌∙◌, ap, subst, arith, Option}
-use Rattle.std.proofs.Common.{Some, unwrap_or, slice_range, append_assoc, length-append}
+use Rattle.std.proofs.Common.{◌≡◌, ℕ, suc, ◌+◌, ◌-◌, ◌<◌, ◌≤◌, List, [], ◌∷◌, ◌++◌, map}
+use Rattle.std.proofs.Common.{length, take, drop, get_or, sym, ◌∙◌, ap, subst, arith, Option}
+use Rattle.std.proofs.Common.{Some, unwrap_or, slice_range, length-append}
 use Rattle.std.proofs.lemmas.List.{append-nil, get_or_append_left, get_or-map, drop_more, drop-drop}
 use Rattle.std.proofs.lemmas.List.{ext_get_or, length-map}
 use Rattle.std.proofs.Math.Seq.{take-add}
 use Rattle.wit_code.specs.declared.code.Step.{Step}
 use Rattle.wit_code.specs.declared.code.Stop.{Stop}
-use Rattle.wit_code.specs.Table.{Outcome, Wrote, Stopped, outcome_of}
+use Rattle.wit_code.specs.Table.{Outcome, Wrote, Stopped}
 use Rattle.flow_core.specs.Counts.{times, IsIn}
 use Rattle.flow_core.specs.Net.{reads_of, writes_of}
 use Rattle.flow_core.proofs.Totals.{is_in_at}
 use Rattle.wit_flow.specs.declared.flow.Source.{Source}
 use Rattle.wit_flow.specs.declared.flow.Source.TheVariants.{Read, Written}
-use Rattle.wit_flow.specs.declared.flow.Strand.{Strand}
 use Rattle.wit_flow.specs.Cells.{Cells, no_values, with_values, number_at, numbers_at}
 use Rattle.wit_flow.specs.Run.{no_step, step_at, reads_at, writes_at, writes_in, fitted}
 use Rattle.wit_flow.specs.Run.{End, Ran, StopsAt, after_values, end_of, run_steps}
 use Rattle.wit_flow.specs.Steps.{IsAmid, step_outcome, written_before, strand_cells}
-use Rattle.wit_flow.specs.Cut.{strand_at, part, Follow}
+use Rattle.wit_flow.specs.Cut.{strand_at, part}
 use Rattle.wit_flow.specs.Plan.{Plan, IsPlan}
 use Rattle.wit_flow.specs.Sources.{IsSource, AreSources, source_at, number_of, IsThere, AreThere}
 use Rattle.wit_flow.specs.Sources.{sources_of, IsKept}

@@ -10,4 +10,4 @@ mod running;
 
 pub use cutting::cut;
 pub use flow::{Flow, Outcome, Source, Strand, StrandOut};
-pub use running::{first_cells, look, put, run_one, run_strand, values_of};
+pub use running::{first_cells, look, put, run_one, run_strand, run_strand_in, values_of};

@@ -15,11 +15,12 @@ use crate::flow::{Flow, Outcome, Source, StrandOut};
 use gold_field::{Gold, P};
 use items::Items;
 use std::alloc::{AllocError, Global};
-use wit_code::{Machine, Proc, Stop};
+use wit_code::{Machine, Proc, Room, Stop};
 
 // The values that code writes, or its stop.
 fn run_code(
     alloc: Global,
+    room: &mut Room,
     procs: &[Proc],
     code: &Proc,
     reads: &[Gold],
@@ -28,7 +29,7 @@ fn run_code(
     requires { IsWellFormed procs.now (length reads.now) code.now }
     ensures { IfOk result (λ r. IsCodeEnd r (outcome_of procs.now code.now reads.now fuel)) }
 {
-    match Machine::run(alloc, procs, code, reads, fuel) {
+    match Machine::run_in(alloc, room, procs, code, reads, fuel) {
         Ok(values) => Ok(Ok(values)),
         Err(Stop::OutOfMemory) => Err(AllocError),
         Err(stop) => Ok(Err(stop)),
@@ -38,6 +39,7 @@ fn run_code(
 // The values that the code of a step writes, or its stop.
 fn run_step(
     alloc: Global,
+    room: &mut Room,
     flow: &Flow,
     at: usize,
     reads: &[Gold],
@@ -53,7 +55,7 @@ fn run_step(
     flow.facts();
     let step = flow.step(at);
     let procs = flow.procs.as_slice();
-    let end = run_code(alloc, procs, &step.code, reads, fuel)?;
+    let end = run_code(alloc, room, procs, &step.code, reads, fuel)?;
     Ok(end)
 }
 
@@ -134,10 +136,11 @@ pub fn run_one(alloc: Global, flow: &Flow, start: &[Gold], fuel: u64) -> Result<
 {
     flow.facts();
     let mut cells = first_cells(alloc, flow, start)?;
+    let mut room = Room::new(alloc);
     for at in 0..flow.step_count() {
         let step = flow.step(at);
         let reads = look(alloc, cells.as_slice(), step.reads.as_slice())?;
-        match run_step(alloc, flow, at, reads.as_slice(), fuel)? {
+        match run_step(alloc, &mut room, flow, at, reads.as_slice(), fuel)? {
             Ok(values) => put(&mut cells, step.writes.as_slice(), values.as_slice()),
             Err(stop) => {
                 return Ok(Outcome::Refused {
@@ -230,12 +233,28 @@ pub fn run_strand(
     requires each { length reads.now ≡ length (reads_of flow.now.graph strand) }
     ensures { IfOk result (λ o. IsStrandOut o (strand_end flow.now fuel strand reads.now)) }
 {
+    run_strand_in(alloc, &mut Room::new(alloc), flow, strand, reads, fuel)
+}
+
+/// The same in a room that runs hand on.
+pub fn run_strand_in(
+    alloc: Global,
+    room: &mut Room,
+    flow: &Flow,
+    strand: u32,
+    reads: &[Gold],
+    fuel: u64,
+) -> Result<StrandOut, AllocError>
+    requires near { strand < length flow.now.strands }
+    requires each { length reads.now ≡ length (reads_of flow.now.graph strand) }
+    ensures { IfOk result (λ o. IsStrandOut o (strand_end flow.now fuel strand reads.now)) }
+{
     flow.facts();
     let part = flow.strand(strand as usize);
     let mut written = Vec::new(alloc);
     for at in part.first..part.first + part.count {
         let numbers = numbers_for(alloc, flow, strand, at as usize, reads, written.as_slice())?;
-        match run_step(alloc, flow, at as usize, numbers.as_slice(), fuel)? {
+        match run_step(alloc, room, flow, at as usize, numbers.as_slice(), fuel)? {
             Ok(values) => append(&mut written, values)?,
             Err(stop) => {
                 return Ok(StrandOut::Refused {

@@ -1,12 +1,10 @@
 use Rattle.std.proofs.Common.{◌≡◌, ◌≤◌, ℕ, List, length, map, subst, sym, ap, ◌∙◌, arith, Result}
 use Rattle.std.proofs.Common.{Vec, Global}
 use Rattle.std.proofs.Common.{unwrap_or, Option}
-use Rattle.std.specs.Prelude.{All, IfOk}
+use Rattle.std.specs.Prelude.{IfOk}
 use Rattle.std.proofs.lemmas.List.{length-map}
-use Rattle.gold_field.specs.declared.gold.TheConstants.{P}
 use Rattle.wit_code.specs.declared.code.Step.{Step}
 use Rattle.wit_code.specs.declared.code.Stop.{Stop}
-use Rattle.wit_code.specs.Table.{Wrote}
 use Rattle.wit_flow.specs.Cells.{held, number_at, numbers_at, with_values}
 use Rattle.wit_flow.specs.Run.{reads_at, writes_at}
 use Rattle.wit_flow.specs.Steps.{step_outcome}

@@ -1,4 +1,4 @@
-use Rattle.std.proofs.Common.{◌≡◌, ℕ, ◌+◌, ◌<◌, List, ◌++◌, length, refl, subst, sym, ap, ◌∙◌}
+use Rattle.std.proofs.Common.{◌≡◌, ℕ, ◌+◌, ◌<◌, List, length, refl, subst, sym, ap, ◌∙◌}
 use Rattle.std.proofs.Common.{arith, Result, Vec, Global}
 use Rattle.std.specs.Prelude.{IfOk}
 use Rattle.wit_code.specs.declared.code.Stop.{Stop}
@@ -11,7 +11,7 @@ use Rattle.wit_flow.specs.Cut.{strand_at}
 use Rattle.wit_flow.specs.Steps.{step_outcome, strand_cells}
 use Rattle.wit_flow.specs.OneThread.{IsCodeEnd, IsStrandOut}
 use Rattle.wit_flow.proofs.PartRuns.{IsRunning, strand_ends, goes_on, stops_at}
-use Rattle.wit_flow.proofs.running.run_strand.Goals as goal
+use Rattle.wit_flow.proofs.running.run_strand_in.Goals as goal
 
 pub overflow_add-at-end : goal.overflow_add-at-end
 overflow_add-at-end c =
