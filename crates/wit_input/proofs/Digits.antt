@@ -8,18 +8,18 @@ use Rattle.std.proofs.Math.Nat.{mul-le-mul_left}
 use Rattle.std.specs.Char.{digit_value}
 use Rattle.wit_input.specs.Numbers.{limited, digits_from}
 
-no : {A : Type 0} (b : Bool) (x y : A) → b ≡ false → (if b then x else y) ≡ y
+pub no : {A : Type 0} (b : Bool) (x y : A) → b ≡ false → (if b then x else y) ≡ y
 no true x y e = cc
 no false x y e = refl
 
-yes : {A : Type 0} (b : Bool) (x y : A) → b ≡ true → (if b then x else y) ≡ x
+pub yes : {A : Type 0} (b : Bool) (x y : A) → b ≡ true → (if b then x else y) ≡ x
 yes true x y e = refl
 yes false x y e = cc
 
 above : (m n : ℕ) → n ≤ m → nat_lt m n ≡ false
 above m n h = grind (arith, nat_tests)
 
-below : (m n : ℕ) → m < n → nat_lt m n ≡ true
+pub below : (m n : ℕ) → m < n → nat_lt m n ≡ true
 below m n h = grind (arith, nat_tests)
 
 grows : (base n d : ℕ) → 1 ≤ base → n ≤ n * base + d

@@ -5,3 +5,4 @@ pub mod Members
 pub mod Steps
 pub mod InputNumbers
 pub mod NoObject
+pub mod ReadBack

@@ -14,5 +14,5 @@ mod values;
 
 pub use fault::InputFault;
 pub use input::read_input;
-pub use laws::inputs_are_numbers;
+pub use laws::{inputs_are_numbers, publics_are_read_back};
 pub use publics::{read_publics, write_publics};
