@@ -6,3 +6,4 @@ pub mod Split
 pub mod OneLoading
 pub mod Answering
 pub mod Resting
+pub mod Asking

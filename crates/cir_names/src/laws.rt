@@ -1,8 +1,9 @@
-//! What holds of every program's loading, as the contract of a function that does nothing.
-ghost use Rattle.std.specs.Prelude.{◌≡◌, ℕ, List, Option, None};
+//! What holds of every program's loading, as contracts of functions that do nothing.
+ghost use Rattle.std.specs.Prelude.{◌≡◌, ◌≢◌, ℕ, List, Option, None};
 ghost use Rattle.out_io.specs.Contents.{Contents};
 ghost use Rattle.cir_ast.specs.Program.{Program};
 ghost use Rattle.cir_ast.specs.declared.refusal.Refusal.{Refusal};
+ghost use Rattle.cir_names.specs.Asking.{IsUnasked};
 ghost use Rattle.cir_names.specs.Loading.{IsLoaded, IsLoadFault};
 
 /// Over the same files a name has one answer: one program, or one refusal of one kind and place,
@@ -21,4 +22,14 @@ pub fn one_loading()
         files name ≡ None → IsLoaded files name library p → ⊥ }
     ensures missing { (files : Contents) (name : List ℕ) (library : Option (List ℕ)) (r : Refusal) →
         files name ≡ None → IsLoadFault files name library r → ⊥ }
+{}
+
+/// A file that the loading of a source doesn't ask for has no part in it: where other files differ in
+/// that one alone, the same program is loaded from them.
+pub fn unasked_files_change_nothing()
+    ensures { (files after : Contents) (source : List ℕ) (library : Option (List ℕ))
+        (name : List ℕ) (p : Program) → IsLoaded files source library p
+        → IsUnasked files source library name
+        → ((other : List ℕ) → other ≢ name → after other ≡ files other)
+        → IsLoaded after source library p }
 {}
