@@ -23,7 +23,7 @@ grown zero y pos = absurd (omega arith)
 grown (suc q) y pos = let less : suc q - 1 ≡ q = omega arith in rw less (omega arith)
 
 -- q - y is -1 times y
-negative : (q y z : ℕ) → 0 < q → z % q ≡ ((q - 1) * y) % q → (q - y % q) % q ≡ z % q
+pub negative : (q y z : ℕ) → 0 < q → z % q ≡ ((q - 1) * y) % q → (q - y % q) % q ≡ z % q
 negative q y z pos e = sum_cancel q y (q - y % q) z pos (opposite q y pos ∙ sym none)
   where
     none : (y + z) % q ≡ 0

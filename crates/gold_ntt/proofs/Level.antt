@@ -28,7 +28,7 @@ half_value q m c d x e is h =
 pub whole_block : (old one two new : List ℕ) (start k w s m : ℕ) → m ≡ 2 ^ k → (w ^ m) % P ≡ P - 1
     → s ≡ (w * w) % P
     → TransformsBlock old one start k s → TransformsBlock one two (start + m) k s
-    → IsMerged two new start m w m
+    → IsMerged two new start m (λ k. w ^ k) m
     → TransformsBlock old new start (suc k) w
 whole_block old one two new start k w s m size half square first second merged =
     let double : 2 ^ suc k ≡ m + m = two-pow-succ k ∙ ap (λ (y : ℕ). y + y) (sym size) in
@@ -150,14 +150,14 @@ one_place a start log w x none low is below =
 pub whole_block_at : (old one two new : List ℕ) (start log w s m : ℕ) → 0 < log → m ≡ 2 ^ (log - 1)
     → HalvesAt w log → s ≡ (w * w) % P
     → TransformsBlock old one start (log - 1) s → TransformsBlock one two (start + m) (log - 1) s
-    → ((j : ℕ) → j < m → get_or new (start + j) 0 ≡ low_of two start m w j)
-    → ((j : ℕ) → j < m → get_or new (start + m + j) 0 ≡ high_of two start m w j)
+    → ((j : ℕ) → j < m → get_or new (start + j) 0 ≡ low_of two start m (λ k. w ^ k) j)
+    → ((j : ℕ) → j < m → get_or new (start + m + j) 0 ≡ high_of two start m (λ k. w ^ k) j)
     → ((p : ℕ) → (p < start) ⊎ (start + (m + m) ≤ p) → get_or new p 0 ≡ get_or two p 0)
     → TransformsBlock old new start log w
 whole_block_at old one two new start log w s m pos size halves square first second low high others =
     let up : suc (log - 1) ≡ log = omega arith in
     let half : (w ^ m) % P ≡ P - 1 = ap (λ (y : ℕ). (w ^ y) % P) size ∙ halves pos in
-    let merged : IsMerged two new start m w m = record {
+    let merged : IsMerged two new start m (λ k. w ^ k) m = record {
       low = low;
       high = high;
       low_left = λ k l h. absurd (omega arith);

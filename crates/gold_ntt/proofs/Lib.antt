@@ -1,5 +1,6 @@
 pub mod Butterfly
 pub mod Division
+pub mod Dots
 pub mod Evaluation
 pub mod Interpolation
 pub mod Inverse
@@ -10,6 +11,8 @@ pub mod Quotient
 pub mod ReversalLaws
 pub mod Reversing
 pub mod RootLaws
+pub mod Spreading
 pub mod Sums
 pub mod Transforms
+pub mod Twiddles
 pub mod Values

@@ -6,26 +6,27 @@ use Rattle.std.proofs.lemmas.Nat.{mul-mod_first}
 use Rattle.std.proofs.lemmas.Bool.{cases_lt}
 use Rattle.std.proofs.lemmas.Grind.{get_or_default_zero}
 use Rattle.gold_field.specs.declared.gold.TheConstants.{P}
+use Rattle.gold_ntt.proofs.Values.{same_times}
 
--- the two places of pair k after the merge
-abbrev pub low_of : List ℕ → ℕ → ℕ → ℕ → ℕ → ℕ
-low_of old start half root k =
-    (get_or old (start + k) 0 + root ^ k * get_or old (start + half + k) 0 % P) % P
+-- the two places of pair k after the merge, whose factor is t k
+abbrev pub low_of : List ℕ → ℕ → ℕ → (ℕ → ℕ) → ℕ → ℕ
+low_of old start half t k =
+    (get_or old (start + k) 0 + t k * get_or old (start + half + k) 0 % P) % P
 
-abbrev pub high_of : List ℕ → ℕ → ℕ → ℕ → ℕ → ℕ
-high_of old start half root k =
-    (get_or old (start + k) 0 + (P - root ^ k * get_or old (start + half + k) 0 % P)) % P
+abbrev pub high_of : List ℕ → ℕ → ℕ → (ℕ → ℕ) → ℕ → ℕ
+high_of old start half t k =
+    (get_or old (start + k) 0 + (P - t k * get_or old (start + half + k) 0 % P)) % P
 
-pub record IsMerged (old new : List ℕ) (start half root j : ℕ) : Type 0 where
-  pub low : (k : ℕ) → k < j → get_or new (start + k) 0 ≡ low_of old start half root k
-  pub high : (k : ℕ) → k < j → get_or new (start + half + k) 0 ≡ high_of old start half root k
+pub record IsMerged (old new : List ℕ) (start half : ℕ) (t : ℕ → ℕ) (j : ℕ) : Type 0 where
+  pub low : (k : ℕ) → k < j → get_or new (start + k) 0 ≡ low_of old start half t k
+  pub high : (k : ℕ) → k < j → get_or new (start + half + k) 0 ≡ high_of old start half t k
   pub low_left : (k : ℕ) → j ≤ k → k < half → get_or new (start + k) 0 ≡ get_or old (start + k) 0
   pub high_left : (k : ℕ) → j ≤ k → k < half → get_or new (start + half + k) 0
       ≡ get_or old (start + half + k) 0
   pub others : (p : ℕ) → (p < start) ⊎ (start + (half + half) ≤ p) → get_or new p 0 ≡ get_or old p 0
 
-pub not_begun : (old : List ℕ) (start half root : ℕ) → IsMerged old old start half root 0
-not_begun old start half root = record {
+pub not_begun : (old : List ℕ) (start half : ℕ) (t : ℕ → ℕ) → IsMerged old old start half t 0
+not_begun old start half t = record {
   low = λ k h. absurd (omega arith);
   high = λ k h. absurd (omega arith);
   low_left = λ k h l. refl;
@@ -45,13 +46,13 @@ second_set : (a : List ℕ) (i j x y : ℕ) → j < length a → get_or (set (se
 second_set a i j x y l = let long : j < length (set a i x) = omega (arith, length-set a i x)
     in get_or-set_same (set a i x) j y 0 long
 
-pub one_merged : (old new : List ℕ) (start half root j twiddle e o odd x y : ℕ)
-    → j < half → start + (half + half) ≤ length new → IsMerged old new start half root j
-    → twiddle ≡ root ^ j % P
+pub one_merged : (old new : List ℕ) (start half : ℕ) (t : ℕ → ℕ) (j twiddle e o odd x y : ℕ)
+    → j < half → start + (half + half) ≤ length new → IsMerged old new start half t j
+    → twiddle % P ≡ t j % P
     → e ≡ get_or new (start + j) e → o ≡ get_or new (start + half + j) o
     → odd ≡ (twiddle * o) % P → x ≡ (e + odd) % P → y ≡ (e + (P - odd)) % P
-    → IsMerged old (set (set new (start + j) x) (start + half + j) y) start half root (j + 1)
-one_merged old new start half root j twiddle e o odd x y low fits merged power read_e read_o product
+    → IsMerged old (set (set new (start + j) x) (start + half + j) y) start half t (j + 1)
+one_merged old new start half t j twiddle e o odd x y low fits merged same read_e read_o product
     sum difference =
     let first : e ≡ get_or new (start + j) 0 =
     read_e ∙ get_or_default_zero new (start + j) e (omega arith) in
@@ -62,13 +63,13 @@ one_merged old new start half root j twiddle e o odd x y low fits merged power r
     let is_high : get_or new (start + half + j) 0 ≡ get_or old (start + half + j) 0 =
     merged.high_left j (omega arith) low in
     let b : ℕ = get_or old (start + half + j) 0 in
-    let is_odd : odd ≡ root ^ j * b % P =
+    let is_odd : odd ≡ t j * b % P =
     product ∙ ap (λ (z : ℕ). (twiddle * z) % P) (second ∙ is_high)
-    ∙ ap (λ (z : ℕ). (z * b) % P) power ∙ mul-mod_first (root ^ j) b P in
-    let is_x : x ≡ low_of old start half root j =
+    ∙ same_times P b twiddle (t j) same in
+    let is_x : x ≡ low_of old start half t j =
     sum ∙ ap (λ (z : ℕ). (z + odd) % P) (first ∙ is_low)
     ∙ ap (λ (z : ℕ). (get_or old (start + j) 0 + z) % P) is_odd in
-    let is_y : y ≡ high_of old start half root j =
+    let is_y : y ≡ high_of old start half t j =
     difference ∙ ap (λ (z : ℕ). (z + (P - odd)) % P) (first ∙ is_low)
     ∙ ap (λ (z : ℕ). (get_or old (start + j) 0 + (P - z)) % P) is_odd in
     record {
@@ -84,7 +85,7 @@ one_merged old new start half root j twiddle e o odd x y low fits merged power r
                 (start + z) 0) at
                 ∙ first_set new (start + j) (start + half + j) x y (λ e. omega arith) (omega arith)
                 ∙ is_x
-                ∙ ap (λ (z : ℕ). low_of old start half root z) (sym at)
+                ∙ ap (λ (z : ℕ). low_of old start half t z) (sym at)
           ];
       high = λ k h.
           elim (cases_lt k j) [
@@ -97,7 +98,7 @@ one_merged old new start half root j twiddle e o odd x y low fits merged power r
                 ap (λ (z : ℕ). get_or (set (set new (start + j) x) (start + half + j) y)
                 (start + half + z) 0) at
                 ∙ second_set new (start + j) (start + half + j) x y (omega arith) ∙ is_y
-                ∙ ap (λ (z : ℕ). high_of old start half root z) (sym at)
+                ∙ ap (λ (z : ℕ). high_of old start half t z) (sym at)
           ];
       low_left = λ k h l.
           two_sets new (start + j) (start + half + j) (start + k) x y (λ e. omega arith)

@@ -36,7 +36,7 @@ reversed-odd k i =
     ∙ ap (λ (y : ℕ). 1 * 2 ^ k + reversed k y) half ∙ omega arith
 
 -- the top bit becomes the lowest
-top : (k h r : ℕ) → h < 2 → r < 2 ^ k → reversed (suc k) (h * 2 ^ k + r) ≡ 2 * reversed k r + h
+pub top : (k h r : ℕ) → h < 2 → r < 2 ^ k → reversed (suc k) (h * 2 ^ k + r) ≡ 2 * reversed k r + h
 top zero h r two low =
     let none : r ≡ 0 = omega arith in
     let is : h * 2 ^ 0 + r ≡ h = omega arith in

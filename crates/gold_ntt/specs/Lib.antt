@@ -1,3 +1,4 @@
+pub mod Coset
 pub mod Polynomial
 pub mod Reversal
 pub mod Transform

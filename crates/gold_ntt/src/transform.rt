@@ -53,7 +53,7 @@ fn next_reversed(j: usize, k: u32) -> usize
 }
 
 /// Every place takes what the place with the reversed bits had.
-fn reverse(a: &mut [Gold], log: u32)
+pub fn reverse(a: &mut [Gold], log: u32)
     requires small { log ≤ 20 }
     requires whole { length a.old ≡ 2 ^ log }
     ensures { (p : ℕ) → p < 2 ^ log → slice_index a.new p ≡ slice_index a.old (reversed log p) }

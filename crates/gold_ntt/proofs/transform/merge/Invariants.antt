@@ -5,6 +5,6 @@ use Rattle.gold_ntt.proofs.transform.merge.Given as goal
 
 abbrev pub invariant-loop-j : goal.invariant-loop-j
 invariant-loop-j l = record {
-  merged : IsMerged l.fn.a l.a l.start l.half l.root l.j;
+  merged : IsMerged l.fn.a l.a l.start l.half (λ k. l.root ^ k) l.j;
   power : l.twiddle ≡ l.root ^ l.j % P;
 }
