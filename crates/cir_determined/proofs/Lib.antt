@@ -1,0 +1,5 @@
+pub mod Totals
+pub mod Digits
+pub mod Normals
+pub mod Steps
+pub mod Sound

@@ -1,0 +1,6 @@
+pub mod Circuit
+pub mod Marks
+pub mod Bits
+pub mod Rules
+pub mod Certificate
+pub mod Determined
