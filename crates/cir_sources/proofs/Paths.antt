@@ -1,12 +1,13 @@
 -- Names of files: folders and segments.
 use Rattle.std.proofs.Common.{◌≡◌, ℕ, Bool, true, false, List, [], ◌∷◌, ◌++◌, refl, sym, ap, arith}
-use Rattle.std.proofs.Common.{ne_eqb}
-use Rattle.std.specs.Prelude.{◌||◌}
+use Rattle.std.proofs.Common.{ne_eqb, map}
+use Rattle.std.specs.Borrow.{Bor}
+use Rattle.std.specs.Prelude.{◌||◌, fold}
 use Rattle.std.specs.List.{list_any, join_with_byte}
 use Rattle.std.proofs.lemmas.Bool.{or_right}
-use Rattle.std.proofs.lemmas.List.{append-nil}
+use Rattle.std.proofs.lemmas.List.{append-nil, map-append}
 use Rattle.std.proofs.lemmas.List.Folds.{list_any-append}
-use Rattle.cir_sources.specs.Names.{folder_of, is_slash}
+use Rattle.cir_sources.specs.Names.{folder_of, is_slash, keep, keep_all, keep_folder}
 
 or_false : (b : Bool) → (b || false) ≡ b
 or_false b = grind arith
@@ -42,3 +43,18 @@ pub joined_further : (segment : List ℕ) (segments : List (List ℕ))
 joined_further segment [] = sym (append-nil segment)
 joined_further segment (next ∷ segments) =
     ap (λ t. segment ++ 47 ∷ t) (joined_further next segments)
+
+pub all_kept : (kept : List (List ℕ)) (folders : List (List ℕ)) (file : List ℕ)
+    → keep_all kept (folders ++ file ∷ []) ≡ keep (fold keep_folder kept folders) file
+all_kept kept [] file = refl
+all_kept kept (folder ∷ []) file = refl
+all_kept kept (folder ∷ (next ∷ folders)) file =
+    all_kept (keep_folder kept folder) (next ∷ folders) file
+
+-- the same of lists that are read behind references
+pub all_kept_now : (folders : List (Bor (List ℕ))) (file : Bor (List ℕ))
+    → keep_all [] (map (λ s. s.now) (folders ++ file ∷ []))
+    ≡ keep (fold keep_folder [] (map (λ s. s.now) folders)) file.now
+all_kept_now folders file =
+    rw (map-append (λ (s : Bor (List ℕ)). s.now) folders (file ∷ []))
+    (all_kept [] (map (λ s. s.now) folders) file.now)

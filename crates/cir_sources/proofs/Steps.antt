@@ -1,7 +1,7 @@
 -- How far the loading has come, from the first file on.
-use Rattle.std.proofs.Common.{◌≡◌, ℕ, ◌+◌, ◌-◌, ◌<◌, ◌≤◌, Bool, true, false, List, [], ◌∷◌, ◌++◌}
+use Rattle.std.proofs.Common.{◌≡◌, ℕ, ◌<◌, ◌≤◌, Bool, true, false, List, [], ◌∷◌, ◌++◌}
 use Rattle.std.proofs.Common.{length, reverse, refl, sym, ap, ◌∙◌, subst, cond, arith, Option, None}
-use Rattle.std.proofs.Common.{Some, Vec, String, string_bytes, Ok, Err, inl, inr, ◌||◌}
+use Rattle.std.proofs.Common.{Some, Vec, String, string_bytes, Ok, Err, inl, inr}
 use Rattle.std.specs.Prelude.{All}
 use Rattle.std.specs.Str.{IsUtf8, bytes_eq}
 use Rattle.std.proofs.lemmas.Bool.{false_from_ne_true, or_cases}

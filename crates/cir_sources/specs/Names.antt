@@ -1,5 +1,5 @@
 -- The names of files: folders, and the segments between the slashes.
-use Rattle.std.specs.Prelude.{ℕ, ◌==◌, Bool, true, false, List, [], ◌∷◌, ◌++◌, reverse, fold}
+use Rattle.std.specs.Prelude.{ℕ, ◌==◌, Bool, true, false, List, [], ◌∷◌, ◌++◌, reverse}
 use Rattle.std.specs.Prelude.{if◌then◌else◌, not, codes, ◌-◌, length, slice_get}
 use Rattle.std.specs.Option.{option_map_or}
 use Rattle.std.specs.List.{list_any, slice_split, join_with_byte}
@@ -32,9 +32,29 @@ keep kept segment =
     if bytes_eq segment (codes "..")
     then (if has_folder kept then without_last kept else segment ∷ kept) else segment ∷ kept
 
--- the name with its segments `.` and `..` carried out
+abbrev pub is_empty : List ℕ → Bool
+is_empty [] = true
+is_empty (c ∷ cs) = false
+
+-- the same of a folder's segment: an empty one means nothing
+abbrev pub keep_folder : List (List ℕ) → List ℕ → List (List ℕ)
+keep_folder kept segment = if is_empty segment then kept else keep kept segment
+
+-- the same of a name's segments, of which the last one names the file
+abbrev pub keep_all : List (List ℕ) → List (List ℕ) → List (List ℕ)
+keep_all kept [] = kept
+keep_all kept (file ∷ []) = keep kept file
+keep_all kept (folder ∷ (next ∷ segments)) = keep_all (keep_folder kept folder) (next ∷ segments)
+
+-- what stands before the first segment: a slash where the name begins at the root
+abbrev pub root_of : List ℕ → List ℕ
+root_of [] = []
+root_of (c ∷ cs) = if is_slash c then 47 ∷ [] else []
+
+-- the name with its segments `.` and `..` carried out, and without empty segments of folders
 abbrev pub resolved : List ℕ → List ℕ
-resolved name = join_with_byte 47 (reverse (fold keep [] (slice_split is_slash name)))
+resolved name =
+    root_of name ++ join_with_byte 47 (reverse (keep_all [] (slice_split is_slash name)))
 
 -- whether a slash has to stand between the folder and a name: not behind another one, and not at
 -- the start

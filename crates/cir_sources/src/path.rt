@@ -1,8 +1,8 @@
 //! The names of included files.
-ghost use Rattle.std.specs.Prelude.{◌≡◌, IfOk, OnOk, map, reverse};
+ghost use Rattle.std.specs.Prelude.{◌≡◌, [], ◌++◌, IfOk, OnOk, map, reverse};
 ghost use Rattle.std.specs.List.{slice_split, join_with_byte};
-ghost use Rattle.cir_sources.specs.Names.{folder_of, is_slash, keep, resolved, wants_slash};
-ghost use Rattle.cir_sources.specs.Names.{in_folder, has_folder};
+ghost use Rattle.cir_sources.specs.Names.{folder_of, has_folder, in_folder, is_slash, keep, keep_all};
+ghost use Rattle.cir_sources.specs.Names.{keep_folder, resolved, root_of, wants_slash};
 ghost use Rattle.cir_sources.specs.Includes.{beside};
 ghost use Rattle.cir_sources.specs.Steps.{last_first};
 
@@ -73,16 +73,57 @@ fn joined(alloc: Global, segments: &[&[u8]]) -> Result<Vec<u8>, AllocError>
     Ok(name)
 }
 
-// The name with its segments `.` and `..` carried out.
+fn keep_folder<'n>(kept: &mut Vec<&'n [u8]>, segment: &'n [u8]) -> Result<(), AllocError>
+    ensures { OnOk result
+        (last_first kept.new.items ≡ keep_folder (last_first kept.old.items) segment.now) }
+{
+    if segment.is_empty() {
+        Ok(())
+    } else {
+        keep(kept, segment)
+    }
+}
+
+// The segments that are kept of a name's.
+#[tactic(auto, using(crate::proofs::Paths::all_kept_now))]
+fn kept_of<'n>(alloc: Global, segments: &[&'n [u8]]) -> Result<Vec<&'n [u8]>, AllocError>
+    ensures { IfOk result (λ v. last_first v.items
+        ≡ keep_all [] (map (λ s. s.now) segments.now)) }
+{
+    let Some((file, folders)) = segments.split_last() else {
+        return Ok(Vec::new(alloc));
+    };
+    let mut kept = Vec::new(alloc);
+    for segment in folders {
+        keep_folder(&mut kept, segment)?;
+    }
+    keep(&mut kept, file)?;
+    Ok(kept)
+}
+
+// The path, behind a slash where the name begins at the root.
+fn rooted(alloc: Global, name: &[u8], path: Vec<u8>) -> Result<Vec<u8>, AllocError>
+    ensures { IfOk result (λ v. v.items ≡ root_of name.now ++ path.items) }
+{
+    match name {
+        [b'/', ..] => {
+            let mut rooted = Vec::new(alloc);
+            rooted.push(b'/')?;
+            rooted.extend_from_slice(path.as_slice())?;
+            Ok(rooted)
+        }
+        _ => Ok(path),
+    }
+}
+
+// The name with its segments `.` and `..` carried out, and without empty segments of folders.
 fn resolved(alloc: Global, name: &[u8]) -> Result<Vec<u8>, AllocError>
     ensures { IfOk result (λ v. v.items ≡ resolved name.now) }
 {
     let segments = segments(alloc, name)?;
-    let mut kept = Vec::new(alloc);
-    for segment in segments.as_slice() {
-        keep(&mut kept, segment)?;
-    }
-    let name = joined(alloc, kept.as_slice())?;
+    let kept = kept_of(alloc, segments.as_slice())?;
+    let path = joined(alloc, kept.as_slice())?;
+    let name = rooted(alloc, name, path)?;
     Ok(name)
 }
 

@@ -70,3 +70,18 @@ fn follows_includes_depth_first(rt: HostRuntime) {
     write(&rt, &mut store, "dir/c", b"");
     have_names(&rt, &mut store, "dir/a", b"dir/a dir/b d dir/c ");
 }
+
+#[test]
+fn passes_over_empty_segments_of_folders(rt: HostRuntime) {
+    let mut store = MemStore::new(rt.alloc());
+    write(
+        &rt,
+        &mut store,
+        "sub//y",
+        b"include \"../t\"; include \"/t\";",
+    );
+    write(&rt, &mut store, "t", b"include \"lib//./z\";");
+    write(&rt, &mut store, "lib/z", b"");
+    write(&rt, &mut store, "sub/t", b"");
+    have_names(&rt, &mut store, "sub//y", b"sub//y t lib/z sub/t ");
+}
