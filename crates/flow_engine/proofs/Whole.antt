@@ -1,5 +1,5 @@
 -- The outcome where every strand is done
-use Rattle.std.proofs.Common.{◌≡◌, ℕ, ◌<◌, ◌≤◌, ◌⊎◌, true, List, map, length, get_or, refl, sym}
+use Rattle.std.proofs.Common.{◌≡◌, ℕ, ◌<◌, ◌⊎◌, List, map, length, get_or, refl, sym}
 use Rattle.std.proofs.Common.{◌∙◌, ap, subst, inl, inr, arith, Option, Some, None, unwrap_or}
 use Rattle.std.proofs.lemmas.Bool.{cases_lt}
 use Rattle.std.proofs.lemmas.List.{get_or-map, get_or_past, length-map}
@@ -9,7 +9,7 @@ use Rattle.flow_core.specs.Flow.{HasValue, start_of}
 use Rattle.flow_core.specs.Quiet.{IsBelow}
 use Rattle.flow_core.proofs.Totals.{is_in_at, place_of}
 use Rattle.flow_core.proofs.Nets.{in_range}
-use Rattle.flow_board.specs.Closed.{ClosedWords, cell_in, done_in, least_in, IsDoneBelow}
+use Rattle.flow_board.specs.Closed.{ClosedWords, cell_in, least_in, IsDoneBelow}
 use Rattle.flow_board.specs.Closed.{HasOnlyAnswers}
 use Rattle.flow_board.proofs.Last.{done_below, only_answers}
 use Rattle.flow_board.proofs.Openings.{start_near}

@@ -9,7 +9,8 @@ use flow_core::Graph;
 use gold_field::Gold;
 use std::alloc::{AllocError, Global};
 use std::marker::Model;
-use wit_flow::{Flow, StrandOut, run_strand};
+use wit_code::Room;
+use wit_flow::{Flow, StrandOut, run_strand_in};
 
 /// A flow with start values and the fuel of each step: it stands for what the strands answer, and
 /// runs them.
@@ -78,6 +79,7 @@ impl<'s> FlowAnswers<'s> {
     pub(crate) fn run_in_order(
         &self,
         alloc: Global,
+        room: &mut Room,
         strand: u32,
         reads: &[Gold],
     ) -> Result<StrandOut, AllocError>
@@ -87,16 +89,22 @@ impl<'s> FlowAnswers<'s> {
     {
         let flow = self.flow;
         flow.facts();
-        run_strand(alloc, flow, strand, reads, self.fuel)
+        run_strand_in(alloc, room, flow, strand, reads, self.fuel)
     }
 
-    /// Runs a strand on the values of the cells that it reads.
-    pub fn run(&self, alloc: Global, strand: u32, reads: &[Gold]) -> Result<StrandOut, AllocError>
+    /// Runs a strand on the values of the cells that it reads, in a room that runs hand on.
+    pub fn run(
+        &self,
+        alloc: Global,
+        room: &mut Room,
+        strand: u32,
+        reads: &[Gold],
+    ) -> Result<StrandOut, AllocError>
         requires near { strand < self.now.plan.graph.strands }
         requires reads { AreRead (answers_of self.now) strand reads.now }
         ensures { IfOk result (λ o. IsAnswer o (answer_of (answers_of self.now) strand)) }
     {
         self.facts();
-        self.run_in_order(alloc, strand, reads)
+        self.run_in_order(alloc, room, strand, reads)
     }
 }

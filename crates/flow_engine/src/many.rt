@@ -35,7 +35,7 @@ fn pairs(alloc: Global, answers: &FlowAnswers<'_>) -> Result<Vec<(u32, Gold)>, A
 
 // A pool in which the strands without predecessors are ready. The last to go in is the first to
 // come out, so the strands go in from the last one down: neighbours lie side by side in memory.
-fn first_pool(alloc: Global, graph: &Graph) -> Result<Pool, AllocError> {
+fn first_pool(alloc: Global, graph: &Graph, workers: u32) -> Result<Pool, AllocError> {
     let strands = graph.strands;
     let mut state = PoolState::make(alloc, strands, &[])?;
     for above in 0..strands {
@@ -44,7 +44,7 @@ fn first_pool(alloc: Global, graph: &Graph) -> Result<Pool, AllocError> {
             let _has_room = state.put(strand);
         }
     }
-    Ok(Pool::make(state))
+    Ok(Pool::make(state, workers))
 }
 
 // Runs workers over a board, and closes it.
@@ -63,7 +63,7 @@ fn run_board<R: Threads + Wait + Sync, G: Gate>(
     answers.facts();
     let graph = answers.graph();
     let start = pairs(alloc, answers)?;
-    let pool = first_pool(alloc, graph)?;
+    let pool = first_pool(alloc, graph, workers)?;
     let (board, mut seat) = Board::make(alloc, graph, start.as_slice(), own)?;
     let seats = cut_seats(alloc, &board, &mut seat, workers)?;
     let job = Job {

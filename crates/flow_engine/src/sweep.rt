@@ -12,7 +12,7 @@ use flow_board::Words;
 use gold_field::Gold;
 use items::Items;
 use std::alloc::{AllocError, Global};
-use wit_code::Stop;
+use wit_code::{Room, Stop};
 use wit_flow::{Outcome, StrandOut, first_cells, look, put, values_of};
 
 // Whether a strand is done, as the words say.
@@ -65,6 +65,7 @@ fn copy_done(
 // Runs a strand on the cells. Its stop, if it has one.
 fn run_next(
     alloc: Global,
+    room: &mut Room,
     answers: &FlowAnswers<'_>,
     cells: &mut Items<Option<Gold>>,
     strand: u32,
@@ -77,7 +78,7 @@ fn run_next(
     let graph = answers.graph();
     let reads = look(alloc, cells.as_slice(), graph.reads_of(strand))?;
     let writes = graph.writes_of(strand);
-    match answers.run_in_order(alloc, strand, reads.as_slice())? {
+    match answers.run_in_order(alloc, room, strand, reads.as_slice())? {
         StrandOut::Values(values) => {
             put(cells, writes, values.as_slice());
             Ok(None)
@@ -92,6 +93,7 @@ fn run_next(
 // Goes on by one strand: with its stop, if it has one.
 fn sweep_one(
     alloc: Global,
+    room: &mut Room,
     answers: &FlowAnswers<'_>,
     words: &Words,
     cells: &mut Items<Option<Gold>>,
@@ -106,7 +108,7 @@ fn sweep_one(
         copy_done(alloc, answers, words, cells, strand)?;
         return Ok(None);
     }
-    run_next(alloc, answers, cells, strand)
+    run_next(alloc, room, answers, cells, strand)
 }
 
 // The outcome once all strands have answered.
@@ -180,8 +182,10 @@ fn run_rest(alloc: Global, answers: &FlowAnswers<'_>, words: &Words) -> Result<O
     answers.facts();
     let graph = answers.graph();
     let mut cells = first_cells(alloc, answers.flow(), answers.start())?;
+    let mut room = Room::new(alloc);
     for strand in 0..graph.strands {
-        if let Some((step, stop)) = sweep_one(alloc, answers, words, &mut cells, strand)? {
+        let stop = sweep_one(alloc, &mut room, answers, words, &mut cells, strand)?;
+        if let Some((step, stop)) = stop {
             return Ok(Outcome::Refused { step, stop, cells });
         }
     }

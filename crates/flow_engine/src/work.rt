@@ -12,6 +12,7 @@ use flow_pool::Pool;
 use gold_field::Gold;
 use std::alloc::{AllocError, Global};
 use std::sync::Wait;
+use wit_code::Room;
 use wit_flow::StrandOut;
 
 /// What all workers of a run share.
@@ -26,12 +27,13 @@ pub struct Job<'a, 'g, 's, G> {
 /// What a worker keeps from strand to strand.
 #[derive(Drop)]
 struct Desk {
-    // The strands that it runs next, the last one first.
+    // The strands that it runs next, the last one first: those that it made ready, and those that it
+    // took from the pool.
     mine: Vec<u32>,
-    // The strands that its own last one made ready.
-    ready: Vec<u32>,
     // The values of the cells that its strand reads.
     reads: Vec<Gold>,
+    // What its runs hand on.
+    room: Room,
 }
 
 // Puts the values of the cells that the seat's strand reads on the desk.
@@ -60,15 +62,18 @@ fn gather(
     Ok(())
 }
 
-// Of the strands that have become ready the last is this worker's next one, and the pool gets the
-// others.
-fn share_out<R: Wait>(rt: &R, pool: &Pool, desk: &mut Desk) {
-    if let Some(last) = desk.ready.pop() {
-        pool.put_all(rt, desk.ready.as_slice());
-        if desk.mine.push(last).is_err() {
-            pool.put(rt, last);
-        }
+// Where the pool has too few strands for the other workers, it gets this one's, but for the later
+// half if the others find enough. Those that became ready first go first: behind them the most may
+// stand.
+fn share_out<R: Wait>(rt: &R, pool: &Pool, mine: &mut Vec<u32>) {
+    let missing = pool.missing();
+    if missing == 0 || mine.len() < 2 {
+        return;
     }
+    let count = missing.min(mine.len() - 1).max(mine.len() / 2);
+    pool.put_all(rt, &mine[..count]);
+    mine.rotate_left(count);
+    mine.truncate(mine.len() - count);
 }
 
 // Puts a strand's values, tells its successors and gives it up as done.
@@ -122,11 +127,13 @@ fn run_taken<R: Wait, G: Gate>(
 {
     job.gate.enter(strand);
     gather(job.board, job.answers, seat, strand, &mut desk.reads)?;
-    match job.answers.run(alloc, strand, desk.reads.as_slice())? {
+    match job
+        .answers
+        .run(alloc, &mut desk.room, strand, desk.reads.as_slice())?
+    {
         StrandOut::Values(values) => {
-            desk.ready.clear();
-            hand_in(rt, job, seat, strand, values.as_slice(), &mut desk.ready);
-            share_out(rt, job.pool, desk);
+            hand_in(rt, job, seat, strand, values.as_slice(), &mut desk.mine);
+            share_out(rt, job.pool, &mut desk.mine);
         }
         StrandOut::Refused { .. } => job.board.refuse(seat),
     }
@@ -201,8 +208,8 @@ pub fn work<R: Wait, G: Gate>(rt: &R, alloc: Global, job: &Job<'_, '_, '_, G>, s
     job.pool.enter(rt);
     let mut desk = Desk {
         mine: Vec::new(alloc),
-        ready: Vec::new(alloc),
         reads: Vec::new(alloc),
+        room: Room::new(alloc),
     };
     for _ in rt.forever() {
         let Some(strand) = next(rt, job.pool, &mut desk.mine) else {

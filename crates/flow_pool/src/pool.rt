@@ -1,4 +1,5 @@
 use crate::state::PoolState;
+use std::sync::atomic::{AtomicU64, Ordering};
 use std::sync::{Condvar, Mutex, Wait};
 
 /// `next_some` hands out at most so many strands beside the one that is asked for, and no more than
@@ -13,15 +14,28 @@ const SHARE: usize = 64;
 pub struct Pool {
     state: Mutex<PoolState>,
     changed: Condvar,
+    // How many workers there are beside the one that asks.
+    others: u64,
+    // How many strands are ready, for a look without the lock.
+    left: AtomicU64,
 }
 
 impl Pool {
-    /// Takes no memory.
-    pub fn make(state: PoolState) -> Pool {
+    /// For so many workers. Takes no memory.
+    pub fn make(state: PoolState, workers: u32) -> Pool {
+        let left = state.left() as u64;
         Pool {
             state: Mutex::new(state),
             changed: Condvar::new(),
+            others: workers.saturating_sub(1) as u64,
+            left: AtomicU64::new(left),
         }
+    }
+
+    /// How many strands are missing, so that each other worker would find one if it came now. It
+    /// takes no lock, and what it says may have changed since.
+    pub fn missing(&self) -> usize {
+        self.others.saturating_sub(self.left.load(Ordering::SeqCst)) as usize
     }
 
     /// A worker calls this once, before it first asks for a strand.
@@ -34,16 +48,17 @@ impl Pool {
         self.put_all(rt, &[strand]);
     }
 
-    /// Adds strands under one lock, and wakes workers for them.
+    /// Adds strands under one lock, the first of them to be taken first, and wakes workers for them.
     pub fn put_all<R: Wait>(&self, rt: &R, strands: &[u32]) {
         if strands.is_empty() {
             return;
         }
         let mut state = self.state.lock(rt);
-        for strand in strands {
+        for strand in strands.iter().rev() {
             let _put = state.put(*strand);
         }
         let rests = state.has_resting();
+        self.left.store(state.left() as u64, Ordering::SeqCst);
         drop(state);
         if rests && strands.len() == 1 {
             self.changed.notify_one();
@@ -56,6 +71,7 @@ impl Pool {
     pub fn next<R: Wait>(&self, rt: &R) -> Option<u32> {
         let mut state = self.state.lock(rt);
         if let Some(strand) = state.take() {
+            self.left.store(state.left() as u64, Ordering::SeqCst);
             return Some(strand);
         }
         if state.rest() {
@@ -70,6 +86,7 @@ impl Pool {
             }
             if let Some(strand) = state.take() {
                 state.wake();
+                self.left.store(state.left() as u64, Ordering::SeqCst);
                 return Some(strand);
             }
         }
@@ -92,6 +109,7 @@ impl Pool {
                 }
             }
         }
+        self.left.store(state.left() as u64, Ordering::SeqCst);
         drop(state);
         more.reverse();
         Some(strand)
