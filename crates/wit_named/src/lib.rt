@@ -2,5 +2,7 @@
 #![tactic(auto)]
 
 mod naming;
+mod once;
 
 pub use naming::{Member, Naming, names_of};
+pub use once::Once;

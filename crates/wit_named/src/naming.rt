@@ -1,5 +1,6 @@
 //! What a task names: the variables and signals, and the signals of components by their indices.
 //! More may be named than the task reads.
+use crate::once::Once;
 use cir_ast::program::{Accessor, Expr, LogArgument, Meant, Place};
 use cir_known::{touched_by, touched_by_loop};
 use cir_texts::{Texts, Wanted};
@@ -19,33 +20,17 @@ pub struct Member<'e> {
 /// What is named so far.
 #[derive(Drop)]
 pub struct Naming<'e> {
-    pub variables: Vec<u32>,
-    pub signals: Vec<u32>,
+    pub variables: Once,
+    pub signals: Once,
     pub members: Vec<Member<'e>>,
     pub indices: Vec<&'e Expr>,
-}
-
-fn contains(numbers: &[u32], n: u32) -> bool {
-    for number in numbers {
-        if *number == n {
-            return true;
-        }
-    }
-    false
-}
-
-fn add_once(numbers: &mut Vec<u32>, n: u32) -> Result<(), AllocError> {
-    if !contains(numbers.as_slice(), n) {
-        numbers.push(n)?;
-    }
-    Ok(())
 }
 
 impl<'e> Naming<'e> {
     fn new(alloc: Global) -> Naming<'e> {
         Naming {
-            variables: Vec::new(alloc),
-            signals: Vec::new(alloc),
+            variables: Once::new(alloc),
+            signals: Once::new(alloc),
             members: Vec::new(alloc),
             indices: Vec::new(alloc),
         }
@@ -53,8 +38,8 @@ impl<'e> Naming<'e> {
 
     fn add_name(&mut self, meant: Meant) -> Result<(), AllocError> {
         match meant {
-            Meant::Variable(n) => add_once(&mut self.variables, n),
-            Meant::Signal(_, n) => add_once(&mut self.signals, n),
+            Meant::Variable(n) => self.variables.add(n),
+            Meant::Signal(_, n) => self.signals.add(n),
             _ => Ok(()),
         }
     }
@@ -157,13 +142,13 @@ impl<'e> Naming<'e> {
         assigned: &[u32],
         declared: &[u32],
     ) -> Result<(), AllocError> {
-        for n in assigned {
-            add_once(&mut self.variables, *n)?;
-        }
-        let mut outer = Vec::new(alloc);
+        self.variables.add_all(assigned)?;
+        let mut inner = Once::new(alloc);
+        inner.add_all(declared)?;
+        let mut outer = Once::new(alloc);
         for n in self.variables.as_slice() {
-            if !contains(declared, *n) {
-                outer.push(*n)?;
+            if !inner.contains(*n) {
+                outer.add(*n)?;
             }
         }
         self.variables = outer;
@@ -195,7 +180,7 @@ pub fn names_of<'e>(alloc: Global, task: Task<'e>) -> Result<Naming<'e>, AllocEr
             texts.add_assign(a)?;
             naming.add_texts(&texts)?;
             for target in targets {
-                add_once(&mut naming.variables, target.variable)?;
+                naming.variables.add(target.variable)?;
             }
         }
         Task::Executes(a, _) => {
