@@ -13,7 +13,7 @@ ghost use Rattle.cir_meaning.specs.Values.{Value as AnyValue};
 ghost use Rattle.cir_steps.specs.RunSteps.{shaped_map};
 ghost use Rattle.cir_steps.specs.Step as S;
 ghost use Rattle.wit_sourced.specs.Loads.{input_of};
-ghost use Rattle.wit_sourced.specs.declared.homes.Sought.TheVariants as name;
+ghost use Rattle.wit_sourced.specs.declared.names.Sought.TheVariants as name;
 ghost use Rattle.cir_make.specs.Arrays.{IsArray, IsArrayOf, StandsIn, input_at, sourced_by};
 ghost use Rattle.cir_make.specs.Arrays.{stored_at, value_behind};
 ghost use Rattle.cir_make.specs.Cells.{cell_in, source_by};

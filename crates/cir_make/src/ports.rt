@@ -6,7 +6,7 @@ ghost use Rattle.cir_meaning.specs.Frame.{entry_at, is_inner};
 ghost use Rattle.cir_meaning.specs.Reading.{find_signal};
 ghost use Rattle.cir_meaning.specs.Run.{Wires};
 ghost use Rattle.cir_steps.specs.Step as S;
-ghost use Rattle.wit_sourced.specs.declared.homes.Sought.TheVariants as name;
+ghost use Rattle.wit_sourced.specs.declared.names.Sought.TheVariants as name;
 ghost use Rattle.cir_make.specs.Arrays.{IsArrayOf, IsPortOf, IsSizedBy, StandsIn, is_part};
 ghost use Rattle.cir_make.specs.Arrays.{is_there, part_at};
 ghost use Rattle.wit_lower.specs.Homes.{Port};

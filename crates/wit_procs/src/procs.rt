@@ -84,10 +84,7 @@ fn arguments(alloc: Global, shapes: &[Vec<u64>]) -> Result<Scope, AllocError>
     ensures { IfOk result (λ scope. scope_of scope
         ≡ L.arguments_scope 0 (map (λ d. d.items) shapes.now) L.no_scope) }
 {
-    let mut scope = Scope {
-        homes: Vec::new(alloc),
-        top: 0,
-    };
+    let mut scope = Scope::new(alloc);
     for at in 0..shapes.len() {
         let dims = Items::from_slice(alloc, shapes[at].as_slice())?;
         scope.declare(narrow(at as u64)?, dims)?;

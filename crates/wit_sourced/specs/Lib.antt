@@ -1,6 +1,9 @@
 pub mod Behind
+pub mod Ends
 pub mod Loaded
 pub mod Loads
+pub mod Named
+pub mod Order
 pub mod Same
 pub mod Shown
 pub mod Told

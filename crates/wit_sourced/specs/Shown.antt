@@ -1,16 +1,10 @@
 -- What the code's own types stand for.
-use Rattle.std.specs.Prelude.{if◌then◌else◌, List, [], ◌∷◌, Option, Some}
+use Rattle.std.specs.Prelude.{List, [], ◌∷◌}
 use Rattle.wit_lower.specs.Homes as L
-use Rattle.wit_sourced.specs.declared.homes.Sought.{Sought}
-use Rattle.wit_sourced.specs.declared.homes.Sought.TheVariants as sought
 use Rattle.wit_sourced.specs.declared.homes.Home.{Home}
 use Rattle.wit_sourced.specs.declared.homes.Placed.{Placed}
 use Rattle.wit_sourced.specs.declared.homes.Scope.{Scope}
-
-abbrev pub sought_name : Sought → L.Name
-sought_name (sought.Variable n) = L.Variable n
-sought_name (sought.Signal n) = L.Signal n
-sought_name (sought.Port n j text) = L.Port n j text.now
+pub use Rattle.wit_sourced.specs.Named.{sought_name}
 
 abbrev pub home_of : Home → L.Home
 home_of h = record { base = h.base; dims = h.dims }
@@ -28,9 +22,3 @@ homes_of ps = homes_above [] ps
 
 abbrev pub scope_of : Scope → L.Scope
 scope_of s = record { homes = homes_of s.homes.items; top = s.top }
-
--- the home that is found last
-abbrev pub found_from : Option L.Home → L.Name → List Placed → Option L.Home
-found_from found x [] = found
-found_from found x (p ∷ ps) =
-    found_from (if L.same_name x (sought_name p.name) then Some (home_of p.home) else found) x ps

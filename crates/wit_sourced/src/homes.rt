@@ -1,22 +1,12 @@
 //! Where numbers stand in a frame.
-ghost use Rattle.std.specs.Prelude.{◌≡◌, option_map, take, IfOk, OnOk};
-ghost use Rattle.std.specs.Option.{option_copied};
-ghost use Rattle.wit_lower.specs.Homes as L;
-ghost use Rattle.wit_sourced.specs.Behind.{IsBehind, with_home};
-ghost use Rattle.wit_sourced.specs.Shown.{sought_name, home_of, homes_of, scope_of};
+ghost use Rattle.wit_sourced.specs.Order.{AreEndsOf};
 
+use crate::ends::Ends;
+use crate::names::{Key, Sought};
 use cir_arrays::made_elements;
 use items::Items;
 use numbers::behind;
 use std::alloc::{AllocError, Global};
-
-/// The name of what has a home: a variable, a signal, or a signal of an element of a component.
-#[derive(Clone, Copy)]
-pub enum Sought<'a> {
-    Variable(u32),
-    Signal(u32),
-    Port(u32, u64, &'a [u8]),
-}
 
 /// The first slot of an array, and its dimensions.
 #[derive(Drop)]
@@ -37,35 +27,54 @@ pub struct Placed<'a> {
 pub struct Scope<'a> {
     pub homes: Vec<Placed<'a>>,
     pub top: u32,
-}
-
-impl Sought<'_> {
-    /// Whether this is the name that is looked for.
-    pub fn is(self, sought: Sought) -> bool
-        ensures { result ≡ L.same_name (sought_name sought.entry) (sought_name self.entry) }
-    {
-        match (sought, self) {
-            (Sought::Variable(n), Sought::Variable(m)) => n == m,
-            (Sought::Signal(n), Sought::Signal(m)) => n == m,
-            (Sought::Port(n, j, a), Sought::Port(m, k, b)) => n == m && j == k && a == b,
-            _ => false,
-        }
-    }
+    ends: Ends<Key>,
+    ghost ended: { AreEndsOf ends homes.items },
 }
 
 impl<'a> Scope<'a> {
+    ghost use Rattle.std.specs.Prelude.{◌≡◌, [], ◌∷◌, ◌++◌, option_map, take, IfOk, OnOk};
+    ghost use Rattle.std.specs.Option.{option_copied};
+    ghost use Rattle.wit_lower.specs.Homes as L;
+    ghost use Rattle.wit_sourced.specs.Behind.{IsBehind, with_home};
+    ghost use Rattle.wit_sourced.specs.Named.{sought_name};
+    ghost use Rattle.wit_sourced.specs.Shown.{home_of, homes_of, scope_of};
+
+    /// Nothing can be named.
+    pub fn new(alloc: Global) -> Scope<'a>
+        ensures { scope_of result ≡ record { homes = []; top = 0 } }
+    {
+        Scope {
+            homes: Vec::new(alloc),
+            top: 0,
+            ends: Ends::new(alloc),
+        }
+    }
+
     /// The home of a name.
     pub fn find(&self, sought: Sought) -> Option<&Home>
         ensures { option_map home_of (option_copied result)
             ≡ L.find (sought_name sought.entry) (homes_of self.now.homes.items) }
     {
-        let mut found = None;
-        for placed in self.homes.as_slice() {
-            if placed.name.is(sought) {
-                found = Some(&placed.home);
+        let homes = self.homes.as_slice();
+        let mut left = self.ends.of(sought.key()).min(homes.len());
+        while left > 0 {
+            left -= 1;
+            if homes[left].name.is(sought) {
+                return Some(&homes[left].home);
             }
         }
-        found
+        None
+    }
+
+    /// One more home.
+    fn add(&mut self, name: Sought<'a>, home: Home) -> Result<(), AllocError>
+        ensures homes { OnOk result (self.new.homes.items
+            ≡ self.old.homes.items ++ record { name = name.entry; home = home } ∷ []) }
+        ensures top { self.new.top ≡ self.old.top }
+    {
+        self.ends.note(name.key(), self.homes.len())?;
+        self.homes.push(Placed { name, home })?;
+        Ok(())
     }
 
     /// A new home is the next slots.
@@ -75,8 +84,7 @@ impl<'a> Scope<'a> {
     {
         let base = self.top;
         let top = behind(base, made_elements(dims.as_slice()))?;
-        let home = Home { base, dims };
-        self.homes.push(Placed { name, home })?;
+        self.add(name, Home { base, dims })?;
         self.top = top;
         Ok(())
     }
@@ -94,22 +102,17 @@ impl<'a> Scope<'a> {
     pub fn copied(&self, alloc: Global) -> Result<Scope<'a>, AllocError>
         ensures { IfOk result (λ s. scope_of s ≡ scope_of self.now) }
     {
-        let mut homes = Vec::with_capacity(alloc, self.homes.len())?;
+        let mut copy = Scope {
+            homes: Vec::with_capacity(alloc, self.homes.len())?,
+            top: self.top,
+            ends: Ends::new(alloc),
+        };
         for placed in self.homes.as_slice() {
             let dims = Items::from_slice(alloc, placed.home.dims.as_slice())?;
-            let home = Home {
-                base: placed.home.base,
-                dims,
-            };
-            homes.push(Placed {
-                name: placed.name,
-                home,
-            })?;
+            let base = placed.home.base;
+            copy.add(placed.name, Home { base, dims })?;
         }
-        Ok(Scope {
-            homes,
-            top: self.top,
-        })
+        Ok(copy)
     }
 
     /// What was declared since has no home any more.

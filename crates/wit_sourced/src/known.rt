@@ -15,8 +15,9 @@ ghost use Rattle.wit_sourced.specs.Loaded.{loaded_sources};
 ghost use Rattle.wit_sourced.specs.Shown.{home_of};
 
 use crate::elements::{is_inside, offset};
-use crate::homes::{Home, Sought};
+use crate::homes::Home;
 use crate::loaded::{CallValue, Called, Loaded};
+use crate::names::Sought;
 use crate::same::is_same;
 use crate::sources::Input;
 use cir_arrays::all_known;

@@ -3,17 +3,21 @@
 #![tactic(auto)]
 
 mod elements;
+mod ends;
 mod homes;
 mod known;
 mod loaded;
+mod names;
 mod reads;
 mod same;
 mod sources;
 
 pub use elements::{is_inside, offset};
-pub use homes::{Home, Placed, Scope, Sought};
+pub use ends::Ends;
+pub use homes::{Home, Placed, Scope};
 pub use known::{is_listed, number_of};
 pub use loaded::{CallValue, Called, Loaded, component_dims};
+pub use names::{Key, Sought};
 pub use reads::Reads;
 pub use same::is_same;
 pub use sources::{Input, Named, Shape, Source, Sources, emit_sources};

@@ -5,7 +5,8 @@ ghost use Rattle.wit_lower.specs.Sources as R;
 ghost use Rattle.wit_sourced.specs.Loads.{input_of, shape_of, source_of};
 ghost use Rattle.wit_sourced.specs.Shown.{homes_of, sought_name, scope_of};
 
-use crate::homes::{Scope, Sought};
+use crate::homes::Scope;
+use crate::names::Sought;
 use crate::reads::Reads;
 use gold_field::Gold;
 use items::Items;
@@ -67,10 +68,7 @@ impl<'a> Scope<'a> {
         ensures { IfOk result (λ s. scope_of s ≡ R.homes_from (map shape_of shapes.now)
             record { homes = []; top = 0 }) }
     {
-        let mut scope = Scope {
-            homes: Vec::with_capacity(alloc, shapes.len())?,
-            top: 0,
-        };
+        let mut scope = Scope::new(alloc);
         for shape in shapes {
             let dims = Items::from_slice(alloc, shape.dims)?;
             scope.place(shape.name, dims)?;

@@ -17,10 +17,12 @@ loop-placed-preserved c =
     let rest = drop (loop.placed-index + 1) list in
     let copy = housed x c.in_ok-dims.dims in
     let same : placed_of copy ≡ placed_of x =
-    ap (λ (ds : List ℕ). placed_of (housed x ds)) (c.in_ok-dims.ensures ∙ c.as_slice.ensures) in
-    ap (λ (ps : List Placed). homes_above (homes_of ps) rest) c.in_ok-push.ensures.items
-    ∙ ap (λ (hs : L.Homes). homes_above hs rest) (newest [] loop.homes.items copy
-    ∙ ap (λ (p : L.Placed). p ∷ homes_of loop.homes.items) same)
-    ∙ sym (at_read (λ l. homes_above (homes_of loop.homes.items) l) list loop.placed-index x
-    c.loop-placed-test.true c.placed-item.is)
-    ∙ loop.invariant
+    ap (λ (ds : List ℕ). placed_of (housed x ds)) (c.in_ok-dims.ensures ∙ c.as_slice.ensures) in (
+      ap (λ (ps : List Placed). homes_above (homes_of ps) rest) c.in_ok-add.ensures.homes
+          ∙ ap (λ (hs : L.Homes). homes_above hs rest) (newest [] loop.copy.homes.items copy
+          ∙ ap (λ (p : L.Placed). p ∷ homes_of loop.copy.homes.items) same)
+          ∙ sym (at_read (λ l. homes_above (homes_of loop.copy.homes.items) l) list
+          loop.placed-index x c.loop-placed-test.true c.placed-item.is)
+          ∙ loop.invariant.0,
+      c.in_ok-add.ensures.top ∙ loop.invariant.1,
+    )

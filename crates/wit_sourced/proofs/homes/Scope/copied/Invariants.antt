@@ -4,5 +4,5 @@ use Rattle.wit_sourced.proofs.homes.Scope.copied.Given as goal
 
 abbrev pub invariant-loop-placed : goal.invariant-loop-placed
 invariant-loop-placed l =
-    homes_above (homes_of l.homes.items) (drop l.placed-index l.placed-items)
-    ≡ homes_of l.self.homes.items
+    (homes_above (homes_of l.copy.homes.items) (drop l.placed-index l.placed-items)
+    ≡ homes_of l.self.homes.items) × (l.copy.top ≡ l.self.top)
