@@ -14,6 +14,7 @@ ghost use Rattle.lig_prover.specs.Transform.{values_at};
 use crate::masks::{put_test_masks, row_mask};
 use crate::transform::{evaluate, masked_row};
 use gold_field::Gold;
+use gold_ntt::Coset;
 use items::Items;
 use lig_layout::{Params, Vectors};
 use lig_merkle::Hash;
@@ -127,16 +128,29 @@ pub fn evaluated<R: Threads + Sync>(
     requires fits { All (λ coefs. length coefs ≤ 2 ^ log) polynomials.now }
     ensures { IfOk result (λ v. v.items ≡ map (values_at log) polynomials.now) }
 {
+    let coset = Coset::of(alloc, log)?;
+    evaluated_at(rt, alloc, polynomials, &coset)
+}
+
+fn evaluated_at<R: Threads + Sync>(
+    rt: &R,
+    alloc: Global,
+    polynomials: &[Items<Gold>],
+    coset: &Coset,
+) -> Result<Vec<Items<Gold>>, AllocError>
+    requires { All (λ coefs. length coefs ≤ 2 ^ coset.now.log) polynomials.now }
+    ensures { IfOk result (λ v. v.items ≡ map (values_at coset.now.log) polynomials.now) }
+{
     each_place(
         rt,
         alloc,
         polynomials.len(),
         |k: usize| -> Result<Items<Gold>, AllocError>
-            requires { (k < length polynomials.now) × (log ≤ 20)
-                × All (λ coefs. length coefs ≤ 2 ^ log) polynomials.now }
+            requires { (k < length polynomials.now)
+                × All (λ coefs. length coefs ≤ 2 ^ coset.now.log) polynomials.now }
             ensures { IfOk result (λ v. v
-                ≡ values_at log (slice_index_or polynomials.entry.now k [])) }
-        { values_of(alloc, polynomials, k, log) },
+                ≡ values_at coset.entry.now.log (slice_index_or polynomials.entry.now k [])) }
+        { values_of(alloc, polynomials, k, coset) },
     )
 }
 
@@ -144,13 +158,12 @@ fn values_of(
     alloc: Global,
     polynomials: &[Items<Gold>],
     k: usize,
-    log: u32,
+    coset: &Coset,
 ) -> Result<Items<Gold>, AllocError>
     requires inside { k < length polynomials.now }
-    requires small { log ≤ 20 }
-    requires fits { All (λ coefs. length coefs ≤ 2 ^ log) polynomials.now }
-    ensures { IfOk result (λ v. v ≡ values_at log (slice_index_or polynomials.now k [])) }
+    requires fits { All (λ coefs. length coefs ≤ 2 ^ coset.now.log) polynomials.now }
+    ensures { IfOk result (λ v. v ≡ values_at coset.now.log (slice_index_or polynomials.now k [])) }
 {
-    let values = evaluate(alloc, polynomials[k].as_slice(), log)?;
+    let values = evaluate(alloc, coset, polynomials[k].as_slice())?;
     Ok(Items::of(values))
 }

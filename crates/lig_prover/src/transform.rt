@@ -11,7 +11,7 @@ ghost use Rattle.lig_proof.specs.ProofBytes.{AreValues};
 ghost use Rattle.lig_prover.specs.Transform.{values_at};
 
 use gold_field::Gold;
-use gold_ntt::{coset_ntt, intt, padded, scale_by_powers};
+use gold_ntt::{Coset, intt, padded, scale_by_powers};
 use lig_layout::Params;
 use lig_proof::row_polynomial;
 use std::alloc::{AllocError, Global};
@@ -29,14 +29,13 @@ pub fn number_in(values: &[Gold], at: usize) -> Gold
     }
 }
 
-/// The values of a polynomial at 7 times the powers of the root of order `2^log`.
-pub fn evaluate(alloc: Global, coefs: &[Gold], log: u32) -> Result<Vec<Gold>, AllocError>
-    requires small { log ≤ 20 }
-    requires fits { length coefs.now ≤ 2 ^ log }
-    ensures { IfOk result (λ v. v.items ≡ values_at log coefs.now) }
+/// The values of a polynomial at all points of a coset.
+pub fn evaluate(alloc: Global, coset: &Coset, coefs: &[Gold]) -> Result<Vec<Gold>, AllocError>
+    requires { length coefs.now ≤ 2 ^ coset.now.log }
+    ensures { IfOk result (λ v. v.items ≡ values_at coset.now.log coefs.now) }
 {
-    let mut values = padded(alloc, coefs, 1usize << log)?;
-    coset_ntt(&mut values);
+    let mut values = padded(alloc, coefs, 1usize << coset.log)?;
+    coset.transform(&mut values, coefs.len());
     Ok(values)
 }
 
