@@ -1,4 +1,4 @@
-use Rattle.std.proofs.Common.{ℕ, ◌<◌, ◌↔◌, List, IsTrue, ◌∙◌, sym, ap}
+use Rattle.std.proofs.Common.{ℕ, ◌<◌, ◌↔◌, List, IsTrue, length, ◌∙◌, sym, ap}
 use Rattle.lig_proof.specs.Proving.{AreSystems}
 use Rattle.lig_auditor.specs.Opened.{RowsAgree, rows_in}
 use Rattle.lig_auditor.proofs.Concluding.{lifted}
@@ -22,3 +22,7 @@ returns g c =
           (λ k low. sym (same k low)) all),
     ))
     c.rows_agree.ensures
+
+pub rows_agree-requires-clause-widths : goal.rows_agree-requires-clause-widths
+rows_agree-requires-clause-widths g c κs within = λ k low.
+    ap (λ xs. length (rows_in xs k)) c.deref.ensures.value ∙ c.in_ok-rows.ensures.widths k low

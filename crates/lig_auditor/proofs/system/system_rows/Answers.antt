@@ -28,3 +28,6 @@ returns-clause-rows g c = λ system are k low.
     (c.deref.ensures.value ∙ c.in_ok-combined.ensures) are c.requires.repetition in
     polynomials_are_one p (row_at p whole k) (rows_in c.in_ok-rows.rows.items k) (system c.args.t k)
     c.requires.opening.params (c.in_ok-rows.ensures.rows k low) (due k low)
+
+pub returns-clause-widths : goal.returns-clause-widths
+returns-clause-widths g c = λ k low. (c.in_ok-rows.ensures.rows k low).degree.count

@@ -4,7 +4,7 @@ use Rattle.gold_ntt.specs.Polynomial.{sum_to, eval_at}
 use Rattle.lig_proof.specs.Columns.{row_value}
 use Rattle.lig_proof.specs.Points.{code_point}
 use Rattle.lig_auditor.specs.Opened.{rows_in}
-use Rattle.lig_auditor.proofs.system.system_value.Given as goal
+use Rattle.lig_auditor.proofs.system.combined_rows.Given as goal
 
 abbrev pub invariant-loop-k : goal.invariant-loop-k
 invariant-loop-k l =
