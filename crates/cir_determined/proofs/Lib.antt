@@ -3,3 +3,8 @@ pub mod Digits
 pub mod Normals
 pub mod Steps
 pub mod Sound
+pub mod Marking
+pub mod Powers
+pub mod Factors
+pub mod Kept
+pub mod Verdicts

@@ -1,5 +1,6 @@
 -- What the normal form of a constraint keeps.
-use Rattle.std.proofs.Common.{◌≡◌, ℕ, ◌+◌, ◌-◌, ◌*◌, ◌%◌, ◌<◌, ◌↔◌, List, [], ◌∷◌, ◌++◌, Option, Some}
+use Rattle.std.proofs.Common.{◌≡◌, ℕ, ◌+◌, ◌-◌, ◌*◌, ◌%◌, ◌<◌, ◌↔◌, List, [], ◌∷◌, ◌++◌, Option}
+use Rattle.std.proofs.Common.{Some}
 use Rattle.std.proofs.Common.{None, arith, refl, ap, sym, ◌∙◌, mod-lt, lit<, subst}
 use Rattle.std.proofs.lemmas.List.Elements.{All-nil, All-cons, All-head, All-tail, All-append}
 use Rattle.gold_field.specs.declared.form.Term.{Term}
@@ -77,7 +78,7 @@ rest-naming n None (Some k) q a b c =
 rest-naming n None None q a b c = c
 
 -- the form of minus a list's numbers
-minus_form : (n : ℕ) (ts : List Term) (f : Number) → IsNaming n ts → value_of ts ≡ f
+pub minus_form : (n : ℕ) (ts : List Term) (f : Number) → IsNaming n ts → value_of ts ≡ f
     → (value_of (form_of n (negated f)) ≡ negated f) × IsWithin n (form_of n (negated f))
 minus_form n ts f h e =
     let same : value_of (negative ts) ≡ negated f = negative-value ts ∙ ap negated e in (

@@ -11,16 +11,17 @@ use Rattle.cir_determined.specs.declared.rule.Rule.{Rule}
 use Rattle.cir_determined.specs.declared.rule.Rule.TheVariants.{Solve, Bool as Boolean, Bits}
 use Rattle.cir_determined.specs.Circuit.{Circuit, is_input, normalized, in_normal_form}
 use Rattle.cir_determined.specs.Marks.{Marks, opening}
-use Rattle.cir_determined.specs.Rules.{AppliesTo, place_of, shown, with_known, with_boolean, with_all_known}
-use Rattle.cir_determined.specs.Rules.{rest_of, is_named}
+use Rattle.cir_determined.specs.Rules.{AppliesTo, place_of, shown}
+use Rattle.cir_determined.specs.Rules.{shown_from, is_named}
 use Rattle.cir_determined.specs.Certificate.{AllApply, shown_by, IsCertificate}
 use Rattle.cir_determined.specs.Determined.{Determines}
 use Rattle.cir_determined.proofs.Normals.{normalized-means, normalized-rises, normalized-within}
-use Rattle.cir_determined.proofs.Steps.{named_unknown, IsSound, IsMet, solved, boolean_wire, bits_same}
+use Rattle.cir_determined.proofs.Steps.{named_unknown, IsSound, IsMet, solved, boolean_wire}
+use Rattle.cir_determined.proofs.Steps.{bits_same}
 
 solve_at : (s t : Assignment) (n : ℕ) (m : Marks) (o : Option Constraint) (c w : ℕ)
     → IfSome o (IsMet s t n) → IsSound s t m → AppliesTo o m (Solve c w)
-    → IsSound s t (with_known w m)
+    → IsSound s t (shown_from o m (Solve c w))
 solve_at s t n m None c w met h r = absurd r
 solve_at s t n m (Some k) c w met h r = record { known = each; boolean = h.boolean }
   where
@@ -35,7 +36,7 @@ solve_at s t n m (Some k) c w met h r = record { known = each; boolean = h.boole
 
 boolean_at : (s t : Assignment) (n : ℕ) (m : Marks) (o : Option Constraint) (c w : ℕ)
     → IfSome o (IsMet s t n) → IsSound s t m → AppliesTo o m (Boolean c w)
-    → IsSound s t (with_boolean w m)
+    → IsSound s t (shown_from o m (Boolean c w))
 boolean_at s t n m None c w met h r = absurd r
 boolean_at s t n m (Some k) c w met h r = record { known = h.known; boolean = each }
   where
@@ -52,7 +53,7 @@ boolean_at s t n m (Some k) c w met h r = record { known = h.known; boolean = ea
 
 bits_at : (s t : Assignment) (n : ℕ) (m : Marks) (o : Option Constraint) (c : ℕ)
     → IfSome o (IsMet s t n) → IsSound s t m → AppliesTo o m (Bits c)
-    → IsSound s t (with_all_known (rest_of o) m)
+    → IsSound s t (shown_from o m (Bits c))
 bits_at s t n m None c met h r = absurd r
 bits_at s t n m (Some k) c met h r = record { known = each; boolean = h.boolean }
   where

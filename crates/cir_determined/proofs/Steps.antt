@@ -1,11 +1,14 @@
 -- What each rule shows holds at any two assignments that satisfy its constraint.
-use Rattle.std.proofs.Common.{◌≡◌, ◌≢◌, ℕ, ◌+◌, ◌-◌, ◌*◌, ◌^◌, ◌%◌, ◌<◌, ◌≤◌, ◌==◌, ◌⊎◌, true, false}
-use Rattle.std.proofs.Common.{not, List, [], ◌∷◌, map, length, All, arith, refl, ap, sym, ◌∙◌, inl, inr, lit<}
+use Rattle.std.proofs.Common.{◌≡◌, ◌≢◌, ℕ, ◌+◌, ◌-◌, ◌*◌, ◌^◌, ◌%◌, ◌<◌, ◌≤◌, ◌==◌, ◌⊎◌, true}
+use Rattle.std.proofs.Common.{false}
+use Rattle.std.proofs.Common.{not, List, [], ◌∷◌, map, length, All, arith, refl, ap, sym, ◌∙◌, inl}
+use Rattle.std.proofs.Common.{inr, lit<}
 use Rattle.std.specs.Prelude.{filter}
 use Rattle.std.proofs.lemmas.Nat.{mul-mod_first}
 use Rattle.std.proofs.lemmas.Bool.{eqb-true, or_cases, or_left, or_right, cases_Bool, false≢true}
 use Rattle.std.proofs.lemmas.List.{length-map}
-use Rattle.std.proofs.lemmas.List.Elements.{All-nil, All-cons, All-head, All-weaker, All-filter, All-map}
+use Rattle.std.proofs.lemmas.List.Elements.{All-nil, All-cons, All-head, All-weaker, All-filter}
+use Rattle.std.proofs.lemmas.List.Elements.{All-map}
 use Rattle.std.proofs.lemmas.List.Elements.{filter_passes}
 use Rattle.std.proofs.lemmas.List.Filters.{sum_by-filter_both}
 use Rattle.gold_field.specs.declared.form.Term.{Term}
@@ -161,7 +164,7 @@ boolean_wire s k w h says =
     by (inr f) (inr z) = omega (arith, is_zero s w k.b f.1 z)
 
 -- Bits: the sum of the terms is the factor times a sum of powers
-abbrev coefs : List Term → List ℕ
+abbrev pub coefs : List Term → List ℕ
 coefs us = map (λ u. u.coef) us
 
 abbrev powers : ℕ → List ℕ → List ℕ
@@ -217,7 +220,7 @@ digits : (s : ℕ → ℕ) (us : List Term) → All (λ u. s u.signal ≤ 1) us
 digits s us h = All-map (λ (b : ℕ). b ≤ 1) (λ u. s u.signal) us h
 
 -- bits of the same number are the same
-same_bits : (s t : ℕ → ℕ) (us : List Term) → AreBits us → us ≢ [] → All (λ u. 0 < u.coef) us
+same_bits : (s t : ℕ → ℕ) (us : List Term) → AreBits (coefs us) → us ≢ [] → All (λ u. 0 < u.coef) us
     → All (λ u. s u.signal ≤ 1) us → All (λ u. t u.signal ≤ 1) us
     → total s us % P ≡ total t us % P → map (λ u. s u.signal) us ≡ map (λ u. t u.signal) us
 same_bits s t us bits some pos hs ht e =
@@ -225,8 +228,16 @@ same_bits s t us bits some pos hs ht e =
     (digits s us hs) (digits t us ht) (long s) (long t)
     (small_same (weighted bits.exponents (map (λ u. s u.signal) us))
     (weighted bits.exponents (map (λ u. t u.signal) us))
-    (omega (arith, bits.below, weighted_le bits.exponents (map (λ u. s u.signal) us) (digits s us hs)))
-    (omega (arith, bits.below, weighted_le bits.exponents (map (λ u. t u.signal) us) (digits t us ht)))
+    (omega (
+      arith,
+      bits.below,
+      weighted_le bits.exponents (map (λ u. s u.signal) us) (digits s us hs),
+    ))
+    (omega (
+      arith,
+      bits.below,
+      weighted_le bits.exponents (map (λ u. t u.signal) us) (digits t us ht),
+    ))
     (product_cancel bits.factor (weighted bits.exponents (map (λ u. s u.signal) us))
     (weighted bits.exponents (map (λ u. t u.signal) us))
     (factor_unit bits.factor bits.exponents us some pos bits.coefficients)
@@ -239,7 +250,7 @@ same_bits s t us bits some pos hs ht e =
         ∙ ap length bits.coefficients
         ∙ length-map bits.exponents (λ e. bits.factor * 2 ^ e % P)
 
-positive : (low : ℕ) (us : List Term) → RisesFrom low us → All (λ u. 0 < u.coef) us
+pub positive : (low : ℕ) (us : List Term) → RisesFrom low us → All (λ u. 0 < u.coef) us
 positive low [] h = All-nil (λ (u : Term). 0 < u.coef)
 positive low (u ∷ us) h =
     All-cons (λ (u : Term). 0 < u.coef) u us h.1 (positive (u.signal + 1) us h.2)
@@ -300,7 +311,8 @@ named_unknown m w (x ∷ us) u e =
           rw k (
           elim (or_cases (x.signal == w) (is_named w us) e) [
             | inl a ↦ or_left (x.signal == w) (is_named w (unknown m us)) a
-            | inr b ↦ or_right (x.signal == w) (is_named w (unknown m us)) (named_unknown m w us u b)
+            | inr b ↦
+                or_right (x.signal == w) (is_named w (unknown m us)) (named_unknown m w us u b)
           ]
           )
     ]

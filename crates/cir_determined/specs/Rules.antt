@@ -1,6 +1,6 @@
 -- The three rules by which a constraint in normal form shows something of its wires.
 use Rattle.std.specs.Prelude.{◌≡◌, ◌≢◌, ℕ, ◌-◌, ◌<◌, ◌⊎◌, Bool, true, false, not, ◌||◌, ◌==◌}
-use Rattle.std.specs.Prelude.{List, [], ◌∷◌, All, filter, Option, Some, None, slice_get}
+use Rattle.std.specs.Prelude.{List, [], ◌∷◌, All, filter, map, Option, Some, None, slice_get}
 use Rattle.std.specs.List.{list_any}
 use Rattle.gold_field.specs.declared.form.Term.{Term}
 use Rattle.gold_field.specs.declared.form.Constraint.{Constraint}
@@ -55,9 +55,12 @@ pub record ShowsBoolean (m : Marks) (k : Constraint) (wire : ℕ) : Type 0 where
   pub fresh : m.boolean wire ≡ false
   pub says : SaysBoolean k wire
 
--- the terms whose wires aren't known
+-- the terms whose wires aren't known, and their coefficients
 abbrev pub unknown : Marks → List Term → List Term
 unknown m terms = filter (λ t. not (m.known t.signal)) terms
+
+abbrev pub unknown_coefs : Marks → List Term → List ℕ
+unknown_coefs m terms = map (λ t. t.coef) (unknown m terms)
 
 -- Bits: a linear constraint whose unknown wires are 0 or 1 each, and bits of one number
 pub record ShowsBits (m : Marks) (k : Constraint) : Type 0 where
@@ -65,7 +68,7 @@ pub record ShowsBits (m : Marks) (k : Constraint) : Type 0 where
   pub right : k.b ≡ []
   pub some : unknown m k.c ≢ []
   pub booleans : All (λ t. m.boolean t.signal ≡ true) (unknown m k.c)
-  pub bits : AreBits (unknown m k.c)
+  pub bits : AreBits (unknown_coefs m k.c)
 
 -- whether a rule applies to the constraint at its place, if there is one
 abbrev pub AppliesTo : Option Constraint → Marks → Rule → Type 0
@@ -95,12 +98,16 @@ with_boolean wire m = record { known = m.known; boolean = λ w. (w == wire) || m
 abbrev pub with_all_known : List Term → Marks → Marks
 with_all_known terms m = record { known = λ w. is_named w terms || m.known w; boolean = m.boolean }
 
-abbrev pub rest_of : Option Constraint → List Term
-rest_of None = []
-rest_of (Some k) = k.c
+-- what has been shown behind a rule that applies to the constraint
+abbrev pub shown_at : Constraint → Marks → Rule → Marks
+shown_at k m (Solve _ wire) = with_known wire m
+shown_at k m (Boolean _ wire) = with_boolean wire m
+shown_at k m (Bits _) = with_all_known k.c m
 
--- what has been shown behind a rule
+abbrev pub shown_from : Option Constraint → Marks → Rule → Marks
+shown_from None m r = m
+shown_from (Some k) m r = shown_at k m r
+
+-- what has been shown behind a rule for the constraint at its place
 abbrev pub shown : List Constraint → Marks → Rule → Marks
-shown ks m (Solve _ wire) = with_known wire m
-shown ks m (Boolean _ wire) = with_boolean wire m
-shown ks m (Bits constraint) = with_all_known (rest_of (slice_get ks constraint)) m
+shown ks m r = shown_from (slice_get ks (place_of r)) m r

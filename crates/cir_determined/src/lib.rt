@@ -2,7 +2,13 @@
 //! shows something of a wire from what those before it have shown.
 #![tactic(auto)]
 
+mod bits;
 pub mod laws;
+mod marks;
+mod normal;
 mod rule;
+mod step;
+mod verdict;
 
 pub use rule::{Answer, Confirm, Rule};
+pub use verdict::confirm;
