@@ -8,3 +8,5 @@ pub mod Powers
 pub mod Factors
 pub mod Kept
 pub mod Verdicts
+pub mod Closed
+pub mod Counting

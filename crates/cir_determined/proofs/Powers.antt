@@ -20,16 +20,17 @@ use Rattle.std.proofs.lemmas.Map.Keys.{IsDistinct-head, IsDistinct-tail, IsDisti
 use Rattle.gold_field.specs.declared.gold.TheConstants.{P}
 use Rattle.cir_determined.specs.Bits.{ArePowers, ArePowersBy}
 
-abbrev sum_of : List ℕ → ℕ
+abbrev pub sum_of : List ℕ → ℕ
 sum_of es = sum_by (λ e. 2 ^ e) es
 
 abbrev powers_of : List ℕ → List ℕ
 powers_of es = map (λ e. 2 ^ e) es
 
-abbrev has : ℕ → List ℕ → Bool
+abbrev pub has : ℕ → List ℕ → Bool
 has e es = list_any (nat_eq e) es
 
-none_from : (e : ℕ) (es : List ℕ) → AllByRecursion (λ y. nat_eq e y ≡ false) es → has e es ≡ false
+pub none_from : (e : ℕ) (es : List ℕ) → AllByRecursion (λ y. nat_eq e y ≡ false) es
+    → has e es ≡ false
 none_from e [] h = refl
 none_from e (f ∷ es) h = or_from (nat_eq e f) (has e es) h.0 (none_from e es h.1)
 

@@ -21,6 +21,10 @@ abbrev pub shown_by : List Constraint → Marks → List Rule → Marks
 shown_by ks m [] = m
 shown_by ks m (r ∷ rs) = shown_by ks (shown ks m r) rs
 
+-- no rule applies any more
+abbrev pub IsClosed : List Constraint → Marks → Type 0
+IsClosed ks m = (r : Rule) → Applies ks m r → ⊥
+
 -- the rules apply one after the other, and make all outputs known
 pub record IsCertificate (c : Circuit) (rs : List Rule) : Type 0 where
   pub apply : AllApply c.constraints (opening c) rs

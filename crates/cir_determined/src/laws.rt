@@ -1,9 +1,10 @@
 //! Laws of certificates, as functions that do nothing: the law is what each ensures.
-ghost use Rattle.std.specs.Prelude.{List, All};
+ghost use Rattle.std.specs.Prelude.{◌≡◌, ℕ, ◌*◌, ◌≤◌, true, List, All, length};
 ghost use Rattle.gold_field.specs.Form.{ConstraintBelow};
 ghost use Rattle.cir_determined.specs.declared.rule.Rule.{Rule as ARule};
 ghost use Rattle.cir_determined.specs.Circuit.{Circuit, in_normal_form};
-ghost use Rattle.cir_determined.specs.Certificate.{IsCertificate};
+ghost use Rattle.cir_determined.specs.Marks.{opening};
+ghost use Rattle.cir_determined.specs.Certificate.{AllApply, IsCertificate, IsClosed, shown_by};
 ghost use Rattle.cir_determined.specs.Determined.{Determines};
 
 /// Where there is a certificate, the inputs determine the outputs.
@@ -11,4 +12,21 @@ pub fn certificates_are_sound()
     ensures { (c : Circuit) (rules : List ARule) → All (ConstraintBelow c.wires) c.constraints
         → IsCertificate (in_normal_form c) rules
         → Determines c }
+{}
+
+/// The order of rules doesn't matter: what some rules make known, all rules after which none
+/// applies make known.
+pub fn order_is_free()
+    ensures { (c : Circuit) (rules all : List ARule) → AllApply c.constraints (opening c) rules
+        → AllApply c.constraints (opening c) all
+        → IsClosed c.constraints (shown_by c.constraints (opening c) all) → (wire : ℕ)
+        → (shown_by c.constraints (opening c) rules).known wire ≡ true
+        → (shown_by c.constraints (opening c) all).known wire ≡ true }
+{}
+
+/// At most two rules a wire apply one after the other.
+pub fn rules_are_few()
+    ensures { (c : Circuit) (rules : List ARule) → All (ConstraintBelow c.wires) c.constraints
+        → AllApply c.constraints (opening c) rules
+        → length rules ≤ 2 * c.wires }
 {}
