@@ -6,15 +6,15 @@ use Rattle.cir_compile.specs.Compiled.{IsCompiled}
 use Rattle.circom_files.specs.Reply.{Reply, said}
 use Rattle.circom_words.specs.Words.{Options, compile}
 use Rattle.circom_words.specs.declared.answer.Refusal.{Refusal}
-use Rattle.circom_gold.specs.Compile.{Compiles, task_of}
-use Rattle.circom_gold.specs.Reply.{Answers, compiled}
+use Rattle.circom_gold.specs.Compile.{CompilesTo, task_of}
+use Rattle.circom_gold.specs.Reply.{Answers, constraints_written}
 use Rattle.circom_gold.proofs.OneReply.{one_reply}
 
 pub reply_of : (files : Contents) (source out : List ℕ) (options : Options) (r : Reply)
     (found : Result File Refusal) → Answers (Some files) (Some (compile source out options)) r
-    → Compiles files source options found → r ≡ said (compiled out) found
+    → CompilesTo files source options found → r ≡ said (constraints_written out) found
 reply_of files source out options r found answers is =
-    one_reply files (Some (compile source out options)) r (said (compiled out) found) answers
+    one_reply files (Some (compile source out options)) r (said (constraints_written out) found) answers
     (found, is, refl)
 
 pub status_of : (files : Contents) (source out : List ℕ) (options : Options) (r : Reply)
@@ -26,8 +26,8 @@ status_of files source out options r answers = (
       (reply_of files source out options r (Ok found.0) answers found.1),
 )
   where
-    compiles : (found : Result File Refusal) → Compiles files source options found
-        → r ≡ said (compiled out) found → r.status ≡ 0
+    compiles : (found : Result File Refusal) → CompilesTo files source options found
+        → r ≡ said (constraints_written out) found → r.status ≡ 0
         → (f : File) × IsCompiled files (task_of source options) f
     compiles (Ok f) is same zero = (f, is)
     compiles (Err refusal) is same zero =

@@ -12,3 +12,5 @@ pub mod Witnessing
 pub mod RunReplies
 pub mod Saying
 pub mod Generating
+pub mod Doing
+pub mod Meanings

@@ -9,10 +9,10 @@ use Rattle.cir_compile.proofs.OneFile.{there_or_compiled, there_or_refused}
 use Rattle.circom_words.specs.Words.{Options}
 use Rattle.circom_words.specs.declared.answer.Refusal.{Refusal}
 use Rattle.circom_words.specs.declared.answer.Refusal.TheVariants.{NoSuchFile, BadSource}
-use Rattle.circom_gold.specs.Compile.{Compiles, IsUncompiled, task_of}
+use Rattle.circom_gold.specs.Compile.{CompilesTo, IsUncompiled, task_of}
 
 module _ (files : Contents) (source : List ℕ) (options : Options) where
-  compiled_and_not : (f : File) (r : Refusal) → Compiles files source options (Ok f)
+  compiled_and_not : (f : File) (r : Refusal) → CompilesTo files source options (Ok f)
       → IsUncompiled files source options r → ⊥
   compiled_and_not f r a (inl none) =
       there_or_compiled files (task_of source options) f none.1 a
@@ -36,8 +36,8 @@ module _ (files : Contents) (source : List ℕ) (options : Options) where
       (one_refusal files (task_of source options) a.0 b.0 a.2 b.2)
       ∙ sym b.1
 
-  pub one_compiled : (x y : Result File Refusal) → Compiles files source options x
-      → Compiles files source options y → x ≡ y
+  pub one_compiled : (x y : Result File Refusal) → CompilesTo files source options x
+      → CompilesTo files source options y → x ≡ y
   one_compiled (Ok f) (Ok g) a b = ap Ok (one_file files (task_of source options) f g a b)
   one_compiled (Ok f) (Err r) a b = absurd (compiled_and_not f r a b)
   one_compiled (Err r) (Ok g) a b = absurd (compiled_and_not g r b a)

@@ -9,11 +9,11 @@ use Rattle.circom_files.specs.Check.{check_of}
 use Rattle.circom_files.specs.Proving.{Audits, Proves, public_of}
 use Rattle.circom_files.specs.Reply.{Reply, Says, audited, checked, proved, published, said}
 use Rattle.circom_files.specs.Running.{witnessed, generated}
-use Rattle.circom_gold.specs.Compile.{Compiles}
+use Rattle.circom_gold.specs.Compile.{CompilesTo}
 use Rattle.circom_gold.specs.Witness.{Witnesses, Generates}
 use Rattle.circom_gold.proofs.OneCompiled.{one_compiled}
 use Rattle.circom_gold.proofs.OneRun.{one_witness, one_generated}
-use Rattle.circom_gold.specs.Reply.{Answers, compiled}
+use Rattle.circom_gold.specs.Reply.{Answers, constraints_written}
 
 -- what is said is one where what is found is one
 one_said : {X : Type 0} (files : Contents) (reply : X → Reply)
@@ -30,7 +30,7 @@ one_reply files (Some (check r1cs wtns)) a b p q =
     one_said files checked (λ from found. check_of from r1cs wtns ≡ found) a b
     (λ x y e f. sym e ∙ f) p q
 one_reply files (Some (compile source out options)) a b p q =
-    one_said files (compiled out) (λ from found. Compiles from source options found) a b
+    one_said files (constraints_written out) (λ from found. CompilesTo from source options found) a b
     (one_compiled files source options) p q
 one_reply files (Some (witness source input out options running)) a b p q =
     one_said files (witnessed out)

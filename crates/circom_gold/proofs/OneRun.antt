@@ -25,7 +25,7 @@ use Rattle.circom_files.specs.declared.outcome.Ran.{Ran}
 use Rattle.circom_files.specs.declared.outcome.Ran.TheVariants.{Ended, Halted}
 use Rattle.circom_files.specs.declared.outcome.Generated.{Generated}
 use Rattle.circom_files.specs.declared.outcome.Generated.TheVariants as made
-use Rattle.circom_gold.specs.Compile.{Compiles, task_of}
+use Rattle.circom_gold.specs.Compile.{CompilesTo, task_of}
 use Rattle.circom_gold.specs.Witness.{IsSource, GivesInput, RunsTo, HaltsBy, IsRunOf, IsWitnessed}
 use Rattle.circom_gold.specs.Witness.{IsInputRefused, Witnesses, IsGeneratedRun, IsGenerated}
 use Rattle.circom_gold.specs.Witness.{Generates, generated_files, generated_name, generated_options}
@@ -97,13 +97,13 @@ module _ (files : Contents) (source : List ℕ) (options : Options) where
   one_source_file p q f g x y =
       one_file files (task_of source options) f g (compiled_as p f x) (compiled_as q g y)
 
-  pub one_refused_source : (r s : Refusal) → Compiles files source options (Err r)
-      → Compiles files source options (Err s) → r ≡ s
+  pub one_refused_source : (r s : Refusal) → CompilesTo files source options (Err r)
+      → CompilesTo files source options (Err s) → r ≡ s
   one_refused_source r s x y =
       err_same (Err r) r s refl (one_compiled files source options (Err r) (Err s) x y)
 
   pub source_or_refused : (p : Program) (f : File) (r : Refusal) → IsSource files source options p f
-      → Compiles files source options (Err r) → ⊥
+      → CompilesTo files source options (Err r) → ⊥
   source_or_refused p f r x y =
       let same : Ok f ≡ Err r =
       one_compiled files source options (Ok f) (Err r) (compiled_as p f x) y in

@@ -1,5 +1,5 @@
 -- What a run does with its reply.
-use Rattle.std.proofs.Common.{◌≡◌, ◌<◌, ◌∙◌, ◌↔◌, ◌⊎◌, ℕ, List, [], length, Option, Some}
+use Rattle.std.proofs.Common.{◌≡◌, ◌≢◌, ◌<◌, ◌∙◌, ◌⊎◌, ℕ, List, [], length, Option, Some}
 use Rattle.std.proofs.Common.{None, Result, Ok, Err, IfOk, refl, sym, ap, subst, inl, inr, arith}
 use Rattle.std.proofs.Math.Seq.{take-length}
 use Rattle.std.proofs.lemmas.List.{append-nil}
@@ -15,12 +15,12 @@ use Rattle.out_io.specs.Written.{IsAppendedInPart}
 use Rattle.iden_files.specs.File.{File}
 use Rattle.iden_files.specs.ReadR1cs.{r1cs_of}
 use Rattle.iden_files.specs.Spelling.{r1cs_bytes}
-use Rattle.circom_gold.specs.Compile.{Compiles, HoldsConstraintsOf}
+use Rattle.circom_gold.specs.Answering.{WritesConstraintsOf, Writing}
+use Rattle.circom_gold.specs.Compile.{CompilesTo}
 use Rattle.circom_words.specs.Lines.{verdict_status}
 use Rattle.circom_words.specs.Proving.{audit_status}
 use Rattle.lig_proof.specs.declared.verdict.Verdict.{Verdict as Audited}
 use Rattle.lig_proof.specs.declared.verdict.Verdict.TheVariants as audits
-use Rattle.circom_files.specs.Accepted.{HoldsProof, IsAccepted, WritesProof}
 use Rattle.circom_files.specs.Given.{Leaves, LeavesInPart, Puts}
 use Rattle.circom_files.specs.Reply.{Reply, NewFile, Says, said, checked, proved, published}
 use Rattle.circom_files.specs.Reply.{audited, store_failed}
@@ -33,23 +33,22 @@ use Rattle.circom_files.specs.declared.outcome.Generated.{Generated}
 use Rattle.circom_files.specs.declared.outcome.Generated.TheVariants as made
 use Rattle.circom_files.specs.declared.outcome.Published.{Published}
 use Rattle.circom_files.specs.declared.outcome.Published.TheVariants.{Values, Wrong}
-use Rattle.circom_gold.specs.Reply.{Answers, WritesConstraintsOf, compiled}
-use Rattle.circom_gold.specs.Run.{Ends, Stays, Replies, Writing}
+use Rattle.circom_gold.specs.Reply.{Answers, constraints_written}
+use Rattle.circom_gold.specs.Run.{Ends, Gives, Stays}
 use Rattle.circom_words.specs.Words.{Command, Options, check, compile, witness, prove, public}
 use Rattle.circom_words.specs.Words.{audit, generate}
 use Rattle.circom_words.specs.declared.answer.Refusal.{Refusal}
 use Rattle.circom_words.specs.declared.answer.Verdict.{Verdict}
 use Rattle.circom_words.specs.declared.answer.Verdict.TheVariants.{CountsDiffer, WireZero}
 use Rattle.circom_words.specs.declared.answer.Verdict.TheVariants.{ConstraintFails, Satisfied}
-use Rattle.circom_files.specs.declared.reply.Reply.{Reply as CodeReply}
 
 -- the reply of a source that compiles writes a file of its constraints
 pub writes : (contents : Option Contents) (source : List ℕ) (options : Options) (out : List ℕ)
-    (f : File) (r : Reply) → Told contents (λ files. Compiles files source options (Ok f))
-    → r ≡ compiled out f → r1cs_of (r1cs_bytes f) ≡ Ok f
+    (f : File) (r : Reply) → Told contents (λ files. CompilesTo files source options (Ok f))
+    → r ≡ constraints_written out f → r1cs_of (r1cs_bytes f) ≡ Ok f
     → Told contents (λ files. WritesConstraintsOf files source options out r)
 writes contents source options out f r told is read =
-    told_on contents (λ files. Compiles files source options (Ok f))
+    told_on contents (λ files. CompilesTo files source options (Ok f))
     (λ files. WritesConstraintsOf files source options out r)
     (λ files compiles. record {
       bytes = r1cs_bytes f;
@@ -165,96 +164,6 @@ stays_failed command store sink fault writing failed front = elim front [
       ]
 ]
 
--- the file that was written holds the source's constraints
-pub holds_written : (old new : Option Contents) (source : List ℕ) (options : Options)
-    (out : List ℕ) (r : Reply) → Told old (λ files. WritesConstraintsOf files source options out r)
-    → Changes (Leaves r.file) old new
-    → Changes (λ files after. HoldsConstraintsOf files source options (after out)) old new
-holds_written None new source options out r told leaves = tt
-holds_written (Some files) None source options out r told leaves = absurd leaves
-holds_written (Some files) (Some after) source options out r told leaves =
-    let written : Leaves (Some (record { name = out; bytes = told.bytes })) files after =
-    subst (λ (file : Option NewFile). Leaves file files after) told.file leaves in
-    record { bytes = told.bytes; there = written.here; constraints = told.constraints }
-
--- an exit with 0 is the reply's status
-pub status_of_success : (r : Reply) (sink : Course (List ℕ)) (exit : ℕ) → Puts r sink exit
-    → exit ≡ 0 → r.status ≡ 0
-status_of_success r sink exit (inl whole) zero = sym whole.0 ∙ zero
-status_of_success r sink exit (inr lost) zero = absurd (omega (arith, lost.0, zero))
-
-pub success_written : (result : Result ℕ AllocError) (old new : Option Contents)
-    (sink : Course (List ℕ)) (source : List ℕ) (options : Options) (out : List ℕ) (r : Reply)
-    → (r.status ≡ 0 → Told old (λ files. WritesConstraintsOf files source options out r))
-    → Changes (Leaves r.file) old new → IfOk result (Puts r sink)
-    → IfOk result (λ exit. exit ≡ 0 → Changes
-    (λ files after. HoldsConstraintsOf files source options (after out)) old new)
-success_written result old new sink source options out r writes leaves puts =
-    IfOk-weaker result (Puts r sink)
-    (λ exit. exit ≡ 0 → Changes
-    (λ files after. HoldsConstraintsOf files source options (after out)) old new)
-    (λ exit put zero.
-    holds_written old new source options out r
-    (writes (status_of_success r sink exit put zero)) leaves) puts
-
--- the same of a proof
-pub holds_proof : (old new : Option Contents) (r1cs wtns out : List ℕ) (r : Reply)
-    → Told old (λ files. WritesProof files r1cs wtns out r) → Changes (Leaves r.file) old new
-    → Changes (λ files after. HoldsProof files r1cs wtns (after out)) old new
-holds_proof None new r1cs wtns out r told leaves = tt
-holds_proof (Some files) None r1cs wtns out r told leaves = absurd leaves
-holds_proof (Some files) (Some after) r1cs wtns out r told leaves =
-    let written : Leaves (Some (record { name = out; bytes = told.bytes })) files after =
-    subst (λ (file : Option NewFile). Leaves file files after) told.file leaves in
-    record { bytes = told.bytes; there = written.here; proof = told.proof }
-
-pub proof_written : (result : Result ℕ AllocError) (old new : Option Contents)
-    (sink : Course (List ℕ)) (r1cs wtns out : List ℕ) (r : Reply)
-    → (r.status ≡ 0 → Told old (λ files. WritesProof files r1cs wtns out r))
-    → Changes (Leaves r.file) old new → IfOk result (Puts r sink)
-    → IfOk result (λ exit. exit ≡ 0 → Changes
-    (λ files after. HoldsProof files r1cs wtns (after out)) old new)
-proof_written result old new sink r1cs wtns out r writes leaves puts =
-    IfOk-weaker result (Puts r sink)
-    (λ exit. exit ≡ 0 → Changes
-    (λ files after. HoldsProof files r1cs wtns (after out)) old new)
-    (λ exit put zero.
-    holds_proof old new r1cs wtns out r
-    (writes (status_of_success r sink exit put zero)) leaves) puts
-
--- the names that an audit is given
-abbrev audit_names : Option Command → List ℕ × List ℕ × List ℕ
-audit_names (Some (audit r1cs publics proof)) = (r1cs, publics, proof)
-audit_names _ = ([], [], [])
-
--- what is told of an audit is told of the same one
-pub same_audit : (result : Result CodeReply IoFault) (old : Option Contents)
-    (a b d r1cs publics proof : List ℕ)
-    → Some (audit a b d) ≡ Some (audit r1cs publics proof)
-    → IfOk result (λ r. Told old (λ files. (r.status ≡ 0) ↔ IsAccepted files a b d))
-    → IfOk result (λ r. Told old
-    (λ files. (r.status ≡ 0) ↔ IsAccepted files r1cs publics proof))
-same_audit result old a b d r1cs publics proof same told =
-    subst (λ (n : List ℕ × List ℕ × List ℕ). IfOk result (λ r. Told old
-    (λ files. (r.status ≡ 0) ↔ IsAccepted files n.0 n.1 n.2))) (ap audit_names same) told
-
--- an exit that isn't 3 is the status of the audit
-pub audit_told : (result : Result ℕ AllocError) (old : Option Contents) (sink : Course (List ℕ))
-    (r1cs publics proof : List ℕ) (r : Reply)
-    → Told old (λ files. (r.status ≡ 0) ↔ IsAccepted files r1cs publics proof)
-    → IfOk result (Puts r sink)
-    → IfOk result (λ exit. (exit ≡ 3)
-    ⊎ Told old (λ files. (exit ≡ 0) ↔ IsAccepted files r1cs publics proof))
-audit_told result old sink r1cs publics proof r told puts =
-    IfOk-weaker result (Puts r sink)
-    (λ exit. (exit ≡ 3) ⊎ Told old (λ files. (exit ≡ 0) ↔ IsAccepted files r1cs publics proof))
-    (λ exit put. elim put [
-      | inl whole ↦ inr (subst
-          (λ (status : ℕ). Told old (λ files. (status ≡ 0) ↔ IsAccepted files r1cs publics proof))
-          (sym whole.0) told)
-      | inr lost ↦ inl lost.0
-    ]) puts
-
 -- the status of a reply is below 3, but for that of the usage line
 verdict_below : (v : Verdict) → verdict_status v < 3
 verdict_below (CountsDiffer values wires) = omega arith
@@ -307,7 +216,7 @@ status_below : (contents : Option Contents) (command : Command) (r : Reply)
 status_below contents (check r1cs wtns) r answers =
     says_below contents checked _ r verdict_below answers
 status_below contents (compile source out options) r answers =
-    says_below contents (compiled out) _ r (λ f. omega arith) answers
+    says_below contents (constraints_written out) _ r (λ f. omega arith) answers
 status_below contents (witness source input out options running) r answers =
     says_below contents (witnessed out) _ r (witnessed_below out) answers
 status_below contents (prove r1cs wtns out options) r answers =
@@ -348,13 +257,17 @@ fault_cause command store sink exit end is = elim end [
   | inr fault ↦ inl fault.failed
 ]
 
-pub fault_causes : (command : Option Command) (store : Course Contents) (sink : Course (List ℕ))
-    (result : Result ℕ AllocError) → IfOk result (Ends command store sink)
-    → IfOk result (λ exit. exit ≡ 3 → HasFailed store ⊎ HasFailed sink)
-fault_causes command store sink result ends =
-    IfOk-weaker result (Ends command store sink)
-    (λ exit. exit ≡ 3 → HasFailed store ⊎ HasFailed sink)
-    (λ exit end. fault_cause command store sink exit end) ends
+-- it has the status 64 only where the words have no reading
+pub only_unread_cause : (command : Option Command) (store : Course Contents)
+    (sink : Course (List ℕ)) (exit : ℕ) → Ends command store sink exit → exit ≡ 64
+    → command ≡ None
+only_unread_cause command store sink exit end is = elim end [
+  | inl reply ↦ elim reply.2 [
+    | inl given ↦ usage_alone store.old command reply.0 reply.1 (sym given.status ∙ is)
+    | inr lost ↦ absurd (omega (arith, lost.status, is))
+  ]
+  | inr fault ↦ absurd (omega (arith, fault.status, is))
+]
 
 -- no call failed
 unfailed : (before after : ℕ) → before ≡ 0 → after ≡ before → Rose before after → ⊥
@@ -362,15 +275,23 @@ unfailed before after zero same rose = omega (arith, zero, same, rose)
 
 -- where no call failed the reply was given
 pub replied : (command : Option Command) (store : Course Contents) (sink : Course (List ℕ))
-    (result : Result ℕ AllocError) → store.faults ≡ 0 → store.faults_after ≡ store.faults
-    → sink.faults ≡ 0 → sink.faults_after ≡ sink.faults → IfOk result (Ends command store sink)
-    → IfOk result (Replies command store sink)
-replied command store sink result none still no_more same ends =
-    IfOk-weaker result (Ends command store sink) (Replies command store sink)
-    (λ exit end. elim end [
-      | inl said ↦ elim said.2 [
-        | inl given ↦ (said.0, said.1, given)
-        | inr lost ↦ absurd (unfailed sink.faults sink.faults_after no_more same lost.failed)
-      ]
-      | inr fault ↦ absurd (unfailed store.faults store.faults_after none still fault.failed)
-    ]) ends
+    (exit : ℕ) → store.faults ≡ 0 → store.faults_after ≡ store.faults
+    → sink.faults ≡ 0 → sink.faults_after ≡ sink.faults → Ends command store sink exit
+    → (r : Reply) × Answers store.old command r × Gives r store sink exit
+replied command store sink exit none still no_more same end = elim end [
+  | inl said ↦ elim said.2 [
+    | inl given ↦ (said.0, said.1, given)
+    | inr lost ↦ absurd (unfailed sink.faults sink.faults_after no_more same lost.failed)
+  ]
+  | inr fault ↦ absurd (unfailed store.faults store.faults_after none still fault.failed)
+]
+
+-- so its status isn't 3
+pub never_three : (command : Option Command) (store : Course Contents) (sink : Course (List ℕ))
+    (exit : ℕ) → store.faults ≡ 0 → store.faults_after ≡ store.faults
+    → sink.faults ≡ 0 → sink.faults_after ≡ sink.faults → Ends command store sink exit → exit ≢ 3
+never_three command store sink exit none still no_more same end is =
+    elim (fault_cause command store sink exit end is) [
+      | inl rose ↦ unfailed store.faults store.faults_after none still rose
+      | inr rose ↦ unfailed sink.faults sink.faults_after no_more same rose
+    ]

@@ -35,7 +35,7 @@ use Rattle.circom_files.specs.Running.{accepted_input, input_in}
 use Rattle.circom_files.specs.Steps.{Gets, Steps, StepsTo}
 use Rattle.circom_files.specs.declared.stop.Stop.{Stop}
 use Rattle.circom_files.specs.declared.stop.Stop.TheVariants.{Refused, StoreFailed, OutOfMemory}
-use Rattle.circom_gold.specs.Compile.{Compiles, task_of}
+use Rattle.circom_gold.specs.Compile.{CompilesTo, task_of}
 use Rattle.circom_gold.specs.Source.{Codes, Given, IsStopOf, KnowsSource, Sources, program_of}
 use Rattle.circom_gold.specs.declared.source.Coded.{Coded}
 use Rattle.circom_gold.proofs.NoInput.{source_no_input}
@@ -43,7 +43,7 @@ use Rattle.circom_gold.proofs.NoInput.{source_no_input}
 -- what reading and compiling a source gave
 abbrev pub Compiling : Option Contents → List ℕ → Options → Type 0 → Result File Stop → Type 0
 Compiling contents source options failed =
-    StepsTo (λ (f : File). f) contents (λ files found. Compiles files source options found) failed
+    StepsTo (λ (f : File). f) contents (λ files found. CompilesTo files source options found) failed
 
 -- what reading a loaded program's input gave
 abbrev pub Starting : Option Contents → List ℕ → Options → Coded → List ℕ → Type 0
@@ -59,11 +59,11 @@ module _ (contents : Option Contents) (source : List ℕ) (options : Options) (f
       → Compiling contents source options failed (Err stop)
   stopped_so fault.Missing (Refused r) told is =
       told_on contents (λ files. files source ≡ None)
-      (λ files. Compiles files source options (Err r))
+      (λ files. CompilesTo files source options (Err r))
       (λ files none. inl (is, none)) told
   stopped_so (fault.Refused x) (Refused r) told is =
       told_on contents (λ files. IsRefused files (task_of source options) x)
-      (λ files. Compiles files source options (Err r))
+      (λ files. CompilesTo files source options (Err r))
       (λ files refused. inr (x, is, refused)) told
   stopped_so fault.Fault (Refused r) told is = absurd is
   stopped_so fault.OutOfMemory (Refused r) told is = absurd is

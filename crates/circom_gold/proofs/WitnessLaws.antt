@@ -1,6 +1,7 @@
 -- What the replies to `witness` mean.
 use Rattle.std.proofs.Common.{◌≡◌, ◌∙◌, ◌↔◌, ℕ, suc, ◌+◌, ◌<◌, ◌≤◌, List, [], ◌∷◌, All, length}
-use Rattle.std.proofs.Common.{slice_index, Some, Result, Ok, Err, refl, ap, sym, subst, arith}
+use Rattle.std.proofs.Common.{slice_index, Option, Some, None, Result, Ok, Err, IsSomeAnd, refl}
+use Rattle.std.proofs.Common.{ap, sym, subst, arith}
 use Rattle.std.proofs.lemmas.List.Elements.{All-nil, All-cons}
 use Rattle.std.specs.Prelude.{sum_by}
 use Rattle.binary_format.specs.Reading.{◌>>=◌}
@@ -34,10 +35,9 @@ use Rattle.circom_files.specs.declared.outcome.Ran.TheVariants.{Ended, Halted}
 use Rattle.circom_files.proofs.Checked.{check_of_read}
 use Rattle.circom_files.proofs.CheckLaws.{satisfied}
 use Rattle.cir_compile.proofs.OneFile.{one_file}
-use Rattle.circom_gold.specs.Compile.{HoldsConstraintsOf, LoadsAgain, task_of}
-use Rattle.circom_gold.specs.Witness.{HasWitness, HoldsWitnessOf, IsWitnessed}
-use Rattle.circom_gold.specs.Witness.{Witnesses, GivesInput, IsWitnessOf, WritesWitnessOf}
-use Rattle.circom_gold.specs.Witness.{values_by_wire}
+use Rattle.circom_gold.specs.Compile.{AreConstraintsOf, LoadsAgain, task_of}
+use Rattle.circom_gold.specs.Witness.{HasWitness, IsWitnessed, IsWitnessOf, Witnesses}
+use Rattle.circom_gold.specs.Witness.{GivesInput, values_by_wire}
 use Rattle.circom_gold.proofs.InputCounts.{main_inputs, shapes_counted}
 use Rattle.circom_gold.proofs.Satisfied.{values_are, few_values, satisfied_file}
 use Rattle.circom_gold.proofs.OneRun.{one_witness, compiled_as}
@@ -143,57 +143,58 @@ module _ (files : Contents) (source input out : List ℕ) (options : Options) (f
 
   pub is_witness : IsWitnessOf files source input options fuel (wtns_bytes values)
   is_witness = record {
-    program = w.program;
-    file = w.file;
-    compiled = w.compiled;
-    inputs = w.inputs;
-    given = w.given;
-    numbers = w.run.0;
+    values = values;
     log = log;
-    runs = w.run.1;
-    read = back;
-    satisfied =
-        satisfied_file w.program options.level w.file w.compiled.written resolved
-        w.given.has.meaning w.given.has.compiles fuel w.inputs w.run.0 log each below w.run.1;
+    found = w;
+    read = back ∙ ap Ok (sym w.run.2);
+    satisfied = subst (Satisfies w.file) (sym w.run.2)
+        (satisfied_file w.program options.level w.file w.compiled.written resolved
+        w.given.has.meaning w.given.has.compiles fuel w.inputs w.run.0 log each below w.run.1);
   }
 
 -- the reply that says so writes them
 pub written_witness : (files : Contents) (source input out : List ℕ) (options : Options) (fuel : ℕ)
     (r : Reply) → Says (Some files) (witnessed out)
     (λ from found. Witnesses from source input options fuel found) r → r.status ≡ 0
-    → WritesWitnessOf files source input options fuel out r
+    → (bytes : List ℕ) × (r.file ≡ Some (record { name = out; bytes = bytes }))
+    × IsWitnessOf files source input options fuel bytes
 written_witness files source input out options fuel r answered zero =
     let has = (status_of files source input out options fuel r answered).0 zero in
     let is = one_answer files source input out options fuel (Ended has.values has.log) r answered
-    has.found in
-    record {
-      bytes = wtns_bytes has.values;
-      file = ap (λ (s : Reply). s.file) is;
-      witness = is_witness files source input out options fuel has.values has.log has.found;
-    }
+    has.found in (
+      wtns_bytes has.values,
+      ap (λ (s : Reply). s.file) is,
+      is_witness files source input out options fuel has.values has.log has.found,
+    )
+
+-- what is there
+pub there : {A : Type 0} (o : Option A) (P : A → Type 0) → IsSomeAnd o P
+    → (x : A) × (o ≡ Some x) × P x
+there None P h = absurd h
+there (Some x) P h = (x, refl, h)
 
 -- the two files are read, and `check` of them is satisfied
 pub check_accepts : (first second after : Contents) (source input r1cs wtns : List ℕ)
     (options : Options) (fuel : ℕ) → LoadsAgain first second source options
-    → HoldsConstraintsOf first source options (after r1cs)
-    → HoldsWitnessOf second source input options fuel (after wtns)
+    → IsSomeAnd (after r1cs) (AreConstraintsOf first source options)
+    → IsSomeAnd (after wtns) (IsWitnessOf second source input options fuel)
     → check_of after r1cs wtns ≡ Ok Satisfied
 check_accepts first second after source input r1cs wtns options fuel again f w =
     let task = task_of source options in
-    let k = f.constraints in
+    let a = there (after r1cs) (AreConstraintsOf first source options) f in
+    let b = there (after wtns) (IsWitnessOf second source input options fuel) w in
+    let k = a.2 in
     let c = k.compiled in
+    let x = b.2.found in
     let compiled : IsCompiled second task k.file =
     record {
       program = c.program;
       loaded = again c.program c.loaded;
       written = c.written;
     } in
-    let same : w.witness.file ≡ k.file =
-    one_file second task w.witness.file k.file
-    (compiled_as second source options w.witness.program w.witness.file w.witness.compiled)
-    compiled in
-    let values = values_by_wire w.witness.file w.witness.numbers in
-    check_of_read after r1cs wtns f.bytes w.bytes k.file values f.there k.read w.there
-    w.witness.read
-    ∙ ap Ok ((satisfied k.file values).1
-    (subst (λ (g : File). Satisfies g values) same w.witness.satisfied))
+    let same : x.file ≡ k.file =
+    one_file second task x.file k.file
+    (compiled_as second source options x.program x.file x.compiled) compiled in
+    check_of_read after r1cs wtns a.0 b.0 k.file b.2.values a.1 k.read b.1 b.2.read
+    ∙ ap Ok ((satisfied k.file b.2.values).1
+    (subst (λ (g : File). Satisfies g b.2.values) same b.2.satisfied))

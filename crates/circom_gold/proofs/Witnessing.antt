@@ -36,7 +36,7 @@ use Rattle.circom_files.specs.declared.outcome.Generated.{Generated}
 use Rattle.circom_files.specs.declared.outcome.Generated.TheVariants as made
 use Rattle.circom_files.specs.declared.stop.Stop.{Stop}
 use Rattle.circom_files.specs.declared.stop.Stop.TheVariants.{Refused, StoreFailed, OutOfMemory}
-use Rattle.circom_gold.specs.Compile.{Compiles}
+use Rattle.circom_gold.specs.Compile.{CompilesTo}
 use Rattle.circom_gold.specs.Running.{EndsIn, GeneratesIn, IsHaltAt, shown_place}
 use Rattle.circom_gold.specs.Source.{Given, IsCoded, KnowsSource, program_of}
 use Rattle.circom_gold.specs.Witness.{GivesInput, HaltsBy, HasInputs, IsGeneratedRun, IsRunOf}
@@ -213,7 +213,7 @@ module _ (contents : Option Contents) (source name : List ℕ) (options : Option
   pub unsourced : (stop : Stop) → Compiling contents source options failed (Err stop)
       → StepsTo (λ (r : Ran). r) contents Finds failed (Err stop)
   unsourced (Refused r) step =
-      told_on contents (λ files. Compiles files source options (Err r))
+      told_on contents (λ files. CompilesTo files source options (Err r))
       (λ files. Finds files (Err r)) (λ files h. inl h) step
   unsourced StoreFailed step = step
   unsourced OutOfMemory step = tt

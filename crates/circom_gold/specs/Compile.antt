@@ -1,5 +1,5 @@
 -- The command `compile`: the file of a source's constraints.
-use Rattle.std.specs.Prelude.{◌≡◌, ◌↔◌, ◌⊎◌, ℕ, ◌<◌, List, slice_index, All, Option, Some, None}
+use Rattle.std.specs.Prelude.{◌≡◌, ◌↔◌, ◌⊎◌, ℕ, ◌<◌, List, slice_index, All, None}
 use Rattle.std.specs.Prelude.{Result, Ok, Err}
 use Rattle.out_io.specs.Contents.{Contents}
 use Rattle.gold_field.specs.Form.{Holds}
@@ -7,7 +7,7 @@ use Rattle.iden_files.specs.File.{File}
 use Rattle.iden_files.specs.ReadR1cs.{r1cs_of}
 use Rattle.cir_ast.specs.Program.{Program}
 use Rattle.cir_lc.specs.Number.{Assignment}
-use Rattle.cir_meaning.specs.Compile.{Satisfies}
+use Rattle.cir_meaning.specs.Compile.{Satisfies as SatisfiesSource}
 use Rattle.cir_names.specs.Loading.{IsLoaded}
 use Rattle.cir_compile.specs.Compiled.{Task, IsCompiled, IsRefused}
 use Rattle.cir_compile.specs.Written.{AreValues}
@@ -37,9 +37,9 @@ IsUncompiled files source options refusal =
 
 -- what the source under the name, with all that it includes, compiles to: the file of its
 -- constraints, or why there is none
-abbrev pub Compiles : Contents → List ℕ → Options → Result File Refusal → Type 0
-Compiles files source options (Ok f) = IsCompiled files (task_of source options) f
-Compiles files source options (Err refusal) = IsUncompiled files source options refusal
+abbrev pub CompilesTo : Contents → List ℕ → Options → Result File Refusal → Type 0
+CompilesTo files source options (Ok f) = IsCompiled files (task_of source options) f
+CompilesTo files source options (Err refusal) = IsUncompiled files source options refusal
 
 -- The bytes are read as the file that the source under the name, with all that it includes,
 -- compiles to. Values of its wires satisfy its constraints exactly when they extend to an
@@ -55,11 +55,4 @@ pub record AreConstraintsOf (files : Contents) (source : List ℕ) (options : Op
       ↔ ((s : Assignment)
       × ((wire : ℕ) → wire < file.wires
       → s.at (slice_index file.labels wire) ≡ slice_index values wire)
-      × Satisfies compiled.program s)
-
--- such bytes are there under the name
-pub record HoldsConstraintsOf (files : Contents) (source : List ℕ) (options : Options)
-    (found : Option (List ℕ)) : Type 0 where
-  pub bytes : List ℕ
-  pub there : found ≡ Some bytes
-  pub constraints : AreConstraintsOf files source options bytes
+      × SatisfiesSource compiled.program s)

@@ -3,7 +3,7 @@ use Rattle.std.specs.Prelude.{ℕ, Some, Result, Ok, Err, ⊤}
 use Rattle.circom_files.specs.declared.outcome.Generated.{Generated}
 use Rattle.circom_files.specs.declared.stop.Stop.{Stop}
 use Rattle.circom_files.specs.declared.stop.Stop.TheVariants.{Refused, StoreFailed, OutOfMemory}
-use Rattle.circom_gold.specs.Compile.{Compiles}
+use Rattle.circom_gold.specs.Compile.{CompilesTo}
 use Rattle.circom_gold.specs.Source.{KnowsSource}
 use Rattle.circom_gold.specs.Witness.{Generates, generated_files, generated_name}
 use Rattle.circom_gold.specs.Witness.{generated_options}
@@ -21,6 +21,6 @@ abbrev pub SourcesGenerated : (size : ℕ) → Result Coded Stop → Type 0
 SourcesGenerated size (Ok x) =
     KnowsSource (Some (generated_files size)) generated_name generated_options x.loaded
 SourcesGenerated size (Err (Refused r)) =
-    Compiles (generated_files size) generated_name generated_options (Err r)
+    CompilesTo (generated_files size) generated_name generated_options (Err r)
 SourcesGenerated size (Err StoreFailed) = ⊥
 SourcesGenerated size (Err OutOfMemory) = ⊤

@@ -1,7 +1,11 @@
+-- What the contract of `run` says.
 pub mod Compile
+pub mod Witness
+pub mod Means
 pub mod Reply
 pub mod Run
-pub mod Witness
+-- What the private functions do.
+pub mod Answering
 pub mod Source
 pub mod Running
 pub mod Generate

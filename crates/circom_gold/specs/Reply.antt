@@ -4,19 +4,19 @@ use Rattle.out_io.specs.Contents.{Contents}
 use Rattle.iden_files.specs.File.{File}
 use Rattle.iden_files.specs.Spelling.{r1cs_bytes}
 use Rattle.circom_words.specs.Lines.{compiled_line}
-use Rattle.circom_words.specs.Words.{Command, Options, check, compile, witness, prove, public}
+use Rattle.circom_words.specs.Words.{Command, check, compile, witness, prove, public}
 use Rattle.circom_words.specs.Words.{audit, generate}
 use Rattle.circom_files.specs.Check.{check_of}
 use Rattle.circom_files.specs.Proving.{Audits, Proves, public_of}
 use Rattle.circom_files.specs.Reply.{Reply, Says, audited, checked, proved, published, usage}
 use Rattle.circom_files.specs.Reply.{written}
 use Rattle.circom_files.specs.Running.{witnessed, generated}
-use Rattle.circom_gold.specs.Compile.{Compiles, AreConstraintsOf}
+use Rattle.circom_gold.specs.Compile.{CompilesTo}
 use Rattle.circom_gold.specs.Witness.{Witnesses, Generates}
 
--- the file is written under the name
-abbrev pub compiled : List ℕ → File → Reply
-compiled out f = written (compiled_line f.wires (length f.constraints)) out (r1cs_bytes f)
+-- the file of constraints is written under the name
+abbrev pub constraints_written : List ℕ → File → Reply
+constraints_written out f = written (compiled_line f.wires (length f.constraints)) out (r1cs_bytes f)
 
 -- the reply answers the command, over the contents of the store, where it tells them
 abbrev pub Answers : Option Contents → Option Command → Reply → Type 0
@@ -24,7 +24,7 @@ Answers contents None = λ r. r ≡ usage
 Answers contents (Some (check r1cs wtns)) =
     Says contents checked (λ files found. check_of files r1cs wtns ≡ found)
 Answers contents (Some (compile source out options)) =
-    Says contents (compiled out) (λ files found. Compiles files source options found)
+    Says contents (constraints_written out) (λ files found. CompilesTo files source options found)
 Answers contents (Some (witness source input out options running)) =
     Says contents (witnessed out)
     (λ files found. Witnesses files source input options running.fuel found)
@@ -36,10 +36,3 @@ Answers contents (Some (audit r1cs publics proof)) =
     Says contents audited (λ files found. Audits files r1cs publics proof found)
 Answers contents (Some (generate seed size running)) =
     Says contents (generated size) (λ files found. Generates seed size running.fuel found)
-
--- the reply writes a file of the source's constraints under the name
-pub record WritesConstraintsOf (files : Contents) (source : List ℕ) (options : Options)
-    (out : List ℕ) (r : Reply) : Type 0 where
-  pub bytes : List ℕ
-  pub file : r.file ≡ Some (record { name = out; bytes = bytes })
-  pub constraints : AreConstraintsOf files source options bytes

@@ -22,7 +22,7 @@ use Rattle.circom_files.specs.Running.{input_in}
 use Rattle.circom_files.specs.Steps.{StepsTo}
 use Rattle.circom_files.specs.declared.stop.Stop.{Stop}
 use Rattle.circom_files.specs.declared.stop.Stop.TheVariants.{Refused, StoreFailed, OutOfMemory}
-use Rattle.circom_gold.specs.Compile.{Compiles, task_of}
+use Rattle.circom_gold.specs.Compile.{CompilesTo, task_of}
 use Rattle.circom_gold.specs.declared.source.Coded.{Coded}
 
 -- the program as contracts see it
@@ -62,7 +62,7 @@ Sources contents source options failed (Err e) =
 abbrev pub SourcesBy : Option Contents → List ℕ → Options → Type 0 → Result Coded Stop → Type 0
 SourcesBy contents source options failed (Ok x) = KnowsSource contents source options x.loaded
 SourcesBy contents source options failed (Err stop) =
-    StepsTo (λ (f : File). f) contents (λ files found. Compiles files source options found) failed
+    StepsTo (λ (f : File). f) contents (λ files found. CompilesTo files source options found) failed
     (Err stop)
 
 -- a command ends so for this fault of the source under the name; memory may lack for the name

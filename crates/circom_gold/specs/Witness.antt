@@ -1,10 +1,8 @@
 -- The commands `witness` and `generate`: the run of a source's program.
 use Rattle.std.specs.Prelude.{◌≡◌, ℕ, List, [], ◌∷◌, map, length, slice_get, slice_index, unwrap_or}
-use Rattle.std.specs.Prelude.{Option, Some, None, Result, Ok, Err, ◌⊎◌, bytes_eq, codes}
+use Rattle.std.specs.Prelude.{Some, None, Result, Ok, Err, ◌⊎◌, bytes_eq, codes}
 use Rattle.std.specs.Prelude.{if◌then◌else◌}
-use Rattle.out_io.specs.Calls.{Course}
 use Rattle.out_io.specs.Contents.{Contents}
-use Rattle.out_io.specs.Written.{IsAppended}
 use Rattle.iden_files.specs.File.{File}
 use Rattle.iden_files.specs.ReadWtns.{wtns_of}
 use Rattle.cir_ast.specs.Program.{Program}
@@ -22,15 +20,14 @@ use Rattle.wit_code.specs.Table.{stop_number}
 use Rattle.circom_words.specs.Generated.{generated_text, generated_input}
 use Rattle.circom_words.specs.Words.{Options}
 use Rattle.circom_words.specs.declared.answer.Refusal.{Refusal}
-use Rattle.circom_files.specs.Reply.{Reply}
-use Rattle.circom_files.specs.Running.{halted, input_in}
+use Rattle.circom_files.specs.Running.{input_in}
 use Rattle.circom_files.specs.Satisfaction.{Satisfies}
 use Rattle.circom_files.specs.declared.outcome.Halt.{Halt}
 use Rattle.circom_files.specs.declared.outcome.Ran.{Ran}
 use Rattle.circom_files.specs.declared.outcome.Ran.TheVariants.{Ended, Halted}
 use Rattle.circom_files.specs.declared.outcome.Generated.{Generated}
 use Rattle.circom_files.specs.declared.outcome.Generated.TheVariants as made
-use Rattle.circom_gold.specs.Compile.{Compiles}
+use Rattle.circom_gold.specs.Compile.{CompilesTo}
 
 -- the program is that of the source under the name with all that it includes, and the file is what
 -- it compiles to
@@ -111,7 +108,7 @@ abbrev pub Witnesses : Contents → (source input : List ℕ) → Options → (f
 Witnesses files source input options fuel (Ok found) =
     IsWitnessed files source input options fuel found
 Witnesses files source input options fuel (Err refusal) =
-    Compiles files source options (Err refusal)
+    CompilesTo files source options (Err refusal)
     ⊎ IsInputRefused files source input options refusal
 
 -- one file, under the name `generated`
@@ -145,36 +142,15 @@ pub record IsGenerated (seed size fuel : ℕ) (found : Generated) : Type 0 where
 abbrev pub Generates : (seed size fuel : ℕ) → Result Generated Refusal → Type 0
 Generates seed size fuel (Ok found) = IsGenerated seed size fuel found
 Generates seed size fuel (Err refusal) =
-    Compiles (generated_files size) generated_name generated_options (Err refusal)
+    CompilesTo (generated_files size) generated_name generated_options (Err refusal)
 
--- The bytes are read as the values of the wires of the source's file: those of the run of its
--- program on the input. They satisfy the file.
-pub record IsWitnessOf (files : Contents) (source input : List ℕ) (options : Options) (fuel : ℕ)
-    (bytes : List ℕ) : Type 0 where
-  pub program : Program
-  pub file : File
-  pub compiled : IsSource files source options program file
-  pub inputs : List ℕ
-  pub given : GivesInput files input program (Ok (1 ∷ inputs))
-  pub numbers : List ℕ
+-- the run of the circuit of so many links ends, from this seed on
+pub record HasGenerated (seed size fuel : ℕ) : Type 0 where
+  pub wires : ℕ
+  pub constraints : ℕ
+  pub out : ℕ
   pub log : List (List ℕ)
-  pub runs : RunsTo program fuel inputs numbers log
-  pub read : wtns_of bytes ≡ Ok (values_by_wire file numbers)
-  pub satisfied : Satisfies file (values_by_wire file numbers)
-
--- the reply writes such bytes under the name
-pub record WritesWitnessOf (files : Contents) (source input : List ℕ) (options : Options)
-    (fuel : ℕ) (out : List ℕ) (r : Reply) : Type 0 where
-  pub bytes : List ℕ
-  pub file : r.file ≡ Some (record { name = out; bytes = bytes })
-  pub witness : IsWitnessOf files source input options fuel bytes
-
--- such bytes are there under the name
-pub record HoldsWitnessOf (files : Contents) (source input : List ℕ) (options : Options)
-    (fuel : ℕ) (found : Option (List ℕ)) : Type 0 where
-  pub bytes : List ℕ
-  pub there : found ≡ Some bytes
-  pub witness : IsWitnessOf files source input options fuel bytes
+  pub found : IsGenerated seed size fuel (made.Ended wires constraints out log)
 
 -- the source compiles, its input is read, and the run of its program doesn't stop
 pub record HasWitness (files : Contents) (source input : List ℕ) (options : Options) (fuel : ℕ)
@@ -183,7 +159,12 @@ pub record HasWitness (files : Contents) (source input : List ℕ) (options : Op
   pub log : List (List ℕ)
   pub found : IsWitnessed files source input options fuel (Ended values log)
 
--- the status is 1, and what was put is the log lines, and why and where the run stops
-pub record SaysHalt (h : Halt) (sink : Course (List ℕ)) (exit : ℕ) : Type 0 where
-  pub status : exit ≡ 1
-  pub text : IsAppended (halted h).text sink.old sink.new
+-- The bytes are read as the values of the wires of the source's file: those of the run of its
+-- program on the input. They satisfy the file.
+pub record IsWitnessOf (files : Contents) (source input : List ℕ) (options : Options) (fuel : ℕ)
+    (bytes : List ℕ) : Type 0 where
+  pub values : List ℕ
+  pub log : List (List ℕ)
+  pub found : IsWitnessed files source input options fuel (Ended values log)
+  pub read : wtns_of bytes ≡ Ok values
+  pub satisfied : Satisfies found.file values

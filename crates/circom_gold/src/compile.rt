@@ -5,8 +5,9 @@ ghost use Rattle.out_io.specs.declared.fault.IoFault.TheVariants.{Failed};
 ghost use Rattle.iden_files.specs.File.{InLimits};
 ghost use Rattle.iden_files.specs.ReadR1cs.{r1cs_of};
 ghost use Rattle.iden_files.specs.Spelling.{r1cs_bytes};
-ghost use Rattle.circom_gold.specs.Compile.{Compiles};
-ghost use Rattle.circom_gold.specs.Reply.{compiled, WritesConstraintsOf};
+ghost use Rattle.circom_gold.specs.Answering.{WritesConstraintsOf};
+ghost use Rattle.circom_gold.specs.Compile.{CompilesTo};
+ghost use Rattle.circom_gold.specs.Reply.{constraints_written};
 ghost use Rattle.circom_files.specs.Reply.{Says};
 ghost use Rattle.circom_files.specs.Shown.{shown};
 ghost use Rattle.circom_files.specs.Steps.{StepsTo};
@@ -29,8 +30,8 @@ pub fn compile_reply<'w, S: Store>(
     options: Options<'_>,
     store: &mut S,
 ) -> Result<Reply<'w>, IoFault>
-    ensures says { IfOk result (λ r. Says (S.contents store.old) (compiled out.entry.now)
-        (λ files found. Compiles files source.now (meant_options options.entry) found) (shown r)) }
+    ensures says { IfOk result (λ r. Says (S.contents store.old) (constraints_written out.entry.now)
+        (λ files found. CompilesTo files source.now (meant_options options.entry) found) (shown r)) }
     ensures exactly { IfOk result (λ r. r.status ≡ 0 → Told (S.contents store.old)
         (λ files. WritesConstraintsOf files source.now (meant_options options.entry)
         out.entry.now (shown r))) }
@@ -53,7 +54,7 @@ fn file_in<S: Store>(
     options: Options<'_>,
 ) -> Result<R1cs, Stop>
     ensures step { StepsTo (λ f. f) (S.contents store.old)
-        (λ files found. Compiles files name.now (meant_options options.entry) found)
+        (λ files found. CompilesTo files name.now (meant_options options.entry) found)
         (Rose (S.faults store.old) (S.faults store.new)) result }
     ensures limits { IfOk result InLimits }
     ensures store { OnlyReads (S.contents store.old) (S.contents store.new)
@@ -69,7 +70,7 @@ fn file_in<S: Store>(
 // The reply that writes the file's spelling under the name.
 fn compiled<'w>(alloc: Global, out: &'w str, file: &R1cs) -> Result<Reply<'w>, AllocError>
     requires { InLimits file.now }
-    ensures reply { IfOk result (λ r. shown r ≡ compiled out.entry.now file.now) }
+    ensures reply { IfOk result (λ r. shown r ≡ constraints_written out.entry.now file.now) }
     ensures read_back { IfOk result (λ r. r1cs_of (r1cs_bytes file.now) ≡ Ok file.now) }
 {
     let bytes = write_r1cs(alloc, file)?;

@@ -1,17 +1,18 @@
-ghost use Rattle.std.specs.Prelude.{◌≡◌, ◌↔◌, ℕ, List, Option, Some, Result, Ok};
+ghost use Rattle.std.specs.Prelude.{◌≡◌, ◌↔◌, ℕ, List, Option, Some, Result, Ok, IsSomeAnd};
+ghost use Rattle.out_io.specs.Calls.{Told};
 ghost use Rattle.out_io.specs.Contents.{Contents};
 ghost use Rattle.iden_files.specs.File.{File};
 ghost use Rattle.cir_compile.specs.Compiled.{IsCompiled};
+ghost use Rattle.circom_files.specs.Accepted.{IsAccepted};
 ghost use Rattle.circom_files.specs.Check.{check_of};
 ghost use Rattle.circom_files.specs.Reply.{Reply, said};
 ghost use Rattle.circom_files.specs.Running.{halted};
 ghost use Rattle.circom_files.specs.declared.outcome.Halt.{Halt};
 ghost use Rattle.circom_files.specs.declared.outcome.Ran.TheVariants.{Halted};
-ghost use Rattle.circom_gold.specs.Compile.{Compiles, HoldsConstraintsOf, LoadsAgain, task_of};
-ghost use Rattle.circom_gold.specs.Reply.{Answers, compiled};
-ghost use Rattle.circom_gold.specs.Witness.{HasWitness, HoldsWitnessOf, IsWitnessed};
-ghost use Rattle.circom_gold.specs.Witness.{WritesWitnessOf};
-ghost use Rattle.circom_words.specs.Words.{Command, Options, compile, witness};
+ghost use Rattle.circom_gold.specs.Compile.{AreConstraintsOf, CompilesTo, LoadsAgain, task_of};
+ghost use Rattle.circom_gold.specs.Reply.{Answers, constraints_written};
+ghost use Rattle.circom_gold.specs.Witness.{HasWitness, IsWitnessOf, IsWitnessed};
+ghost use Rattle.circom_words.specs.Words.{Command, Options, audit, compile, witness};
 ghost use Rattle.circom_words.specs.declared.answer.Refusal.{Refusal};
 ghost use Rattle.circom_words.specs.declared.answer.Verdict.TheVariants.{Satisfied};
 ghost use Rattle.circom_words.specs.declared.options.RunOptions.{RunOptions};
@@ -28,7 +29,7 @@ pub fn compile_laws()
     ensures reply { (files : Contents) (source out : List ℕ) (options : Options) (r : Reply)
         (found : Result File Refusal)
         → Answers (Some files) (Some (compile source out options)) r
-        → Compiles files source options found → r ≡ said (compiled out) found }
+        → CompilesTo files source options found → r ≡ said (constraints_written out) found }
     ensures status { (files : Contents) (source out : List ℕ) (options : Options) (r : Reply)
         → Answers (Some files) (Some (compile source out options)) r
         → (r.status ≡ 0) ↔ ((f : File) × IsCompiled files (task_of source options) f) }
@@ -46,11 +47,20 @@ pub fn witness_laws()
     ensures written { (files : Contents) (source input out : List ℕ) (options : Options)
         (running : RunOptions) (r : Reply)
         → Answers (Some files) (Some (witness source input out options running)) r
-        → r.status ≡ 0 → WritesWitnessOf files source input options running.fuel out r }
+        → r.status ≡ 0 → IsSomeAnd r.file (λ file. (file.name ≡ out)
+        × IsWitnessOf files source input options running.fuel file.bytes) }
     ensures halted { (files : Contents) (source input out : List ℕ) (options : Options)
         (running : RunOptions) (r : Reply) (h : Halt)
         → Answers (Some files) (Some (witness source input out options running)) r
         → IsWitnessed files source input options running.fuel (Halted h) → r ≡ halted h }
+{}
+
+/// The status of a reply to `audit` is 0 exactly where the files hold what is accepted; where the
+/// store doesn't tell them, this is so of some files.
+pub fn audit_laws()
+    ensures { (contents : Option Contents) (r1cs publics proof : List ℕ) (r : Reply)
+        → Answers contents (Some (audit r1cs publics proof)) r
+        → Told contents (λ files. (r.status ≡ 0) ↔ IsAccepted files r1cs publics proof) }
 {}
 
 /// `check` of a file that `compile` writes and of one that `witness` writes, from the same source
@@ -59,7 +69,7 @@ pub fn witness_laws()
 pub fn check_accepts_witnesses()
     ensures { (first second after : Contents) (source input r1cs wtns : List ℕ)
         (options : Options) (fuel : ℕ) → LoadsAgain first second source options
-        → HoldsConstraintsOf first source options (after r1cs)
-        → HoldsWitnessOf second source input options fuel (after wtns)
+        → IsSomeAnd (after r1cs) (AreConstraintsOf first source options)
+        → IsSomeAnd (after wtns) (IsWitnessOf second source input options fuel)
         → check_of after r1cs wtns ≡ Ok Satisfied }
 {}

@@ -4,6 +4,7 @@
 
 mod compile;
 mod generate;
+mod giving;
 mod laws;
 mod one_file;
 mod plain;
@@ -14,5 +15,5 @@ mod waiting;
 mod witness;
 
 pub use circom_files::check_laws;
-pub use laws::{check_accepts_witnesses, compile_laws, one_reply, witness_laws};
+pub use laws::{audit_laws, check_accepts_witnesses, compile_laws, one_reply, witness_laws};
 pub use program::{run, run_in_memory, run_plain};

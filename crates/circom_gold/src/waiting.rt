@@ -1,25 +1,23 @@
 //! The commands that run a circuit on many threads.
 
-ghost use Rattle.std.specs.Prelude.{◌≡◌, ◌⊎◌, ◌↔◌, ℕ, List, None, Some, IfOk, IfSome, IsErrOf};
-ghost use Rattle.std.specs.Prelude.{OnErr, option_map};
-ghost use Rattle.out_io.specs.Calls.{Counting, IfTold, OnlyReads, course};
+ghost use Rattle.std.specs.Prelude.{◌≡◌, None, IfOk, IfSome, IsErrOf, OnErr, option_map};
+ghost use Rattle.std.specs.Result.{result_ok};
+ghost use Rattle.out_io.specs.Calls.{Counting, OnlyReads, course};
 ghost use Rattle.out_io.specs.Contents.{Changes};
 ghost use Rattle.out_io.specs.Faults.{Rose};
 ghost use Rattle.out_io.specs.declared.fault.IoFault.TheVariants.{Failed};
 ghost use Rattle.circom_files.specs.Given.{Leaves};
 ghost use Rattle.circom_files.specs.Shown.{shown};
-ghost use Rattle.circom_files.specs.declared.outcome.Halt.{Halt};
-ghost use Rattle.circom_files.specs.declared.outcome.Ran.TheVariants.{Halted};
+ghost use Rattle.circom_gold.specs.Answering.{HasMeaning, Writing};
 ghost use Rattle.circom_gold.specs.Reply.{Answers};
-ghost use Rattle.circom_gold.specs.Run.{Ends, Stays, Writing};
-ghost use Rattle.circom_gold.specs.Witness.{HasWitness, HoldsWitnessOf, IsWitnessed, SaysHalt};
+ghost use Rattle.circom_gold.specs.Run.{Does};
 ghost use Rattle.circom_words.specs.Ranges.{HasRanges};
-ghost use Rattle.circom_words.specs.Words.{Options, witness, texts, run_command_of, meant_run};
-ghost use Rattle.circom_words.specs.declared.options.RunOptions.{RunOptions};
+ghost use Rattle.circom_words.specs.Words.{texts, run_command_of, meant_run};
 
 use crate::generate::generate_reply;
+use crate::giving::give;
 use crate::witness::witness_reply;
-use circom_files::{Reply, put_fault, put_text, write_file};
+use circom_files::{Reply, write_file};
 use circom_words::RunCommand;
 use out_io::{IoFault, Sink, Store};
 use std::alloc::{AllocError, AllocGlobal, Global};
@@ -34,48 +32,19 @@ pub fn run_circuit<R: Threads + Wait + AllocGlobal + Sync, S: Store, K: Sink>(
     store: &mut S,
     out: &mut K,
 ) -> Result<u8, AllocError>
-    ensures ended { IfOk result (Ends (run_command_of (texts words.now))
+    ensures does { Does (run_command_of (texts words.now))
         (course (S.contents store.old) (S.contents store.new)
         (S.faults store.old) (S.faults store.new))
-        (course (K.contents out.old) (K.contents out.new) (K.faults out.old) (K.faults out.new))) }
-    ensures kept { Stays (run_command_of (texts words.now))
-        (course (S.contents store.old) (S.contents store.new)
-        (S.faults store.old) (S.faults store.new))
-        (course (K.contents out.old) (K.contents out.new) (K.faults out.old) (K.faults out.new)) }
-    ensures witnessed { (source input out_name : List ℕ) (options : Options)
-        (running : RunOptions)
-        → run_command_of (texts words.now) ≡ Some (witness source input out_name options running)
-        → IfOk result (λ exit. exit ≡ 0 → Changes
-        (λ files after. HoldsWitnessOf files source input options running.fuel (after out_name))
-        (S.contents store.old) (S.contents store.new)) }
-    ensures has_witness { (source input out_name : List ℕ) (options : Options)
-        (running : RunOptions)
-        → run_command_of (texts words.now) ≡ Some (witness source input out_name options running)
-        → IfOk result (λ exit. (exit ≡ 3) ⊎ IfTold (S.contents store.old)
-        (λ files. (exit ≡ 0) ↔ HasWitness files source input options running.fuel)) }
-    ensures halted { (source input out_name : List ℕ) (options : Options)
-        (running : RunOptions) (h : Halt)
-        → run_command_of (texts words.now) ≡ Some (witness source input out_name options running)
-        → IfOk result (λ exit. (exit ≡ 3) ⊎ IfTold (S.contents store.old)
-        (λ files. IsWitnessed files source input options running.fuel (Halted h)
-        → SaysHalt h (course (K.contents out.old) (K.contents out.new)
-        (K.faults out.old) (K.faults out.new)) exit)) }
-    ensures usage { run_command_of (texts words.now) ≡ None
-        → IfOk result (λ exit. (exit ≡ 64) ⊎ Rose (K.faults out.old) (K.faults out.new)) }
-    ensures unasked { run_command_of (texts words.now) ≡ None
-        → (S.contents store.new ≡ S.contents store.old)
-        × (S.faults store.new ≡ S.faults store.old) }
-    ensures only_usage { IfOk result (λ exit. exit ≡ 64 → run_command_of (texts words.now) ≡ None) }
+        (course (K.contents out.old) (K.contents out.new) (K.faults out.old) (K.faults out.new))
+        (result_ok result) }
     ensures store { Counting (S.faults store.old) (S.faults store.new)
         (S.never_fails store.old) (S.never_fails store.new) }
     ensures sink { Counting (K.faults out.old) (K.faults out.new)
         (K.never_fails out.old) (K.never_fails out.new) }
 {
     let command = RunCommand::of(alloc, words)?;
-    match answered(rt, alloc, command, store) {
-        Ok(reply) => put_text(&reply, out),
-        Err(fault) => put_fault(alloc, fault, out),
-    }
+    let answer = answered(rt, alloc, command, store);
+    give(alloc, answer, out)
 }
 
 // The reply to the command, whose file is written.
@@ -90,10 +59,13 @@ fn answered<'w, R: Threads + Wait + AllocGlobal + Sync, S: Store>(
         (λ r. Answers (S.contents store.old) (option_map meant_run command.entry) (shown r)) }
     ensures files { IfOk result
         (λ r. Changes (Leaves (shown r).file) (S.contents store.old) (S.contents store.new)) }
+    ensures means { IfOk result
+        (λ r. HasMeaning (option_map meant_run command.entry)
+        (S.contents store.old) (S.contents store.new) (shown r)) }
     ensures kept { OnErr result
         (Writing (option_map meant_run command.entry)
         (S.contents store.old) (S.contents store.new)) }
-    ensures unasked { option_map meant_run command.entry ≡ None
+    ensures unread { option_map meant_run command.entry ≡ None
         → (S.contents store.new ≡ S.contents store.old)
         × (S.faults store.new ≡ S.faults store.old) }
     ensures answered { option_map meant_run command.entry ≡ None → ¬ IsErrOf result Failed }
@@ -116,7 +88,7 @@ fn reply_to<'w, R: Threads + Wait + AllocGlobal + Sync, S: Store>(
     requires ranges { IfSome command HasRanges }
     ensures answers { IfOk result
         (λ r. Answers (S.contents store.old) (option_map meant_run command.entry) (shown r)) }
-    ensures unasked { option_map meant_run command.entry ≡ None
+    ensures unread { option_map meant_run command.entry ≡ None
         → (S.faults store.new ≡ S.faults store.old) × ¬ IsErrOf result Failed }
     ensures fault { IsErrOf result Failed → Rose (S.faults store.old) (S.faults store.new) }
     ensures store { OnlyReads (S.contents store.old) (S.contents store.new)

@@ -1,8 +1,8 @@
 use Rattle.std.proofs.Common.{Ok}
 use Rattle.out_io.specs.Faults.{Rose}
 use Rattle.circom_words.specs.Words.{meant_options}
-use Rattle.circom_gold.specs.Compile.{Compiles}
-use Rattle.circom_gold.specs.Reply.{compiled}
+use Rattle.circom_gold.specs.Compile.{CompilesTo}
+use Rattle.circom_gold.specs.Reply.{constraints_written}
 use Rattle.circom_gold.proofs.Replies.{writes}
 use Rattle.circom_gold.proofs.Saying.{says_stopped}
 use Rattle.circom_gold.proofs.compile.compile_reply.Goals as goal
@@ -18,7 +18,7 @@ returns-in_ok-compiled-in-Ok-clause-exactly g c = λ zero.
 
 pub returns-in-Err-clause-says : goal.returns-in-Err-clause-says
 returns-in-Err-clause-says g c =
-    says_stopped (g.S.Store.contents c.args.store.now) (compiled c.args.out.now)
-    (λ files found. Compiles files c.args.source.now (meant_options c.args.options) found)
+    says_stopped (g.S.Store.contents c.args.store.now) (constraints_written c.args.out.now)
+    (λ files found. CompilesTo files c.args.source.now (meant_options c.args.options) found)
     (Rose (g.S.Store.faults c.args.store.now) (g.S.Store.faults c.file_in.new.store))
     c.in-Err.stop c.reply.result c.in-Err.ensures.step c.reply.ensures

@@ -1,5 +1,14 @@
+use Rattle.std.proofs.Common.{option_map}
+use Rattle.circom_files.specs.Shown.{shown}
+use Rattle.circom_words.specs.Words.{meant}
+use Rattle.circom_gold.proofs.Meanings.{has_meaning}
 use Rattle.circom_gold.proofs.plain.answered.Goals as goal
 
-pub returns-clause-proved : goal.returns-clause-proved
-returns-clause-proved g c = λ r1cs wtns out options is.
-    c.in_ok-reply.ensures.proved r1cs wtns out options is
+pub returns-clause-means : goal.returns-clause-means
+returns-clause-means g c =
+    has_meaning (option_map meant c.args.command) (g.S.Store.contents c.args.store.now)
+    (g.S.Store.contents c.write_file.new.store) (shown c.in_ok-reply.reply)
+    c.in_ok-reply.ensures.answers
+    (rw c.in_ok-reply.ensures.store.same at c.in_ok-write_file.ensures.ok)
+    (λ source out options is. c.in_ok-reply.ensures.compiled source out options is)
+    (λ r1cs wtns out options is. c.in_ok-reply.ensures.proved r1cs wtns out options is)

@@ -1,0 +1,387 @@
+-- What replies mean, command by command.
+use Rattle.std.proofs.Common.{◌≡◌, ◌≢◌, ◌∙◌, ◌↔◌, ℕ, Bool, true, false, List, length, slice_index}
+use Rattle.std.proofs.Common.{◌==◌, Option, Some, None, Result, Ok, Err, IsSomeAnd, refl, ap}
+use Rattle.std.proofs.Common.{sym, subst, arith, if◌then◌else◌}
+use Rattle.std.proofs.lemmas.Bool.Decides.{Decides-eqb}
+use Rattle.binary_format.specs.Reading.{◌>>=◌}
+use Rattle.out_io.proofs.Telling.{told_on}
+use Rattle.out_io.specs.Calls.{Told}
+use Rattle.out_io.specs.Contents.{Contents, Changes}
+use Rattle.iden_files.specs.File.{File}
+use Rattle.iden_files.specs.ReadR1cs.{r1cs_of}
+use Rattle.lig_layout.specs.Laws.{publics_of}
+use Rattle.lig_proof.specs.declared.verdict.Verdict.TheVariants.{Accepted}
+use Rattle.wit_input.specs.Publics.{publics_text}
+use Rattle.circom_words.specs.Lines.{verdict_status}
+use Rattle.circom_words.specs.Words.{Command, Options, ProveOptions, check, compile, witness, prove}
+use Rattle.circom_words.specs.Words.{public, audit, generate}
+use Rattle.circom_words.specs.declared.answer.Refusal.{Refusal}
+use Rattle.circom_words.specs.declared.answer.Verdict.{Verdict}
+use Rattle.circom_words.specs.declared.answer.Verdict.TheVariants.{CountsDiffer, WireZero}
+use Rattle.circom_words.specs.declared.answer.Verdict.TheVariants.{ConstraintFails, Satisfied}
+use Rattle.circom_files.specs.Accepted.{IsAccepted, WritesProof}
+use Rattle.circom_files.specs.Check.{check_of, verdict}
+use Rattle.circom_files.specs.Files.{accepted, bytes_in, r1cs_in, wtns_in}
+use Rattle.circom_files.specs.Given.{Leaves}
+use Rattle.circom_files.specs.Proving.{Audits, FoundIn, IsAudited, IsProved, public_of}
+use Rattle.circom_files.specs.Proving.{published_values, witness_of}
+use Rattle.circom_files.specs.Reply.{NewFile, Reply, checked, proved, published, said}
+use Rattle.circom_files.specs.Running.{generated, halted}
+use Rattle.circom_files.specs.Satisfaction.{IsAssignment, Satisfies}
+use Rattle.circom_files.specs.declared.outcome.Generated.{Generated}
+use Rattle.circom_files.specs.declared.outcome.Generated.TheVariants as made
+use Rattle.circom_files.specs.declared.outcome.Outcome.{Outcome}
+use Rattle.circom_files.specs.declared.outcome.Outcome.TheVariants.{Made, Unmade}
+use Rattle.circom_files.specs.declared.outcome.Published.{Published}
+use Rattle.circom_files.specs.declared.outcome.Published.TheVariants.{Values, Wrong}
+use Rattle.circom_files.specs.declared.outcome.Ran.TheVariants.{Halted}
+use Rattle.circom_files.specs.declared.outcome.Witness.{Witness}
+use Rattle.circom_files.proofs.Accepts.{says_accepted}
+use Rattle.circom_files.proofs.CheckLaws.{satisfied}
+use Rattle.circom_files.proofs.Once.{one_audit}
+use Rattle.circom_gold.specs.Answering.{HasMeaning, WritesConstraintsOf}
+use Rattle.circom_gold.specs.Means.{ArePublicsOf, AreRead, Means}
+use Rattle.circom_gold.specs.Reply.{Answers}
+use Rattle.circom_gold.specs.Witness.{Generates, HasGenerated}
+use Rattle.circom_gold.proofs.CompileLaws as compiling
+use Rattle.circom_gold.proofs.OneRun.{one_generated}
+use Rattle.circom_gold.proofs.WitnessLaws as witnessing
+
+-- the bytes are there under the name of the file that was written
+left_under : (P : List ℕ → Type 0) (out bytes : List ℕ) (file : Option NewFile)
+    (files after : Contents) → file ≡ Some (record { name = out; bytes = bytes })
+    → Leaves file files after → P bytes → IsSomeAnd (after out) P
+left_under P out bytes file files after e leaves p =
+    let written : Leaves (Some (record { name = out; bytes = bytes })) files after =
+    subst (λ (f : Option NewFile). Leaves f files after) e leaves in
+    subst (λ (o : Option (List ℕ)). IsSomeAnd o P) (sym written.here) p
+
+zero_satisfied : (v : Verdict) → verdict_status v ≡ 0 → v ≡ Satisfied
+zero_satisfied (CountsDiffer values wires) e = absurd (omega (arith, e))
+zero_satisfied WireZero e = absurd (omega (arith, e))
+zero_satisfied (ConstraintFails index) e = absurd (omega (arith, e))
+zero_satisfied Satisfied e = refl
+
+-- ---- constraints and values that are read
+
+module _ {C : Type 0} (name : List ℕ) (g : File → List ℕ → C) where
+  one_by_one : (file : Result File Refusal) (values : Result (List ℕ) Refusal) (bytes : List ℕ)
+      → (file >>= λ f. values >>= λ v. Ok (g f v))
+      ≡ ((file >>= λ f. values >>= λ v. Ok (record { bytes = bytes; file = f; values = v }))
+      >>= λ (w : Witness). Ok (g w.file w.values))
+  one_by_one (Err r) values bytes = refl
+  one_by_one (Ok f) (Err r) bytes = refl
+  one_by_one (Ok f) (Ok v) bytes = refl
+
+  both_read : (read values : Result (List ℕ) Refusal)
+      → ((read >>= λ bytes. accepted name (r1cs_of bytes)) >>= λ f. values >>= λ v. Ok (g f v))
+      ≡ ((read >>= λ bytes. accepted name (r1cs_of bytes) >>= λ f. values
+      >>= λ v. Ok (record { bytes = bytes; file = f; values = v }))
+      >>= λ (w : Witness). Ok (g w.file w.values))
+  both_read (Err r) values = refl
+  both_read (Ok bytes) values = one_by_one (accepted name (r1cs_of bytes)) values bytes
+
+check_by : (files : Contents) (r1cs wtns : List ℕ) → check_of files r1cs wtns
+    ≡ (witness_of files r1cs wtns >>= λ w. Ok (verdict w.file w.values))
+unfolding check_of r1cs_in witness_of
+check_by files r1cs wtns = both_read r1cs verdict (bytes_in files r1cs) (wtns_in files wtns)
+
+public_by : (files : Contents) (r1cs wtns : List ℕ) → public_of files r1cs wtns
+    ≡ (witness_of files r1cs wtns >>= λ w. Ok (published_values w.file w.values))
+unfolding public_of r1cs_in witness_of
+public_by files r1cs wtns =
+    both_read r1cs published_values (bytes_in files r1cs) (wtns_in files wtns)
+
+-- what is found in a witness that was read
+found_in : {C : Type 0} (read : Result Witness Refusal) (g : Witness → C) (c : C)
+    → (read >>= λ w. Ok (g w)) ≡ Ok c → (w : Witness) × (read ≡ Ok w) × (g w ≡ c)
+found_in (Ok w) g c e = (w, refl, cc)
+found_in (Err r) g c e = let bad : ⊥ = cc in absurd bad
+
+-- ---- check
+
+module _ (files : Contents) (r1cs wtns : List ℕ) where
+  checked_so : (found : Result Verdict Refusal) → check_of files r1cs wtns ≡ found
+      → (said checked found).status ≡ 0 → AreRead Satisfies files r1cs wtns
+  checked_so (Ok v) is zero =
+      let w = found_in (witness_of files r1cs wtns) (λ x. verdict x.file x.values) v
+      (sym (check_by files r1cs wtns) ∙ is) in
+      record {
+        witness = w.0;
+        read = w.1;
+        so = (satisfied w.0.file w.0.values).0 (w.2 ∙ zero_satisfied v zero);
+      }
+  checked_so (Err r) is zero = absurd (omega (arith, zero))
+
+  check_means : (r : Reply) → Answers (Some files) (Some (check r1cs wtns)) r
+      → (r.status ≡ 0) ↔ AreRead Satisfies files r1cs wtns
+  check_means r (found, is, e) = (
+    λ zero. checked_so found is (sym (ap (λ (x : Reply). x.status) e) ∙ zero),
+    λ a. ap (λ (x : Reply). x.status)
+        (e ∙ ap (said checked) (sym is ∙ check_by files r1cs wtns
+        ∙ ap (λ (x : Result Witness Refusal). x >>= λ w. Ok (verdict w.file w.values)) a.read
+        ∙ ap Ok ((satisfied a.witness.file a.witness.values).1 a.so))),
+  )
+
+-- ---- prove
+
+module _ (out : List ℕ) (options : ProveOptions) where
+  proved_so : (read : Result Witness Refusal) (found : Result Outcome Refusal)
+      → FoundIn (IsProved options) read found → (said (proved out) found).status ≡ 0
+      → (w : Witness) × (read ≡ Ok w) × Satisfies w.file w.values
+  proved_so (Ok w) (Ok (Made proof)) is zero = (w, refl, (satisfied w.file w.values).0 is.0)
+  proved_so (Ok w) (Ok (Unmade v)) is zero = absurd (is.1 (zero_satisfied v zero))
+  proved_so (Ok w) (Err r) is zero = absurd is
+  proved_so (Err r) (Ok o) is zero = absurd is
+  proved_so (Err r) (Err s) is zero = absurd (omega (arith, zero))
+
+  made_so : (read : Result Witness Refusal) (found : Result Outcome Refusal) (a : Witness)
+      → FoundIn (IsProved options) read found → read ≡ Ok a → Satisfies a.file a.values
+      → (said (proved out) found).status ≡ 0
+  made_so (Ok w) (Ok (Made proof)) a is e s = refl
+  made_so (Ok w) (Ok (Unmade v)) a is e s =
+      let same : a ≡ w = cc in
+      let holds = subst (λ (x : Witness). Satisfies x.file x.values) same s in
+      absurd (is.1 (sym is.0 ∙ (satisfied w.file w.values).1 holds))
+  made_so (Ok w) (Err r) a is e s = absurd is
+  made_so (Err r) found a is e s = let bad : ⊥ = cc in absurd bad
+
+  prove_means : (files : Contents) (r1cs wtns : List ℕ) (r : Reply)
+      → Answers (Some files) (Some (prove r1cs wtns out options)) r
+      → (r.status ≡ 0) ↔ AreRead Satisfies files r1cs wtns
+  prove_means files r1cs wtns r (found, is, e) = (
+    λ zero.
+        let w = proved_so (witness_of files r1cs wtns) found is
+        (sym (ap (λ (x : Reply). x.status) e) ∙ zero) in
+        record { witness = w.0; read = w.1; so = w.2 },
+    λ a. ap (λ (x : Reply). x.status) e
+        ∙ made_so (witness_of files r1cs wtns) found a.witness is a.read a.so,
+  )
+
+-- ---- public
+
+module _ (f : File) (values : List ℕ) where
+  abbrev chosen : Bool → Bool → Published
+  chosen counts one =
+      if counts then (if one then Values (publics_of f values) else Wrong WireZero)
+      else Wrong (CountsDiffer (length values) f.wires)
+
+  values_so : (counts one : Bool) (ns : List ℕ) → chosen counts one ≡ Values ns
+      → (counts ≡ true) × (one ≡ true) × (publics_of f values ≡ ns)
+  values_so true true ns e = (refl, refl, cc)
+  values_so true false ns e = let bad : ⊥ = cc in absurd bad
+  values_so false one ns e = let bad : ⊥ = cc in absurd bad
+
+  wrong_so : (counts one : Bool) (v : Verdict) → chosen counts one ≡ Wrong v → v ≢ Satisfied
+  wrong_so true true v e s = cc
+  wrong_so true false v e s = cc
+  wrong_so false one v e s = cc
+
+  chosen_so : (counts one : Bool) → counts ≡ true → one ≡ true
+      → chosen counts one ≡ Values (publics_of f values)
+  chosen_so true true p q = refl
+  chosen_so true false p q = let bad : ⊥ = cc in absurd bad
+  chosen_so false one p q = let bad : ⊥ = cc in absurd bad
+
+  assigned : (ns : List ℕ) → published_values f values ≡ Values ns
+      → IsAssignment f values × (publics_of f values ≡ ns)
+  assigned ns e =
+      let tests = values_so (length values == f.wires) (slice_index values 0 == 1) ns e in (
+        record {
+          counts = (Decides-eqb (length values) f.wires).0 tests.0;
+          one = (Decides-eqb (slice_index values 0) 1).0 tests.1;
+        },
+        tests.2,
+      )
+
+  published_so : IsAssignment f values → published_values f values ≡ Values (publics_of f values)
+  published_so a =
+      chosen_so (length values == f.wires) (slice_index values 0 == 1)
+      ((Decides-eqb (length values) f.wires).1 a.counts)
+      ((Decides-eqb (slice_index values 0) 1).1 a.one)
+
+module _ (files : Contents) (r1cs wtns out : List ℕ) where
+  -- a public file that is written is that of values that are read
+  pub record Public (found : Result Published Refusal) : Type 0 where
+    pub witness : Witness
+    pub read : witness_of files r1cs wtns ≡ Ok witness
+    pub assignment : IsAssignment witness.file witness.values
+    pub found_is : found ≡ Ok (Values (publics_of witness.file witness.values))
+
+  public_so : (found : Result Published Refusal) → public_of files r1cs wtns ≡ found
+      → (said (published out) found).status ≡ 0 → Public found
+  public_so (Ok (Values ns)) is zero =
+      let w = found_in (witness_of files r1cs wtns) (λ x. published_values x.file x.values)
+      (Values ns) (sym (public_by files r1cs wtns) ∙ is) in
+      let a = assigned w.0.file w.0.values ns w.2 in
+      record {
+        witness = w.0;
+        read = w.1;
+        assignment = a.0;
+        found_is = ap (λ (n : List ℕ). Ok (Values n)) (sym a.1);
+      }
+  public_so (Ok (Wrong v)) is zero =
+      let w = found_in (witness_of files r1cs wtns) (λ x. published_values x.file x.values)
+      (Wrong v) (sym (public_by files r1cs wtns) ∙ is) in
+      absurd (wrong_so w.0.file w.0.values (length w.0.values == w.0.file.wires)
+      (slice_index w.0.values 0 == 1) v w.2 (zero_satisfied v zero))
+  public_so (Err r) is zero = absurd (omega (arith, zero))
+
+  module _ (r : Reply) (answers : Answers (Some files) (Some (public r1cs wtns out)) r) where
+    public_found : r.status ≡ 0 → Public answers.0
+    public_found zero =
+        public_so answers.0 answers.1 (sym (ap (λ (x : Reply). x.status) answers.2) ∙ zero)
+
+    public_means : (r.status ≡ 0) ↔ AreRead IsAssignment files r1cs wtns
+    public_means = (
+      λ zero.
+          let p = public_found zero in
+          record { witness = p.witness; read = p.read; so = p.assignment },
+      λ a. ap (λ (x : Reply). x.status)
+          (answers.2 ∙ ap (said (published out)) (sym answers.1 ∙ public_by files r1cs wtns
+          ∙ ap (λ (x : Result Witness Refusal). x >>= λ w. Ok (published_values w.file w.values))
+          a.read
+          ∙ ap Ok (published_so a.witness.file a.witness.values a.so))),
+    )
+
+    public_left : (after : Contents) → Leaves r.file files after → r.status ≡ 0
+        → IsSomeAnd (after out) (ArePublicsOf files r1cs wtns)
+    public_left after leaves zero =
+        let p = public_found zero in
+        let values = publics_of p.witness.file p.witness.values in
+        left_under (ArePublicsOf files r1cs wtns) out (publics_text values) r.file files after
+        (ap (λ (x : Reply). x.file) (answers.2 ∙ ap (said (published out)) p.found_is)) leaves
+        (record { witness = p.witness; read = p.read; text = refl })
+
+-- ---- audit
+
+pub accepted_is : (files : Contents) (r1cs publics proof : List ℕ)
+    → IsAccepted files r1cs publics proof → Audits files r1cs publics proof (Ok Accepted)
+accepted_is files r1cs publics proof a =
+    subst (λ (x : Result _ Refusal). FoundIn IsAudited x (Ok Accepted)) (sym a.read) a.accepted
+
+pub audit_means : (contents : Option Contents) (r1cs publics proof : List ℕ) (r : Reply)
+    → Answers contents (Some (audit r1cs publics proof)) r
+    → Told contents (λ files. (r.status ≡ 0) ↔ IsAccepted files r1cs publics proof)
+audit_means contents r1cs publics proof r (Ok v, told, e) =
+    says_accepted contents r1cs publics proof v r
+    (told_on contents (λ files. Audits files r1cs publics proof (Ok v))
+    (λ files. Audits files r1cs publics proof (Ok v)
+    × (IsAccepted files r1cs publics proof → v ≡ Accepted))
+    (λ files is. (
+      is,
+      λ a.
+          let same = one_audit files r1cs publics proof (Ok v) (Ok Accepted) is
+          (accepted_is files r1cs publics proof a) in
+          cc,
+    )) told) e
+audit_means contents r1cs publics proof r (Err refusal, told, e) =
+    told_on contents (λ files. Audits files r1cs publics proof (Err refusal))
+    (λ files. (r.status ≡ 0) ↔ IsAccepted files r1cs publics proof)
+    (λ files is. (
+      λ zero.
+          let one : r.status ≡ 1 = ap (λ (x : Reply). x.status) e in
+          absurd (omega (arith, one, zero)),
+      λ a.
+          let same = one_audit files r1cs publics proof (Err refusal) (Ok Accepted) is
+          (accepted_is files r1cs publics proof a) in
+          let bad : ⊥ = cc in absurd bad,
+    )) told
+
+-- ---- generate
+
+module _ (seed size fuel : ℕ) where
+  generated_so : (found : Result Generated Refusal) → Generates seed size fuel found
+      → (said (generated size) found).status ≡ 0 → HasGenerated seed size fuel
+  generated_so (Ok (made.Ended wires constraints out log)) is zero =
+      record { wires = wires; constraints = constraints; out = out; log = log; found = is }
+  generated_so (Ok (made.Halted h)) is zero = absurd (omega (arith, zero))
+  generated_so (Err r) is zero = absurd (omega (arith, zero))
+
+  generate_means : (r : Reply) (found : Result Generated Refusal) → Generates seed size fuel found
+      → r ≡ said (generated size) found → (r.status ≡ 0) ↔ HasGenerated seed size fuel
+  generate_means r found is e = (
+    λ zero. generated_so found is (sym (ap (λ (x : Reply). x.status) e) ∙ zero),
+    λ has. ap (λ (x : Reply). x.status)
+        (e ∙ ap (said (generated size))
+        (one_generated seed size fuel found
+        (Ok (made.Ended has.wires has.constraints has.out has.log)) is has.found)),
+  )
+
+-- ---- every command
+
+-- what is known of the file that a reply writes, beside that it answers
+abbrev pub Wrote : Command → Contents → Reply → Type 0
+Wrote (compile source out options) files r =
+    r.status ≡ 0 → WritesConstraintsOf files source options out r
+Wrote (prove r1cs wtns out options) files r = r.status ≡ 0 → WritesProof files r1cs wtns out r
+Wrote _ files r = Unit {0}
+
+means_of : (c : Command) (files after : Contents) (r : Reply) → Answers (Some files) (Some c) r
+    → Leaves r.file files after → Wrote c files r → Means c files after r.status r.text
+means_of (check r1cs wtns) files after r answers leaves wrote =
+    check_means files r1cs wtns r answers
+means_of (compile source out options) files after r answers leaves wrote = (
+  compiling.status_of files source out options r answers,
+  λ zero.
+      let w = wrote zero in
+      left_under _ out w.bytes r.file files after w.file leaves w.constraints,
+)
+means_of (witness source input out options running) files after r answers leaves wrote = (
+  witnessing.status_of files source input out options running.fuel r answers,
+  λ zero.
+      let w = witnessing.written_witness files source input out options running.fuel r answers
+      zero in
+      left_under _ out w.0 r.file files after w.1 leaves w.2,
+  λ h stops.
+      let same : r ≡ halted h =
+      witnessing.one_answer files source input out options running.fuel (Halted h) r answers
+      stops in
+      (ap (λ (x : Reply). x.status) same, ap (λ (x : Reply). x.text) same),
+)
+means_of (prove r1cs wtns out options) files after r answers leaves wrote = (
+  prove_means out options files r1cs wtns r answers,
+  λ zero.
+      let w = wrote zero in
+      left_under _ out w.bytes r.file files after w.file leaves w.proof,
+)
+means_of (public r1cs wtns out) files after r answers leaves wrote = (
+  public_means files r1cs wtns out r answers,
+  λ zero. public_left files r1cs wtns out r answers after leaves zero,
+)
+means_of (audit r1cs publics proof) files after r answers leaves wrote =
+    audit_means (Some files) r1cs publics proof r answers
+means_of (generate seed size running) files after r answers leaves wrote =
+    generate_means seed size running.fuel r answers.0 answers.1 answers.2
+
+module _ (command : Option Command) (files : Contents) (r : Reply)
+    (compiled : (source out : List ℕ) (options : Options)
+    → command ≡ Some (compile source out options) → r.status ≡ 0
+    → WritesConstraintsOf files source options out r)
+    (made : (r1cs wtns out : List ℕ) (options : ProveOptions)
+    → command ≡ Some (prove r1cs wtns out options) → r.status ≡ 0
+    → WritesProof files r1cs wtns out r) where
+  wrote : (c : Command) → command ≡ Some c → Wrote c files r
+  wrote (compile source out options) e = compiled source out options e
+  wrote (prove r1cs wtns out options) e = made r1cs wtns out options e
+  wrote (check r1cs wtns) e = tt
+  wrote (witness source input out options running) e = tt
+  wrote (public r1cs wtns out) e = tt
+  wrote (audit r1cs publics proof) e = tt
+  wrote (generate seed size running) e = tt
+
+-- the reply whose file is written has the meaning of the command
+pub has_meaning : (command : Option Command) (old new : Option Contents) (r : Reply)
+    → Answers old command r → Changes (Leaves r.file) old new
+    → ((source out : List ℕ) (options : Options)
+    → command ≡ Some (compile source out options) → r.status ≡ 0
+    → Told old (λ files. WritesConstraintsOf files source options out r))
+    → ((r1cs wtns out : List ℕ) (options : ProveOptions)
+    → command ≡ Some (prove r1cs wtns out options) → r.status ≡ 0
+    → Told old (λ files. WritesProof files r1cs wtns out r))
+    → HasMeaning command old new r
+has_meaning None old new r answers leaves compiled made = tt
+has_meaning (Some c) None new r answers leaves compiled made = tt
+has_meaning (Some c) (Some files) None r answers leaves compiled made = absurd leaves
+has_meaning (Some c) (Some files) (Some after) r answers leaves compiled made =
+    means_of c files after r answers leaves (wrote (Some c) files r compiled made c refl)

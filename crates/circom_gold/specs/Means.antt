@@ -1,0 +1,64 @@
+-- What the status of each command means, and what the command leaves in the files.
+use Rattle.std.specs.Prelude.{◌≡◌, ◌↔◌, ℕ, List, Ok, IsSomeAnd}
+use Rattle.out_io.specs.Contents.{Contents}
+use Rattle.iden_files.specs.File.{File}
+use Rattle.lig_layout.specs.Laws.{publics_of}
+use Rattle.wit_input.specs.Publics.{publics_text}
+use Rattle.cir_compile.specs.Compiled.{IsCompiled}
+use Rattle.circom_words.specs.Words.{Command, check, compile, witness, prove, public, audit}
+use Rattle.circom_words.specs.Words.{generate}
+use Rattle.circom_files.specs.Accepted.{IsAccepted, IsProofOf}
+use Rattle.circom_files.specs.Proving.{witness_of}
+use Rattle.circom_files.specs.Running.{halted}
+use Rattle.circom_files.specs.Satisfaction.{IsAssignment, Satisfies}
+use Rattle.circom_files.specs.declared.outcome.Halt.{Halt}
+use Rattle.circom_files.specs.declared.outcome.Ran.TheVariants.{Halted}
+use Rattle.circom_files.specs.declared.outcome.Witness.{Witness}
+use Rattle.circom_gold.specs.Compile.{AreConstraintsOf, task_of}
+use Rattle.circom_gold.specs.Witness.{HasGenerated, HasWitness, IsWitnessOf, IsWitnessed}
+
+-- the files under the two names are read as constraints and as values, of which this holds
+pub record AreRead (P : File → List ℕ → Type 0) (files : Contents) (r1cs wtns : List ℕ)
+    : Type 0 where
+  pub witness : Witness
+  pub read : witness_of files r1cs wtns ≡ Ok witness
+  pub so : P witness.file witness.values
+
+-- the bytes are the text of the public values among these values
+pub record ArePublicsOf (files : Contents) (r1cs wtns bytes : List ℕ) : Type 0 where
+  pub witness : Witness
+  pub read : witness_of files r1cs wtns ≡ Ok witness
+  pub text : bytes ≡ publics_text (publics_of witness.file witness.values)
+
+-- What the status of a command means, where it isn't 3, by the files before the command, the files
+-- after it, the status and what was put.
+abbrev pub Means : Command → (files after : Contents) → (exit : ℕ) → (text : List ℕ) → Type 0
+-- 0 exactly where the values satisfy the constraints
+Means (check r1cs wtns) files after exit text =
+    (exit ≡ 0) ↔ AreRead Satisfies files r1cs wtns
+-- 0 exactly where the source compiles; the constraints that it compiles to are under OUT then
+Means (compile source out options) files after exit text =
+    ((exit ≡ 0) ↔ ((file : File) × IsCompiled files (task_of source options) file))
+    × (exit ≡ 0 → IsSomeAnd (after out) (AreConstraintsOf files source options))
+-- 0 exactly where the source compiles, the input is read, and the run doesn't stop; the values of
+-- the run are under OUT then, whatever the number of workers. Where the run stops, what is put is
+-- its log lines, and why and where it stops first.
+Means (witness source input out options running) files after exit text =
+    ((exit ≡ 0) ↔ HasWitness files source input options running.fuel)
+    × (exit ≡ 0 → IsSomeAnd (after out) (IsWitnessOf files source input options running.fuel))
+    × ((h : Halt) → IsWitnessed files source input options running.fuel (Halted h)
+    → (exit ≡ 1) × (text ≡ (halted h).text))
+-- 0 exactly where the values satisfy the constraints; a proof that is accepted is under OUT then
+Means (prove r1cs wtns out options) files after exit text =
+    ((exit ≡ 0) ↔ AreRead Satisfies files r1cs wtns)
+    × (exit ≡ 0 → IsSomeAnd (after out) (IsProofOf files r1cs wtns))
+-- 0 exactly where each wire has a value, and wire 0 the value 1; the public ones are under OUT then
+Means (public r1cs wtns out) files after exit text =
+    ((exit ≡ 0) ↔ AreRead IsAssignment files r1cs wtns)
+    × (exit ≡ 0 → IsSomeAnd (after out) (ArePublicsOf files r1cs wtns))
+-- 0 exactly where the proof is accepted
+Means (audit r1cs publics proof) files after exit text =
+    (exit ≡ 0) ↔ IsAccepted files r1cs publics proof
+-- 0 exactly where the run of the circuit ends; its values satisfy its constraints then
+Means (generate seed size running) files after exit text =
+    (exit ≡ 0) ↔ HasGenerated seed size running.fuel
