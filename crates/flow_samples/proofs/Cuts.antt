@@ -2,22 +2,22 @@
 use Rattle.std.proofs.Common.{◌≡◌, ℕ, zero, suc, ◌+◌, ◌%◌, ◌<◌, ◌≤◌, ◌⊎◌, Bool, true, false}
 use Rattle.std.proofs.Common.{List, [], ◌∷◌, ◌++◌, length}
 use Rattle.std.proofs.Common.{refl, sym, ◌∙◌, ap, subst, inl, inr, arith, length-append}
-use Rattle.std.specs.Prelude.{◌==◌, not, slice_index}
+use Rattle.std.specs.Prelude.{◌==◌, ◌-◌, nat_lt, not, replicate, slice_index}
 use Rattle.std.proofs.lemmas.List.{get_or_push, get_or_append_left, get_or_past}
-use Rattle.std.proofs.lemmas.Bool.{cases_lt}
+use Rattle.std.proofs.lemmas.Bool.{cases_lt, lt-ltb}
 use Rattle.gold_field.specs.declared.gold.TheConstants.{P}
 use Rattle.wit_code.specs.declared.code.Step.{Step}
-use Rattle.wit_code.specs.declared.code.Stop.TheVariants.{AssertFails}
+use Rattle.wit_code.specs.declared.code.Stop.TheVariants.{AssertFails, FuelSpent}
 use Rattle.wit_code.specs.declared.frames.Running.TheVariants.{Own}
 use Rattle.wit_code.specs.Code.{IsWellFormed}
-use Rattle.wit_code.specs.Table.{State, Outcome, Wrote, Stopped, Over, RunsTo, outcome_of}
-use Rattle.wit_code.specs.Table.{start_of, exec, next_of, unless, go_on}
+use Rattle.wit_code.specs.Table.{State, Outcome, Wrote, Stopped, Goes, Over, RunsTo}
+use Rattle.wit_code.specs.Table.{outcome_of, start_of, exec, next_of, unless, go_on}
 use Rattle.wit_code.proofs.Ends.{ends_so, one_outcome}
 use Rattle.flow_core.specs.Counts.{IsIn, times, same}
 use Rattle.flow_core.proofs.Totals.{same_yes, same_some, same_le}
 use Rattle.wit_flow.specs.Run.{no_step, step_at, reads_at, writes_at}
 use Rattle.wit_flow.specs.Cut.{WritesEach, CanCut}
-use Rattle.flow_samples.specs.Links.{adds, IsLink, AreLinks}
+use Rattle.flow_samples.specs.Links.{adds, spins, IsLink, AreLinks}
 
 -- the number v, added so many times
 sum : ℕ → ℕ → ℕ → ℕ
@@ -67,13 +67,52 @@ adds_one v fuel xs ys w e =
     said_one r.1 r.0 ys
     (sym e ∙ one_outcome [] (adds v) xs s.0 r.2.0 start _ _ s.1 r.2.1)
 
+-- with so much fuel, before the jump back
+before_jump : ℕ → State
+before_jump fuel = record {
+  running = Own;
+  place = 1;
+  frames = record { slots = replicate 1 0; open_calls = [] };
+  units = fuel;
+  written = [];
+}
+
+spins_out : (fuel : ℕ) (xs : List ℕ) → RunsTo [] spins xs fuel (Stopped FuelSpent)
+unfolding before_jump
+spins_out zero xs = (1, refl)
+spins_out (suc f) xs =
+    let rest = spins_out f xs in
+    let paid : nat_lt 0 (suc f) ≡ true = lt-ltb 0 (suc f) (omega arith) in
+    let left : suc f - 1 ≡ f = omega arith in (
+      suc (suc rest.0),
+      ap (λ b. next_of (unless FuelSpent b (Goes (before_jump (suc f - 1))))
+          (exec [] spins xs (suc rest.0))) paid
+          ∙ ap (λ u. exec [] spins xs rest.0 (start_of spins u)) left ∙ rest.1,
+    )
+
+spins_none : (fuel : ℕ) (xs ys : List ℕ) → IsWellFormed [] (length xs) spins
+    → outcome_of [] spins xs fuel ≡ Wrote ys → ⊥
+spins_none fuel xs ys w e =
+    let r = spins_out fuel xs in
+    let s = ends_so [] spins xs fuel w in
+    let start = start_of spins fuel in
+    let never : Wrote ys ≡ Stopped FuelSpent =
+    sym e ∙ one_outcome [] spins xs s.0 r.0 start _ _ s.1 r.1 in cc
+
 link_writes : (s : Step) (k : ℕ) → IsLink s k → WritesEach [] s
 link_writes s k l = λ xs ys fuel each below few e.
     let one : length xs ≡ 1 = each ∙ ap length l.reads in
     let fits = subst (λ n. IsWellFormed [] n s.code) (sym one) l.well_formed in
-    let w = subst (λ c. IsWellFormed [] (length xs) c) l.code fits in
-    let wrote = ap (λ c. outcome_of [] c xs fuel) (sym l.code) ∙ e in
-    adds_one l.number fuel xs ys w wrote ∙ sym (ap length l.writes)
+    elim l.code [
+      | inl sample ↦ (
+          let w = subst (λ c. IsWellFormed [] (length xs) c) sample.1 fits in
+          let wrote = ap (λ c. outcome_of [] c xs fuel) (sym sample.1) ∙ e in
+          adds_one sample.0 fuel xs ys w wrote ∙ sym (ap length l.writes))
+      | inr code ↦ (
+          let w = subst (λ c. IsWellFormed [] (length xs) c) code fits in
+          let wrote = ap (λ c. outcome_of [] c xs fuel) (sym code) ∙ e in
+          absurd (spins_none fuel xs ys w wrote))
+    ]
 
 in_one : (c x : ℕ) → IsIn c (x ∷ []) → c ≡ x
 in_one c x h = same_some c x (let z : 0 < same c x = omega (arith, h) in z)

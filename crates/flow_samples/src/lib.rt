@@ -3,4 +3,4 @@
 
 mod links;
 
-pub use links::{Link, chain, linked, wide};
+pub use links::{Link, chain, linked, tree, wide, with_spin};

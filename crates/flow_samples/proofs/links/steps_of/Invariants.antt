@@ -1,6 +1,6 @@
 use Rattle.std.proofs.Common.{◌≡◌, length}
 use Rattle.flow_samples.specs.Links.{AreLinks}
-use Rattle.flow_samples.proofs.links.linked.Given as goal
+use Rattle.flow_samples.proofs.links.steps_of.Given as goal
 
 abbrev pub invariant-loop-at : goal.invariant-loop-at
 invariant-loop-at l = record {
