@@ -10,3 +10,4 @@ pub mod Kept
 pub mod Verdicts
 pub mod Closed
 pub mod Counting
+pub mod Found

@@ -4,3 +4,4 @@ pub mod Bits
 pub mod Rules
 pub mod Certificate
 pub mod Determined
+pub mod Search

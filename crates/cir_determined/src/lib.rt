@@ -7,8 +7,10 @@ pub mod laws;
 mod marks;
 mod normal;
 mod rule;
+mod search;
 mod step;
 mod verdict;
 
 pub use rule::{Answer, Confirm, Rule};
+pub use search::determine;
 pub use verdict::confirm;

@@ -1,4 +1,4 @@
-ghost use Rattle.std.specs.Prelude.{◌≡◌, ◌↔◌, [], true, Some, length, IfOk, IsTrue};
+ghost use Rattle.std.specs.Prelude.{◌≡◌, ◌<◌, ◌↔◌, [], true, Some, length, IfOk, IsTrue};
 ghost use Rattle.gold_field.specs.Form.{ConstraintBelow};
 ghost use Rattle.cir_determined.specs.Marks.{marks_of};
 ghost use Rattle.cir_determined.specs.Rules.{IsMultiple, IsMultipleLessOne, SaysBoolean, Solves};
@@ -51,8 +51,8 @@ fn solve(marks: &mut [Mark], k: &Constraint, wire: u32) -> bool
     true
 }
 
-// Whether the wire is the one of the constraint that isn't known, and stands in C alone.
-fn is_last_unknown(marks: &[Mark], k: &Constraint, wire: u32) -> bool
+/// Whether the wire is the one of the constraint that isn't known, and stands in C alone.
+pub(crate) fn is_last_unknown(marks: &[Mark], k: &Constraint, wire: u32) -> bool
     requires within { ConstraintBelow (length marks.now) k.now }
     requires named { is_named wire k.now.c ≡ true }
     ensures { IsTrue result ↔ Solves (marks_of marks.now) k.now wire }
@@ -73,17 +73,25 @@ fn show_boolean(marks: &mut [Mark], k: &Constraint, wire: u32) -> bool
     ensures applies { IsTrue result ↔ ShowsBoolean (marks_of marks.old) k.now wire }
     ensures shows { IsTrue result → marks_of marks.new ≡ with_boolean wire (marks_of marks.old) }
 {
+    if !shows_boolean(marks, k, wire) {
+        return false;
+    }
+    mark_boolean(marks, wire);
+    true
+}
+
+pub(crate) fn shows_boolean(marks: &[Mark], k: &Constraint, wire: u32) -> bool
+    requires { ConstraintBelow (length marks.now) k.now }
+    ensures shows { IsTrue result ↔ ShowsBoolean (marks_of marks.now) k.now wire }
+    ensures below { IsTrue result → wire < length marks.now }
+{
     if wire == 0 {
         return false;
     }
     if !says_boolean(k, wire) {
         return false;
     }
-    if is_boolean(marks, wire) {
-        return false;
-    }
-    mark_boolean(marks, wire);
-    true
+    !is_boolean(marks, wire)
 }
 
 // Whether the constraint says that the wire is 0 or 1.
@@ -124,6 +132,17 @@ fn show_bits(alloc: Global, marks: &mut [Mark], k: &Constraint) -> Result<bool, 
     ensures shows { IfOk result
         (λ b. IsTrue b → marks_of marks.new ≡ with_all_known k.now.c (marks_of marks.old)) }
 {
+    if !shows_bits(alloc, marks, k)? {
+        return Ok(false);
+    }
+    mark_all_known(marks, k.c.as_slice());
+    Ok(true)
+}
+
+pub(crate) fn shows_bits(alloc: Global, marks: &[Mark], k: &Constraint) -> Result<bool, AllocError>
+    requires { ConstraintBelow (length marks.now) k.now }
+    ensures { IfOk result (λ b. IsTrue b ↔ ShowsBits (marks_of marks.now) k.now) }
+{
     if !is_linear(k) {
         return Ok(false);
     }
@@ -136,7 +155,6 @@ fn show_bits(alloc: Global, marks: &mut [Mark], k: &Constraint) -> Result<bool, 
     if !are_bits(&coefs) {
         return Ok(false);
     }
-    mark_all_known(marks, c);
     Ok(true)
 }
 

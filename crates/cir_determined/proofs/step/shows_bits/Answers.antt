@@ -3,7 +3,7 @@ use Rattle.gold_field.specs.declared.gold.TheConstants.{P}
 use Rattle.cir_determined.specs.Marks.{marks_of}
 use Rattle.cir_determined.specs.Rules.{unknown_coefs}
 use Rattle.cir_determined.proofs.Kept.{coefs_small}
-use Rattle.cir_determined.proofs.step.show_bits.Goals as goal
+use Rattle.cir_determined.proofs.step.shows_bits.Goals as goal
 
 pub are_bits-requires : goal.are_bits-requires
 are_bits-requires c =
