@@ -61,7 +61,7 @@ swept_none ks m old = record {
 }
 
 -- a rule more
-added_more : (ks : List Constraint) (m n k : Marks) (old mid new : List Rule) (r : Rule)
+pub added_more : (ks : List Constraint) (m n k : Marks) (old mid new : List Rule) (r : Rule)
     → AddsRules ks m n old mid → Applies ks n r → k ≡ shown ks n r → new ≡ mid ++ r ∷ []
     → AddsRules ks m k old new
 added_more ks m n k old mid new r h a e f = record {
@@ -256,3 +256,33 @@ few_shown c rs marks h s =
     (All-weaker (ConstraintBelow c.wires)
     (λ (k : Constraint). ConstraintBelow c.wires (normalized c.wires k)) (normal_below c.wires)
     c.constraints h)) s.apply
+
+-- a look at a place
+pub adds_none : (ks : List Constraint) (m : Marks) (rs : List Rule) → AddsRules ks m m rs rs
+adds_none ks m rs = (swept_none ks m rs).steps
+
+pub adds_visit : (ks : List Constraint) (i : ℕ) (m k : Marks) (old new : List Rule) (taken : Bool)
+    (c : Constraint) → slice_get ks i ≡ Some c → Visits c i m k old new taken
+    → AddsRules ks m k old new
+adds_visit ks i m k old new true c e v =
+    added_more ks m m k old old new v.rule (adds_none ks m old)
+    (subst (λ (o : Option Constraint). AppliesTo o m v.rule)
+    (sym e ∙ ap (slice_get ks) (sym v.at)) v.applies)
+    (v.marks_are ∙ ap (λ (o : Option Constraint). shown_from o m v.rule)
+    (sym e ∙ ap (slice_get ks) (sym v.at))) v.rules_are
+adds_visit ks i m k old new false c e v =
+    subst (λ (x : Marks). AddsRules ks m x old new) (sym v.marks_are)
+    (subst (λ (xs : List Rule). AddsRules ks m m old xs) (sym v.rules_are) (adds_none ks m old))
+
+-- rules behind rules
+pub adds_further : (ks : List Constraint) (m n k : Marks) (old mid new : List Rule)
+    → AddsRules ks m n old mid → AddsRules ks n k mid new → AddsRules ks m k old new
+adds_further ks m n k old mid new h g = record {
+  added = h.added ++ g.added;
+  rules_are = g.rules_are ∙ ap (λ (xs : List Rule). xs ++ g.added) h.rules_are
+      ∙ append_assoc old h.added g.added;
+  apply = apply_append ks m h.added g.added h.apply
+      (subst (λ (x : Marks). AllApply ks x g.added) h.marks_are g.apply);
+  marks_are = g.marks_are ∙ ap (λ (x : Marks). shown_by ks x g.added) h.marks_are
+      ∙ sym (shown_append ks m h.added g.added);
+}

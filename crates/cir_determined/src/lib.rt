@@ -3,6 +3,7 @@
 #![tactic(auto)]
 
 mod bits;
+mod chase;
 pub mod laws;
 mod marks;
 mod normal;

@@ -10,6 +10,7 @@ ghost use Rattle.cir_determined.specs.Certificate.{IsAnswer, IsClosed};
 ghost use Rattle.cir_determined.specs.Search.{HasNone, Visits, AddsRules};
 ghost use Rattle.std.specs.Prelude.{Some};
 
+use crate::chase::chase;
 use crate::marks::{Mark, first_unknown, is_known, opening};
 use crate::normal::{is_normal, normalized};
 use crate::rule::{Answer, Rule};
@@ -17,7 +18,8 @@ use crate::step::{is_last_unknown, shows_bits, shows_boolean, step};
 use gold_field::{Constraint, Term};
 use std::alloc::{AllocError, Global};
 
-/// Rules that make all outputs known, or the least output that no rules make known.
+/// Rules that make all outputs known, or the least output that no rules make known. The last sweep
+/// over the constraints finds nothing more; nearly all is found by the first, and by a chase.
 pub fn determine(
     alloc: Global,
     constraints: &[Constraint],
@@ -38,7 +40,7 @@ pub fn determine(
     let mut marks = opening(alloc, wires, outputs, inputs)?;
     let mut rules = Vec::new(alloc);
     loop {
-        let more = sweep(alloc, &mut marks, constraints, &mut rules)?;
+        let more = round(alloc, &mut marks, constraints, &mut rules)?;
         if !more {
             return match first_unknown(&marks, outputs) {
                 Some(wire) => Ok(Answer::NotShown { wire }),
@@ -46,6 +48,31 @@ pub fn determine(
             };
         }
     }
+}
+
+// A sweep, and behind one that found something a chase; whether anything was found.
+fn round(
+    alloc: Global,
+    marks: &mut [Mark],
+    constraints: &[Constraint],
+    rules: &mut Vec<Rule>,
+) -> Result<bool, AllocError>
+    requires below { All (ConstraintBelow (length marks.old)) constraints.now }
+    requires few { length constraints.now < 2 ^ 32 }
+    ensures steps { IfOk result (λ more. AddsRules
+        (map (normalized (length marks.old)) constraints.now) (marks_of marks.old)
+        (marks_of marks.new) rules.old.items rules.new.items) }
+    ensures more { IfOk result (λ more. more ≡ true
+        → length rules.old.items < length rules.new.items) }
+    ensures closed { IfOk result (λ more. more ≡ false
+        → IsClosed (map (normalized (length marks.old)) constraints.now) (marks_of marks.new)) }
+{
+    let more = sweep(alloc, marks, constraints, rules)?;
+    if !more {
+        return Ok(false);
+    }
+    chase(alloc, marks, constraints, rules)?;
+    Ok(true)
 }
 
 // Takes at each constraint in turn a rule that applies to it, if there is one; whether there was
@@ -76,8 +103,8 @@ fn sweep(
     Ok(more)
 }
 
-// Takes a rule that applies to the constraint at the place, if there is one.
-fn visit(
+/// Takes a rule that applies to the constraint at the place, if there is one.
+pub(crate) fn visit(
     alloc: Global,
     marks: &mut [Mark],
     k: &Constraint,

@@ -13,8 +13,8 @@ use Rattle.cir_determined.proofs.Found.{least_unshown}
 use Rattle.cir_determined.proofs.search.determine.Goals as goal
 use Rattle.cir_determined.proofs.search.determine.Goals.{in-Some, in-None}
 
-pub sweep-requires-clause-below : goal.sweep-requires-clause-below
-sweep-requires-clause-below c =
+pub round-requires-clause-below : goal.round-requires-clause-below
+round-requires-clause-below c =
     subst (λ (n : ℕ). All (ConstraintBelow n) c.args.constraints.now)
     (sym (ap length c.deref_mut.ensures.value ∙ c.loop-rules.invariant.long)) c.requires.below
 
@@ -26,20 +26,20 @@ loop-rules-preserved c =
       outputs = c.args.outputs;
       inputs = c.args.inputs;
     } in
-    let new : List Mark = c.sweep.new.marks in
+    let new : List Mark = c.round.new.marks in
     let items : List Mark = c.loop-rules.marks.items in
     let wide : length c.deref_mut.result.now ≡ c.args.wires =
     ap length c.deref_mut.ensures.value ∙ c.loop-rules.invariant.long in
-    let long : length c.sweep.new.marks ≡ c.loop-rules.marks.len =
-    omega (arith, c.sweep.auto.marks, c.deref_mut.ensures.len) in
-    subst (λ (xs : List Mark). HasShown k c.sweep.new.rules.items xs)
+    let long : length c.round.new.marks ≡ c.loop-rules.marks.len =
+    omega (arith, c.round.auto.marks, c.deref_mut.ensures.len) in
+    subst (λ (xs : List Mark). HasShown k c.round.new.rules.items xs)
     (sym (take_at new (drop (length new) items) c.loop-rules.marks.len long))
-    (shown_further k c.loop-rules.rules.items c.sweep.new.rules.items items new
+    (shown_further k c.loop-rules.rules.items c.round.new.rules.items items new
     c.loop-rules.invariant
     (adds_same c.args.constraints.now (length c.deref_mut.result.now) c.args.wires
-    c.deref_mut.result.now items (marks_of new) c.loop-rules.rules.items c.sweep.new.rules.items
+    c.deref_mut.result.now items (marks_of new) c.loop-rules.rules.items c.round.new.rules.items
     wide c.deref_mut.ensures.value c.in_ok-more.ensures.steps)
-    (c.sweep.auto.marks ∙ ap length c.deref_mut.ensures.value))
+    (c.round.auto.marks ∙ ap length c.deref_mut.ensures.value))
 
 pub loop-rules-smaller : goal.loop-rules-smaller
 loop-rules-smaller c =
@@ -49,20 +49,20 @@ loop-rules-smaller c =
       outputs = c.args.outputs;
       inputs = c.args.inputs;
     } in
-    let new : List Mark = c.sweep.new.marks in
+    let new : List Mark = c.round.new.marks in
     let items : List Mark = c.loop-rules.marks.items in
     let wide : length c.deref_mut.result.now ≡ c.args.wires =
     ap length c.deref_mut.ensures.value ∙ c.loop-rules.invariant.long in
-    let all : HasShown k c.sweep.new.rules.items new =
-    shown_further k c.loop-rules.rules.items c.sweep.new.rules.items items new
+    let all : HasShown k c.round.new.rules.items new =
+    shown_further k c.loop-rules.rules.items c.round.new.rules.items items new
     c.loop-rules.invariant
     (adds_same c.args.constraints.now (length c.deref_mut.result.now) c.args.wires
-    c.deref_mut.result.now items (marks_of new) c.loop-rules.rules.items c.sweep.new.rules.items
+    c.deref_mut.result.now items (marks_of new) c.loop-rules.rules.items c.round.new.rules.items
     wide c.deref_mut.ensures.value c.in_ok-more.ensures.steps)
-    (c.sweep.auto.marks ∙ ap length c.deref_mut.ensures.value) in
-    let few : length c.sweep.new.rules.items ≤ 2 * c.args.wires =
-    few_shown k c.sweep.new.rules.items new c.requires.below all in
-    let longer : length c.loop-rules.rules.items < length c.sweep.new.rules.items =
+    (c.round.auto.marks ∙ ap length c.deref_mut.ensures.value) in
+    let few : length c.round.new.rules.items ≤ 2 * c.args.wires =
+    few_shown k c.round.new.rules.items new c.requires.below all in
+    let longer : length c.loop-rules.rules.items < length c.round.new.rules.items =
     c.in_ok-more.ensures.more c.if-not-more.false in
     omega (arith, few, longer)
 
@@ -74,23 +74,23 @@ returns-then-not-more c =
       outputs = c.args.outputs;
       inputs = c.args.inputs;
     } in
-    let new : List Mark = c.sweep.new.marks in
+    let new : List Mark = c.round.new.marks in
     let items : List Mark = c.loop-rules.marks.items in
     let last : List Mark = c.deref.result.now in
-    let rs : List Rule = c.sweep.new.rules.items in
+    let rs : List Rule = c.round.new.rules.items in
     let wide : length c.deref_mut.result.now ≡ c.args.wires =
     ap length c.deref_mut.ensures.value ∙ c.loop-rules.invariant.long in
-    let long : length c.sweep.new.marks ≡ c.loop-rules.marks.len =
-    omega (arith, c.sweep.auto.marks, c.deref_mut.ensures.len) in
-    let same : c.deref.result.now ≡ c.sweep.new.marks =
+    let long : length c.round.new.marks ≡ c.loop-rules.marks.len =
+    omega (arith, c.round.auto.marks, c.deref_mut.ensures.len) in
+    let same : c.deref.result.now ≡ c.round.new.marks =
     c.deref.ensures.value ∙ take_at new (drop (length new) items) c.loop-rules.marks.len long in
-    let all : HasShown k c.sweep.new.rules.items new =
+    let all : HasShown k c.round.new.rules.items new =
     shown_further k c.loop-rules.rules.items rs items new c.loop-rules.invariant
     (adds_same c.args.constraints.now (length c.deref_mut.result.now) c.args.wires
     c.deref_mut.result.now items (marks_of new) c.loop-rules.rules.items rs wide
     c.deref_mut.ensures.value c.in_ok-more.ensures.steps)
-    (c.sweep.auto.marks ∙ ap length c.deref_mut.ensures.value) in
-    let shown : HasShown k c.sweep.new.rules.items c.deref.result.now =
+    (c.round.auto.marks ∙ ap length c.deref_mut.ensures.value) in
+    let shown : HasShown k c.round.new.rules.items c.deref.result.now =
     subst (λ (xs : List Mark). HasShown k rs xs) (sym same) all in
     let closed : IsClosed (map (normalized c.args.wires) c.args.constraints.now)
     (marks_of c.deref.result.now) =
