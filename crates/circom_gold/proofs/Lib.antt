@@ -14,3 +14,4 @@ pub mod Saying
 pub mod Generating
 pub mod Doing
 pub mod Meanings
+pub mod Chains

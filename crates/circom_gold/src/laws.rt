@@ -1,8 +1,10 @@
-ghost use Rattle.std.specs.Prelude.{◌≡◌, ◌↔◌, ℕ, List, Option, Some, Result, Ok, IsSomeAnd};
+ghost use Rattle.std.specs.Prelude.{◌≡◌, ◌≢◌, ◌↔◌, ℕ, List, Option, Some, Result, Ok, IsSomeAnd};
 ghost use Rattle.out_io.specs.Calls.{Told};
 ghost use Rattle.out_io.specs.Contents.{Contents};
 ghost use Rattle.iden_files.specs.File.{File};
+ghost use Rattle.cir_names.specs.Asking.{IsUnasked};
 ghost use Rattle.cir_compile.specs.Compiled.{IsCompiled};
+ghost use Rattle.lig_proof.specs.declared.verdict.Verdict.TheVariants.{Accepted};
 ghost use Rattle.circom_files.specs.Accepted.{IsAccepted};
 ghost use Rattle.circom_files.specs.Check.{check_of};
 ghost use Rattle.circom_files.specs.Reply.{Reply, said};
@@ -11,8 +13,12 @@ ghost use Rattle.circom_files.specs.declared.outcome.Halt.{Halt};
 ghost use Rattle.circom_files.specs.declared.outcome.Ran.TheVariants.{Halted};
 ghost use Rattle.circom_gold.specs.Compile.{AreConstraintsOf, CompilesTo, LoadsAgain, task_of};
 ghost use Rattle.circom_gold.specs.Reply.{Answers, constraints_written};
+ghost use Rattle.circom_gold.specs.Run.{IsReplied};
 ghost use Rattle.circom_gold.specs.Witness.{HasWitness, IsWitnessOf, IsWitnessed};
-ghost use Rattle.circom_words.specs.Words.{Command, Options, audit, compile, witness};
+ghost use Rattle.circom_words.specs.Lines.{verdict_line};
+ghost use Rattle.circom_words.specs.Proving.{audit_line};
+ghost use Rattle.circom_words.specs.Words.{Command, Options, ProveOptions, audit, check, compile};
+ghost use Rattle.circom_words.specs.Words.{prove, public, witness};
 ghost use Rattle.circom_words.specs.declared.answer.Refusal.{Refusal};
 ghost use Rattle.circom_words.specs.declared.answer.Verdict.TheVariants.{Satisfied};
 ghost use Rattle.circom_words.specs.declared.options.RunOptions.{RunOptions};
@@ -72,4 +78,30 @@ pub fn check_accepts_witnesses()
         → IsSomeAnd (after r1cs) (AreConstraintsOf first source options)
         → IsSomeAnd (after wtns) (IsWitnessOf second source input options fuel)
         → check_of after r1cs wtns ≡ Ok Satisfied }
+{}
+
+/// `compile`, `witness` and `check`, one after the other, each over the files that the last one
+/// left: where the first two are a success, of the same source at the same level, and write files
+/// of two names, of which the loading of the source doesn't ask for the first, the values satisfy
+/// the constraints.
+pub fn compile_witness_check()
+    ensures { (first second third last : Contents) (source input r1cs wtns : List ℕ)
+        (options : Options) (running : RunOptions) (exit : ℕ) (compiled witnessed said : List ℕ)
+        → IsReplied (Some (compile source r1cs options)) first second 0 compiled
+        → IsReplied (Some (witness source input wtns options running)) second third 0 witnessed
+        → IsReplied (Some (check r1cs wtns)) third last exit said
+        → IsUnasked first source options.folder r1cs → wtns ≢ r1cs
+        → (exit ≡ 0) × (said ≡ verdict_line Satisfied) }
+{}
+
+/// `prove`, `public` and `audit`, one after the other, each over the files that the last one left:
+/// where the first two are a success and write files of other names, what is proved is accepted.
+pub fn prove_public_audit()
+    ensures { (first second third last : Contents) (r1cs wtns publics proof : List ℕ)
+        (options : ProveOptions) (exit : ℕ) (proved published said : List ℕ)
+        → IsReplied (Some (prove r1cs wtns proof options)) first second 0 proved
+        → IsReplied (Some (public r1cs wtns publics)) second third 0 published
+        → IsReplied (Some (audit r1cs publics proof)) third last exit said
+        → proof ≢ r1cs → proof ≢ wtns → publics ≢ r1cs → publics ≢ proof
+        → (exit ≡ 0) × (said ≡ audit_line Accepted) }
 {}

@@ -15,5 +15,8 @@ mod waiting;
 mod witness;
 
 pub use circom_files::check_laws;
-pub use laws::{audit_laws, check_accepts_witnesses, compile_laws, one_reply, witness_laws};
+pub use laws::{
+    audit_laws, check_accepts_witnesses, compile_laws, compile_witness_check, one_reply,
+    prove_public_audit, witness_laws,
+};
 pub use program::{run, run_in_memory, run_plain};
