@@ -19,3 +19,5 @@ pub mod Equations
 pub mod Assembled
 pub mod Assigned
 pub mod Paying
+pub mod LongerSums
+pub mod Added

@@ -16,10 +16,10 @@ use Rattle.cir_cost.specs.Adds.{IsCost}
 use Rattle.cir_arrays.specs.declared.stop.Fault.{Fault}
 use Rattle.cir_arrays.specs.Stopped.{IsRefusal}
 use Rattle.cir_arrays.specs.Reached.{IsReach}
-use Rattle.cir_arrays.specs.Shown.{datum_of}
 use Rattle.cir_assign.specs.declared.assigning.Assignment.{Assignment}
 use Rattle.cir_assign.specs.declared.assigning.Given.{Given}
 use Rattle.cir_assign.specs.declared.assigning.Given.TheVariants as given
+use Rattle.cir_assign.specs.Grows.{IsNew, IsWritten}
 
 -- as in the meaning, also where it is only scanned
 abbrev pub assignment_in : Context → Where → (shaded : Bool) → ℕ → Accessors Meant → Expr Meant
@@ -33,7 +33,8 @@ assignment_in k w shaded n accessors e s =
 
 pub record IsAssignment (n : ℕ) (s : State) (a : Assignment) (x : VariableAssignment)
     : Type 0 where
-  pub value : x.value ≡ datum_of a.value
+  pub value : IsNew (variable_at s.frame n) a.value x.value
+  pub written : IsWritten a.value x.reach
   pub state : x.state ≡ s
   pub indices : List (Option ℕ)
   pub reach : IsReach (variable_at s.frame n).dims indices a.reach x.reach

@@ -26,6 +26,7 @@ ghost use Rattle.cir_assign.specs.Given.{IsPlaceOf, Places, given_by, written_by
 ghost use Rattle.cir_assign.specs.Assigns.{Assigns, IsAssignment, PaysFor, assigned_cost};
 ghost use Rattle.cir_assign.specs.Assigns.{assignment_in};
 
+use crate::growing::{NewValue, new_value, write_assigned};
 use cir_arrays::{Datum, Fault, Reach, Want, elements, reach_of, same_dims};
 use cir_ast::Kind;
 use cir_ast::program::{Accessor, Assign, Compound, Expr, Meant, Place, Spot};
@@ -139,7 +140,7 @@ fn stepped_number<C: Fn(Spot, u32, Vec<Datum>, &mut World) -> Result<Datum, Faul
 /// What an assignment to a variable writes, and where.
 #[derive(Drop)]
 pub struct Assignment {
-    pub value: Datum,
+    pub value: NewValue,
     pub reach: Reach,
 }
 
@@ -159,7 +160,7 @@ pub fn variable_assignment<C: Fn(Spot, u32, Vec<Datum>, &mut World) -> Result<Da
     ensures keeps { Means (C.post here.now.context.now.call.now) here.now.context.now
         → kept_of world.new ≡ kept_of world.old }
 {
-    let value = given_value(here, w.given, frame, world)?;
+    let value = new_value(here, w, frame, world)?;
     let indices = indices_in(here, w.accessors, frame, world)?;
     let dims = frame.variable_dims(w.variable);
     let site = here.site();
@@ -197,14 +198,12 @@ pub fn set_variable<C: Fn(Spot, u32, Vec<Datum>, &mut World) -> Result<Datum, Fa
 {
     let a = variable_assignment(here, w, frame, world)?;
     if !is_unknown(&a, elements(frame.variable_dims(w.variable))) {
-        let Assignment { value, reach } = a;
-        frame.write_variable(w.variable, &reach, value);
+        write_assigned(here.alloc(), w.variable, a, frame)?;
         return Ok(());
     }
     let step = variable_step(here, w.variable, w.accessors, w.given, &a, frame, world)?;
     let Step { cost, cells } = step;
-    let Assignment { value, reach } = a;
-    frame.write_variable(w.variable, &reach, value);
+    write_assigned(here.alloc(), w.variable, a, frame)?;
     stepped(here, cost, cells, world)
 }
 

@@ -6,6 +6,7 @@ mod assigning;
 mod body;
 mod creating;
 mod declaring;
+mod growing;
 mod record;
 mod setting;
 mod terms;
@@ -18,6 +19,7 @@ pub use assigning::{
 pub use body::Body;
 pub use creating::{Creation, created_at, may_be, path_of, template_call};
 pub use declaring::{components, created, declared_number, signals, variables};
+pub use growing::{NewValue, write_assigned};
 pub use record::constrain;
 pub use setting::set;
 pub use wiring::{Wiring, equal, set_signal, target_in, wiring_cost, write_signal};

@@ -2,13 +2,14 @@
 use Rattle.std.proofs.Common.{◌≡◌, ◌⊎◌, inl, inr, ℕ, zero, suc, ◌+◌, ◌<◌, Bool, true, false, cond}
 use Rattle.std.proofs.Common.{List, [], ◌∷◌, ◌++◌, length, map, filter, Option, Some, None, refl}
 use Rattle.std.proofs.Common.{sym, ap, ◌∙◌, slice_get, arith}
-use Rattle.std.specs.Prelude.{unwrap_or}
+use Rattle.std.proofs.Common.{subst}
+use Rattle.std.specs.Prelude.{not, unwrap_or}
 use Rattle.std.proofs.lemmas.List.Elements.{filter-append}
 use Rattle.cir_meaning.specs.Arrays.{Datum, forgotten, put_items, single}
 use Rattle.cir_meaning.specs.Frame.{variable_at}
 use Rattle.cir_meaning.specs.Limits.{is_too_large}
 use Rattle.cir_meaning.specs.Places.{numbers_from}
-use Rattle.cir_meaning.specs.Values.{Value, Known, Opaque}
+use Rattle.cir_meaning.specs.Values.{Value, Known, Linear, Opaque, sum_of}
 use Rattle.cir_meaning.specs.Writing.{VariableAssignment, write_variable, written_datum}
 use Rattle.cir_meaning.proofs.Writing.{get_set}
 use Rattle.cir_arrays.specs.Reached.{IsReach, is_sure}
@@ -22,6 +23,10 @@ use Rattle.cir_arrays.proofs.PartsRead.{by_bool, nothing_made}
 use Rattle.cir_arrays.proofs.Writes.{known_write}
 use Rattle.cir_values.specs.Meant.{meant}
 use Rattle.cir_values.specs.declared.value.Value.{Value as CodeValue}
+use Rattle.cir_assign.specs.declared.growing.NewValue.{NewValue}
+use Rattle.cir_assign.specs.declared.growing.NewValue.TheVariants as new
+use Rattle.cir_assign.specs.Grows.{IsNew, IsWritten}
+use Rattle.cir_assign.proofs.Added.{sum_is, sum_known, sum_stands}
 use Rattle.cir_steps.specs.Making.{new_places, written_places}
 use Rattle.cir_steps.proofs.Putting.{set_none}
 use Rattle.cir_write.specs.Assigned.{is_new_in}
@@ -102,6 +107,24 @@ module _ (n : ℕ) (x : VariableAssignment) (d : Datum)
       (numbers_from 0 (length z.items))) at_first
       ∙ filter_all (is_new_in (map (λ v. Opaque) d.items)) 0 (length d.items)
       (λ k less. opaque_at d.items k (omega (arith, less))))
+
+  -- a sum with a linear number is new
+  pub new_sum : (v : NewValue) (y : CodeValue) → v ≡ new.Added y → IsNew d v x.value
+      → IsWritten v x.reach → numbers_from 0 (length d.items) ≡ new_places n x
+  new_sum v y e h w =
+      let s = sum_is v y d x.value e h in
+      let at : (x.reach.is_sure ≡ true) × (x.reach.places ≡ 0 ∷ []) =
+      subst (λ (u : NewValue). IsWritten u x.reach) e w in
+      let z = sum_of (Linear s.0) (meant y) in
+      ap (λ (o : Datum). numbers_from 0 (length o.items)) s.1
+      ∙ sym (ap (λ (b : Bool). cond (not b) (0 ∷ []) []) (sum_known s.0 (meant y)))
+      ∙ ap (λ (l : List ℕ). filter (is_new_in (z ∷ [])) l) (sym at.1)
+      ∙ ap (λ (o : Datum). filter (is_new_in o.items) x.reach.places)
+      (sym (sum_stands d x.value v x.reach y e h w ∙ s.2))
+      ∙ ap (λ (b : Bool). filter (is_new_in (written_datum d x.reach x.value).items)
+      (cond b x.reach.places (numbers_from 0 (length (variable_at x.state.frame n).items))))
+      (sym at.0)
+      ∙ sym those
 
 -- ---- a part that is known
 put_nowhere : (ks : List ℕ) (new : List Value) → put_items ks new [] ≡ []

@@ -30,7 +30,10 @@ ghost use Rattle.cir_make.specs.Shows.{IsKept, Shows, source_in};
 
 use crate::wiring::item_count;
 use cir_arrays::{Datum, Fault, Meaning, elements};
-use cir_assign::{Assignment, Step, Written, is_unknown, variable_assignment, variable_step};
+use cir_assign::{
+    Assignment, NewValue, Step, Written, is_unknown, variable_assignment, variable_step,
+    write_assigned,
+};
 use cir_ast::program::Spot;
 use cir_cost::stepped;
 use cir_evaluate::Here;
@@ -98,8 +101,7 @@ fn write<C: Fn(Spot, u32, Vec<Datum>, &mut World) -> Result<Datum, Fault>>(
 {
     let a = variable_assignment(here, w, &inside.frame, &mut whole.world)?;
     if !is_unknown(&a, elements(inside.frame.variable_dims(w.variable))) {
-        let Assignment { value, reach } = a;
-        inside.frame.write_variable(w.variable, &reach, value);
+        write_assigned(here.alloc(), w.variable, a, &mut inside.frame)?;
         return Ok(());
     }
     let places = places_of(here.alloc(), w.variable, &a, &inside.frame)?;
@@ -123,8 +125,7 @@ fn write<C: Fn(Spot, u32, Vec<Datum>, &mut World) -> Result<Datum, Fault>>(
         &mut whole.world,
     )?;
     let Step { cost, cells } = step;
-    let Assignment { value, reach } = a;
-    inside.frame.write_variable(w.variable, &reach, value);
+    write_assigned(here.alloc(), w.variable, a, &mut inside.frame)?;
     let next = whole.made.next;
     whole.made.next = put_cells(
         &mut inside.cells.variables,
@@ -144,7 +145,10 @@ fn places_of(alloc: Global, n: u32, a: &Assignment, frame: &Frame) -> Result<Vec
         return Ok(Vec::new(alloc));
     };
     match a.reach.part {
-        Meaning::Known { first, count } => unknown_places(alloc, first, count, old, &a.value),
+        Meaning::Known { first, count } => match &a.value {
+            NewValue::Whole(value) => unknown_places(alloc, first, count, old, value),
+            NewValue::Added(_) => all_places(alloc, old),
+        },
         Meaning::Unknown | Meaning::Outside => all_places(alloc, old),
     }
 }

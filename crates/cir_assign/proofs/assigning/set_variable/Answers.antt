@@ -1,4 +1,4 @@
-use Rattle.std.proofs.Common.{◌≡◌, ◌∙◌, ap, sym, true, false, Ok, List, ℕ}
+use Rattle.std.proofs.Common.{◌≡◌, ◌∙◌, ap, refl, sym, true, false, Ok, List, ℕ}
 use Rattle.cir_ast.specs.declared.program.Meant.TheVariants.{Variable}
 use Rattle.cir_ast.specs.Tree.{as_accessors}
 use Rattle.cir_meaning.specs.Frame as M
@@ -7,7 +7,6 @@ use Rattle.cir_meaning.specs.Places.{elements}
 use Rattle.cir_meaning.specs.Steps.{new_cells, stepped, variable_cost}
 use Rattle.cir_meaning.specs.Writing as W
 use Rattle.cir_arrays.specs.Counted.{counts_of}
-use Rattle.cir_arrays.specs.Shown.{datum_of}
 use Rattle.cir_frame.specs.Shown.{state_of}
 use Rattle.cir_evaluate.specs.Within.{Kept, context_at, where_at}
 use Rattle.cir_assign.specs.Given.{given_by, written_by}
@@ -46,10 +45,8 @@ returns-then-not-is_unknown g c = λ m name qs shaded place.
     sym (c.is_unknown.ensures n s1 x assigned.2 count) ∙ c.if-not-is_unknown.true in (
       qs,
       set_known k w written n accessors (given_by given) s x assigned.1 known
-          ∙ ap (λ (z : M.State). Ok z) (write_goes n x f c.write_variable.new.self w1 qs
-          (datum_of c.in_ok-a.a.value) assigned.2.state assigned.2.value
-          (c.write_variable.ensures (counts_of w1.added) assigned.2.indices x.reach
-          assigned.2.reach)),
+          ∙ ap (λ (z : M.State). Ok z) (write_goes n x f c.write_assigned.new.frame w1 qs x.value
+          assigned.2.state refl (c.in_ok-write_assigned.ensures s1 x assigned.2 refl)),
       lists_kept qs w0 w1 kept,
     )
 
@@ -74,15 +71,15 @@ returns g c = λ m name qs shaded place.
     let kept = ap (λ (y : Kept). y.constraints) (c.in_ok-a.ensures.keeps m) in
     let unknown : W.is_unknown n x ≡ true =
     sym (c.is_unknown.ensures n s1 x assigned.2 count) ∙ c.if-not-is_unknown.false in
-    let h = c.write_variable-2.new.self in
+    let h = c.write_assigned-2.new.frame in
     let w2 = c.variable_step.new.world in
     let cost = variable_cost k w written n accessors (given_by given) x s in
     let pays : PaysFor k w cost (new_cells n x) c.in_ok-step.step.cost c.in_ok-step.step.cells =
     c.in_ok-step.ensures.pays m name qs s x shaded place assigned.2
     (uncounted_kept f w0 w1 qs (c.in_ok-a.ensures.keeps m)) in
     let wrote : W.write_variable n x ≡ state_of h w2 qs =
-    write_goes n x f h w1 qs (datum_of c.in_ok-a.a.value) assigned.2.state assigned.2.value
-    (c.write_variable-2.ensures (counts_of w1.added) assigned.2.indices x.reach assigned.2.reach)
+    write_goes n x f h w1 qs x.value assigned.2.state refl
+    (c.in_ok-write_assigned-2.ensures s1 x assigned.2 refl)
     ∙ sym (c.in_ok-step.ensures.same m h qs) in
     let paid = stepped k w pays.0 c.in_ok-step.step.cells (state_of h w2 qs) in
     leads_behind qs w0 w2 h c.stepped.new.world c.stepped.result _ paid

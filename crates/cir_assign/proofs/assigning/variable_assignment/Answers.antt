@@ -3,10 +3,10 @@ use Rattle.cir_ast.specs.Tree.{as_accessors}
 use Rattle.cir_meaning.specs.Arrays.{same_dims}
 use Rattle.cir_arrays.specs.Counted.{counts_of}
 use Rattle.cir_arrays.specs.Stopped.{IsRefusal}
-use Rattle.cir_arrays.specs.Shown.{datum_of}
 use Rattle.cir_frame.specs.Shown.{state_of}
 use Rattle.cir_evaluate.specs.Within.{context_at, where_at}
 use Rattle.cir_assign.specs.Given.{given_by}
+use Rattle.cir_assign.proofs.Added.{reach_written}
 use Rattle.cir_assign.proofs.Assigned.{assigns_exit}
 use Rattle.cir_assign.proofs.Assignments.{fits_by, indices_next, reach_next, value_first}
 use Rattle.cir_assign.proofs.assigning.variable_assignment.Goals as goal
@@ -22,8 +22,8 @@ returns-in_err-indices-clause-value g c = λ m qs.
     (value_first (context_at c.args.here.now m) (where_at c.args.here.now) c.args.here.now.shaded
     c.args.w.now.variable (as_accessors c.args.w.now.accessors.now) (given_by c.args.w.now.given)
     (state_of c.args.frame.now c.args.world.now qs)
-    (state_of c.args.frame.now c.given_value.new.world qs) (datum_of c.in_ok-value.value)
-    (c.in_ok-value.ensures.value m qs))
+    (state_of c.args.frame.now c.new_value.new.world qs) (c.in_ok-value.ensures.value m qs).0
+    (c.in_ok-value.ensures.value m qs).1)
     c.from_residual-in_err-indices.ensures.1 (c.in_err-indices.ensures.value m qs)
 
 pub returns-in_err-reach-clause-value : goal.returns-in_err-reach-clause-value
@@ -38,9 +38,9 @@ returns-in_err-reach-clause-value g c = λ m qs.
     (indices_next (context_at c.args.here.now m) (where_at c.args.here.now)
     c.args.here.now.shaded c.args.w.now.variable (as_accessors c.args.w.now.accessors.now) _
     (given_by c.args.w.now.given) (state_of c.args.frame.now c.args.world.now qs)
-    (state_of c.args.frame.now c.given_value.new.world qs)
-    (state_of c.args.frame.now c.indices_in.new.world qs) (datum_of c.in_ok-value.value)
-    c.in_ok-indices.indices.items (c.in_ok-value.ensures.value m qs)
+    (state_of c.args.frame.now c.new_value.new.world qs)
+    (state_of c.args.frame.now c.indices_in.new.world qs) (c.in_ok-value.ensures.value m qs).0
+    c.in_ok-indices.indices.items (c.in_ok-value.ensures.value m qs).1
     (c.in_ok-indices.ensures.value m qs))
     c.from_residual-in_err-reach.ensures.1 refuses
 
@@ -52,25 +52,29 @@ returns-then-same_dims-clause-value g c = λ m qs.
       c.variable_dims-dims.ensures (counts_of c.indices_in.new.world.added),
     )
     at c.in_ok-reach.ensures.reach in
-    let same : same_dims reached.0.left (datum_of c.in_ok-value.value).dims ≡ true =
-    sym (rw (c.as_slice-2.ensures.value, reached.2.left, c.dims.ensures) at c.same_dims.ensures)
+    let given = c.in_ok-value.ensures.value m qs in
+    let dims = c.dims.ensures _ _ given.2 in
+    let same : same_dims reached.0.left given.0.dims ≡ true =
+    sym (rw (c.as_slice-2.ensures.value, reached.2.left, dims) at c.same_dims.ensures)
     ∙ c.if-same_dims.true in (
       record {
-        value = datum_of c.in_ok-value.value;
+        value = given.0;
         reach = reached.0;
         state = state_of c.args.frame.now c.indices_in.new.world qs;
       },
       reach_next (context_at c.args.here.now m) (where_at c.args.here.now)
           c.args.here.now.shaded c.args.w.now.variable (as_accessors c.args.w.now.accessors.now) _
           (given_by c.args.w.now.given) (state_of c.args.frame.now c.args.world.now qs)
-          (state_of c.args.frame.now c.given_value.new.world qs)
-          (state_of c.args.frame.now c.indices_in.new.world qs) (datum_of c.in_ok-value.value)
-          c.in_ok-indices.indices.items reached.0 (c.in_ok-value.ensures.value m qs)
+          (state_of c.args.frame.now c.new_value.new.world qs)
+          (state_of c.args.frame.now c.indices_in.new.world qs) (c.in_ok-value.ensures.value m qs).0
+          c.in_ok-indices.indices.items reached.0 (c.in_ok-value.ensures.value m qs).1
           (c.in_ok-indices.ensures.value m qs) reached.1
-          ∙ fits_by (where_at c.args.here.now) (datum_of c.in_ok-value.value)
+          ∙ fits_by (where_at c.args.here.now) (c.in_ok-value.ensures.value m qs).0
           (state_of c.args.frame.now c.indices_in.new.world qs) reached.0 true same,
       record {
-        value = refl;
+        value = given.2;
+        written = reach_written (where_at c.args.here.now) c.args.here.now.shaded _ given.0
+            c.in_ok-value.value c.in_ok-indices.indices.items reached.0 given.2 reached.1;
         state = refl;
         indices = c.in_ok-indices.indices.items;
         reach = reached.2;
@@ -85,17 +89,18 @@ returns-else-same_dims-clause-value g c = λ m qs.
       c.variable_dims-dims.ensures (counts_of c.indices_in.new.world.added),
     )
     at c.in_ok-reach.ensures.reach in
-    let differs : same_dims reached.0.left (datum_of c.in_ok-value.value).dims ≡ false =
-    sym (rw (c.as_slice-2.ensures.value, reached.2.left, c.dims.ensures) at c.same_dims.ensures)
+    let dims = c.dims.ensures _ _ (c.in_ok-value.ensures.value m qs).2 in
+    let differs : same_dims reached.0.left (c.in_ok-value.ensures.value m qs).0.dims ≡ false =
+    sym (rw (c.as_slice-2.ensures.value, reached.2.left, dims) at c.same_dims.ensures)
     ∙ c.if-same_dims.false in
     subst (λ z. IsRefusal c.refused.result z)
     (sym (reach_next (context_at c.args.here.now m) (where_at c.args.here.now)
     c.args.here.now.shaded c.args.w.now.variable (as_accessors c.args.w.now.accessors.now) _
     (given_by c.args.w.now.given) (state_of c.args.frame.now c.args.world.now qs)
-    (state_of c.args.frame.now c.given_value.new.world qs)
-    (state_of c.args.frame.now c.indices_in.new.world qs) (datum_of c.in_ok-value.value)
-    c.in_ok-indices.indices.items reached.0 (c.in_ok-value.ensures.value m qs)
+    (state_of c.args.frame.now c.new_value.new.world qs)
+    (state_of c.args.frame.now c.indices_in.new.world qs) (c.in_ok-value.ensures.value m qs).0
+    c.in_ok-indices.indices.items reached.0 (c.in_ok-value.ensures.value m qs).1
     (c.in_ok-indices.ensures.value m qs) reached.1
-    ∙ fits_by (where_at c.args.here.now) (datum_of c.in_ok-value.value)
+    ∙ fits_by (where_at c.args.here.now) (c.in_ok-value.ensures.value m qs).0
     (state_of c.args.frame.now c.indices_in.new.world qs) reached.0 false differs))
     c.refused.ensures

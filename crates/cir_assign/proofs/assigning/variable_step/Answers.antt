@@ -6,8 +6,7 @@ use Rattle.cir_meaning.specs.Frame.{State, variable_at}
 use Rattle.cir_meaning.specs.Places.{elements, numbers_from}
 use Rattle.cir_meaning.specs.Limits.{standing}
 use Rattle.cir_meaning.specs.Steps.{new_cells, old_reads, stepped, variable_cost}
-use Rattle.cir_meaning.specs.Arrays.{Datum, is_known}
-use Rattle.std.specs.Prelude.{count_by, not, ℕ}
+use Rattle.std.specs.Prelude.{ℕ}
 use Rattle.cir_arrays.specs.Counted.{counts_of}
 use Rattle.cir_frame.specs.Shown.{state_of}
 use Rattle.cir_cost.specs.Adds.{Adds, IsCost, read_alone}
@@ -45,8 +44,7 @@ returns-then-is_sure-clause-pays g c = λ m name qs s x shaded place is counted.
     (paid_unread c.new-cost.result c.node.new.self c.add_assigned.new.cost
     (assigned_cost k w false accessors given s) c.new-cost.ensures c.node.ensures adds) in
     let cells : c.unknown_count-cells.result ≡ new_cells n x =
-    c.unknown_count-cells.ensures
-    ∙ ap (λ (d : Datum). count_by (λ v. not (is_known v)) d.items) (sym is.value)
+    c.unknown_count-cells.ensures (variable_at s0.frame n) x.value is.value
     ∙ sym (sure_cells n x sure) in
     pays k w cost (paid (assigned_cost k w false accessors given s) (old_reads n x))
     c.add_assigned.new.cost (new_cells n x) c.unknown_count-cells.result total

@@ -1,5 +1,5 @@
 use Rattle.std.proofs.Common.{◌≡◌, ◌∙◌, ap, sym, true, false, Ok, List, ℕ, ◌+◌, ◌++◌, ◌∷◌, []}
-use Rattle.std.proofs.Common.{length, arith, map, refl, slice_set, subst}
+use Rattle.std.proofs.Common.{length, arith, refl, subst}
 use Rattle.cir_ast.specs.declared.program.Meant.TheVariants.{Variable}
 use Rattle.cir_ast.specs.Tree.{as_accessors}
 use Rattle.cir_meaning.specs.Frame as M
@@ -8,7 +8,6 @@ use Rattle.cir_meaning.specs.Places.{elements, numbers_from}
 use Rattle.cir_meaning.specs.Steps.{new_cells, stepped, variable_cost}
 use Rattle.cir_meaning.specs.Writing as W
 use Rattle.cir_arrays.specs.Counted.{counts_of}
-use Rattle.cir_arrays.specs.Shown.{datum_of}
 use Rattle.cir_frame.specs.Shown.{state_of}
 use Rattle.cir_evaluate.specs.Within.{Kept, context_at, where_at}
 use Rattle.cir_assign.specs.Given.{given_by, written_by}
@@ -56,10 +55,8 @@ returns-then-not-is_unknown-clause-leads g c = λ m name qs shaded place.
     sym (c.is_unknown.ensures n s1 x assigned.2 count) ∙ c.if-not-is_unknown.true in (
       qs,
       set_known k w written n accessors (given_by given) s x assigned.1 known
-          ∙ ap (λ (z : M.State). Ok z) (write_goes n x f c.write_variable.new.self w1 qs
-          (datum_of c.in_ok-a.a.value) assigned.2.state assigned.2.value
-          (c.write_variable.ensures (counts_of w1.added) assigned.2.indices x.reach
-          assigned.2.reach)),
+          ∙ ap (λ (z : M.State). Ok z) (write_goes n x f c.write_assigned.new.frame w1 qs x.value
+          assigned.2.state refl (c.in_ok-write_assigned.ensures s1 x assigned.2 refl)),
       lists_kept qs w0 w1 kept,
     )
 
@@ -84,7 +81,7 @@ returns-clause-leads g c = λ m name qs shaded place.
     let kept = ap (λ (y : Kept). y.constraints) (c.in_ok-a.ensures.keeps m) in
     let unknown : W.is_unknown n x ≡ true =
     sym (c.is_unknown.ensures n s1 x assigned.2 count) ∙ c.if-not-is_unknown.false in
-    let h = c.write_variable-2.new.self in
+    let h = c.write_assigned-2.new.frame in
     let w2 = c.variable_step.new.world in
     let cost = variable_cost k w written n accessors (given_by given) x s in
     let pays : PaysFor k w cost (new_cells n x) c.in_ok-step.step.cost c.in_ok-step.step.cells =
@@ -94,8 +91,8 @@ returns-clause-leads g c = λ m name qs shaded place.
     (ap uncounted (c.in_ok-plain_step.ensures.same m f qs)
     ∙ uncounted_kept f w0 w1 qs (c.in_ok-a.ensures.keeps m)) in
     let wrote : W.write_variable n x ≡ state_of h w2 qs =
-    write_goes n x f h w1 qs (datum_of c.in_ok-a.a.value) assigned.2.state assigned.2.value
-    (c.write_variable-2.ensures (counts_of w1.added) assigned.2.indices x.reach assigned.2.reach)
+    write_goes n x f h w1 qs x.value assigned.2.state refl
+    (c.in_ok-write_assigned-2.ensures s1 x assigned.2 refl)
     ∙ sym (c.in_ok-plain_step.ensures.same m h qs) ∙ sym (c.in_ok-step.ensures.same m h qs) in
     let paid = stepped k w pays.0 c.in_ok-step.step.cells (state_of h w2 qs) in
     leads_behind qs w0 w2 h c.stepped.new.world c.stepped.result _ paid
@@ -118,7 +115,7 @@ returns-then-not-is_unknown-clause-kept g c = λ m name qs first x steps a shade
     let written = written_by name (Variable n) c.args.w.now.accessors.now c.args.w.now.given in
     let w1 = c.variable_assignment.new.world in
     let f = c.args.inside.now.frame in
-    let h = c.write_variable.new.self in
+    let h = c.write_assigned.new.frame in
     let s1 = state_of f w1 qs in
     let assigned = rw shaded at (c.in_ok-a.ensures.value m qs) in
     let y = assigned.0 in
@@ -130,14 +127,12 @@ returns-then-not-is_unknown-clause-kept g c = λ m name qs first x steps a shade
     let both : Ok a ≡ Ok y =
     sym given ∙ ap (λ (z : M.State). W.variable_assignment k w n accessors e z) at_x ∙ assigned.1 in
     let same : y ≡ a = cc in
-    let wrote = c.write_variable.ensures (counts_of w1.added) assigned.2.indices y.reach
-    assigned.2.reach in
+    let wrote = c.in_ok-write_assigned.ensures s1 y assigned.2 refl in
     let u = state_of h w1 es in
     let here : IsKept first h c.args.inside.now.cells c.args.whole.now.made (with_state u x) steps =
     kept_known first f h c.args.inside.now.cells c.args.whole.now.made x steps n y u
     (ap (λ (z : M.State). z.frame.variables) assigned.2.state)
-    (ap (λ (z : M.Frame). z.variables) wrote ∙ ap (λ d. slice_set (map datum_of f.variables.items) n
-    (W.written_datum (M.variable_at s1.frame n) y.reach d)) (sym assigned.2.value))
+    (ap (λ (z : M.Frame). z.variables) wrote)
     (ap (λ (z : M.Frame). z.parts) wrote) known kept in
     known_after k w written n accessors e a u x steps
     (ap (λ (z : W.VariableAssignment). W.is_unknown n z) (sym same) ∙ known)
@@ -157,7 +152,7 @@ returns-clause-kept g c = λ m name qs first x steps a shaded place at_x given k
     let w0 = c.args.whole.now.world in
     let w1 = c.variable_assignment.new.world in
     let f = c.args.inside.now.frame in
-    let h = c.write_variable-2.new.self in
+    let h = c.write_assigned-2.new.frame in
     let s1 = state_of f w1 qs in
     let assigned = rw shaded at (c.in_ok-a.ensures.value m qs) in
     let y = assigned.0 in
@@ -169,8 +164,7 @@ returns-clause-kept g c = λ m name qs first x steps a shaded place at_x given k
     let both : Ok a ≡ Ok y =
     sym given ∙ ap (λ (z : M.State). W.variable_assignment k w n accessors e z) at_x ∙ assigned.1 in
     let same : y ≡ a = cc in
-    let wrote = c.write_variable-2.ensures (counts_of w1.added) assigned.2.indices y.reach
-    assigned.2.reach in
+    let wrote = c.in_ok-write_assigned-2.ensures s1 y assigned.2 refl in
     let u = state_of h c.stepped.new.world es in
     let counted : uncounted (known_in x) ≡ uncounted s1 =
     ap uncounted at_x ∙ sym (uncounted_kept f w0 w1 qs (c.in_ok-a.ensures.keeps m)) in
@@ -200,8 +194,7 @@ returns-clause-kept g c = λ m name qs first x steps a shaded place at_x given k
     c.in_ok-whole.field-0 x (steps ++ assigned_step k w written n accessors e y x ∷ []) n y u
     (ap (λ (z : M.State). z.frame.variables) assigned.2.state)
     (ap (λ (z : M.State). z.frame.variables) at_x)
-    (ap (λ (z : M.Frame). z.variables) wrote ∙ ap (λ d. slice_set (map datum_of f.variables.items) n
-    (W.written_datum (M.variable_at s1.frame n) y.reach d)) (sym assigned.2.value))
+    (ap (λ (z : M.Frame). z.variables) wrote)
     (ap (λ (z : M.Frame). z.parts) wrote) refl put
     (c.in_ok-whole.ensures.next ∙ ap (λ (ps : List ℕ). new.next + length ps) put_places)
     stepped in
