@@ -1,7 +1,7 @@
 //! The program `circom_gold`: its words, files and standard output, given to the library.
 #![tactic(auto)]
 
-ghost use Rattle.std.specs.Prelude.{◌≡◌, IfOk, IsErr};
+ghost use Rattle.std.specs.Prelude.{◌≡◌, IfErr, IfOk, IsErr};
 
 use circom_gold::run;
 use out_io::{RealSink, RealStore, Sink, Store};
@@ -18,8 +18,11 @@ const WANT_OF_MEMORY: u8 = 4;
 
 // A source is executed by calls inside each other, one for each template, call, statement and
 // expression that is open: 256 templates and 256 calls, with some 250 others in each. With 240 in
-// each it took half a gigabyte; only what is used of it is ever taken from the system.
+// each it took half a gigabyte; only what is used of it is ever taken from the system. The second
+// size is asked for where there is no room for the first.
 const STACK: usize = 1 << 30;
+
+const SMALLER_STACK: usize = 5 << 27;
 
 fn main(rt: HostRuntime) -> ExitCode {
     let outcome = match rt.clone() {
@@ -58,19 +61,34 @@ impl Promise<Result<u8, AllocError>> for Unsaid {
     ghost kept_by = { λ _ _. ⊤ };
 }
 
-// The answer of the work, on a stack of that size; where there can't be one, on this one.
-fn on_a_deep_stack<R: Threads, F: FnOnce() -> Result<u8, AllocError> + Send + 'static>(
+// The answer of the work, on a deep stack. Where there can't be one, memory is wanting.
+fn on_a_deep_stack<R: Threads, F: FnOnce() -> Result<u8, AllocError> + Send + Drop + 'static>(
     rt: &R,
     work: F,
 ) -> Result<u8, AllocError>
     requires { F.pre work }
 {
-    match Builder::new()
-        .stack_size(STACK)
-        .spawn_with(rt, Unsaid, work)
-    {
-        Ok(child) => child.join(rt),
-        Err(refused) => (refused.value)(),
+    match on_a_stack(rt, STACK, work) {
+        Ok(answer) => answer,
+        Err(work) => match on_a_stack(rt, SMALLER_STACK, work) {
+            Ok(answer) => answer,
+            Err(_) => Err(AllocError),
+        },
+    }
+}
+
+// The answer of the work, on a stack of that size; or the work, where there can't be one.
+fn on_a_stack<R: Threads, F: FnOnce() -> Result<u8, AllocError> + Send + Drop + 'static>(
+    rt: &R,
+    size: usize,
+    work: F,
+) -> Result<Result<u8, AllocError>, F>
+    requires { F.pre work }
+    ensures { IfErr result (λ left. F.pre left) }
+{
+    match Builder::new().stack_size(size).spawn_with(rt, Unsaid, work) {
+        Ok(child) => Ok(child.join(rt)),
+        Err(refused) => Err(refused.value),
     }
 }
 
