@@ -20,8 +20,8 @@ pub fn audited<R: Threads + AllocGlobal + Sync + Abort>(
     audit(rt, &bytes, &file, &values, proof).expect(rt, "memory")
 }
 
-// Ends the test unless this is the verdict on them as a proof of `c <== a * b`.
-fn has_verdict<R: Threads + AllocGlobal + Sync + Abort>(
+/// Ends the test unless this is the verdict on them as a proof of `c <== a * b`.
+pub fn has_verdict<R: Threads + AllocGlobal + Sync + Abort>(
     rt: &R,
     publics: &[u64],
     proof: &[u8],

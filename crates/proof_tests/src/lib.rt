@@ -11,6 +11,8 @@ mod checks;
 #[cfg(test)]
 mod field;
 #[cfg(test)]
+mod forged;
+#[cfg(test)]
 mod layout;
 #[cfg(test)]
 mod proofs;

@@ -9,8 +9,8 @@ use lig_proof::{Challenges, Proof, ProofFault, challenges, queries, read_proof, 
 use std::alloc::Global;
 use std::process::Abort;
 
-// The sizes for a file of four wires and one constraint.
-const SMALL: Params = Params {
+/// The sizes for a file of four wires and one constraint.
+pub const SMALL: Params = Params {
     l: 128,
     depth: 10,
     wire_rows: 1,
@@ -63,6 +63,11 @@ fn drawn<R: AllocGlobal + Abort>(rt: &R) -> Challenges {
     let file = bytes_of(rt, PRODUCT);
     let root = hash_of(rt, ROOT);
     challenges(rt.alloc(), &SMALL, &file, &[gold(33)], 5, &root).expect(rt, "memory")
+}
+
+/// The first key of the true proofs of that file, for the seed of zeros.
+pub fn first_key<R: AllocGlobal + Abort>(rt: &R) -> [u8; 32] {
+    drawn(rt).first
 }
 
 #[test]
@@ -124,7 +129,8 @@ fn put_values(rt: &impl Abort, bytes: &mut Vec<u8>, count: u64) {
     }
 }
 
-fn read<R: AllocGlobal + Abort>(rt: &R, bytes: &[u8]) -> Proof
+/// The proof that these bytes are, in version 1.
+pub fn read<R: AllocGlobal + Abort>(rt: &R, bytes: &[u8]) -> Proof
     ensures columns { length result.columns ≡ opened_count }
     ensures paths { length result.paths ≡ opened_count }
 {

@@ -49,7 +49,7 @@ pub fn proof_of<R: Threads + AllocGlobal + Sync + Abort>(
 }
 
 /// Ends the test unless the proof's SHA-256 is this, in hexadecimal.
-fn has_digest<R: AllocGlobal + Abort>(rt: &R, proof: &[u8], digest: &str) {
+pub fn has_digest<R: AllocGlobal + Abort>(rt: &R, proof: &[u8], digest: &str) {
     let hash = Sha256::digest(proof);
     let text = hex_of(rt, &hash);
     same(rt, text.as_str(), digest);

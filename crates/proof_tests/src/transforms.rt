@@ -110,7 +110,8 @@ static ROOTS: [(u32, u64); 9] = [
     (32, 1753635133440165772),
 ];
 
-fn fill(room: &mut [Gold], list: &[u64]) {
+/// The places take numbers below p, as far as the list goes.
+pub fn fill(room: &mut [Gold], list: &[u64]) {
     for (place, n) in room.iter_mut().zip(list) {
         *place = gold(*n);
     }
