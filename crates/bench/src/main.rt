@@ -3,11 +3,11 @@
 //! often.
 #![tactic(auto)]
 
-ghost use Rattle.std.specs.Prelude.{◌≤◌, length, IfOk};
+ghost use Rattle.std.specs.Prelude.{◌≡◌, ◌≤◌, ◌<◌, ◌^◌, ℕ, length, slice_index, IfOk};
 ghost use Rattle.gold_ntt.specs.Transform.{IsLength};
 
 use gold_field::{Gold, Op2, binary};
-use gold_ntt::{intt, ntt};
+use gold_ntt::{Coset, intt, ntt, sum_of_products};
 use std::alloc::{AllocError, Global};
 use std::{env, io};
 
@@ -23,6 +23,8 @@ fn main(rt: HostRuntime) -> io::Result<()> {
             "inv" => inverses(times),
             "shift" => shifts(times),
             "ntt" => transforms(rt.alloc(), size, times)?,
+            "coset" => coset_values(rt.alloc(), size, times)?,
+            "dot" => dots(rt.alloc(), size, times)?,
             _ => Gold::ZERO,
         },
         None => Gold::ZERO,
@@ -78,9 +80,51 @@ fn transforms(alloc: Global, size: u64, times: u64) -> Result<Gold, AllocError> 
     Ok(a.iter().fold(Gold::ZERO, |sum, x| sum.add(*x)))
 }
 
+/// The values of polynomials of a fourth as many coefficients: the first values are the next one's
+/// coefficients.
+fn coset_values(alloc: Global, size: u64, times: u64) -> Result<Gold, AllocError> {
+    let log = size.min(20) as u32;
+    let coset = Coset::of(alloc, log)?;
+    let mut a = numbers(alloc, log)?;
+    evaluate(&coset, &mut a, times);
+    Ok(a.iter().fold(Gold::ZERO, |sum, x| sum.add(*x)))
+}
+
+fn evaluate(coset: &Coset, a: &mut [Gold], times: u64)
+    requires { length a.old ≡ 2 ^ coset.now.log }
+{
+    let count = a.len() / 4;
+    for _ in 0..times {
+        clear(a, count);
+        coset.transform(a, count);
+    }
+}
+
+fn clear(a: &mut [Gold], count: usize)
+    ensures { (i : ℕ) → count ≤ i → i < length a.old → slice_index a.new i ≡ 0 }
+{
+    for i in count..a.len() {
+        a[i] = Gold::ZERO;
+    }
+}
+
+/// Sums of products of the numbers with themselves; each sum takes the first place.
+fn dots(alloc: Global, size: u64, times: u64) -> Result<Gold, AllocError> {
+    let mut a = numbers(alloc, size.min(20) as u32)?;
+    let mut sum = Gold::ZERO;
+    for _ in 0..times {
+        sum = sum_of_products(&a, &a);
+        if let Some(first) = a.first_mut() {
+            *first = sum;
+        }
+    }
+    Ok(sum)
+}
+
 fn numbers(alloc: Global, log: u32) -> Result<Vec<Gold>, AllocError>
     requires { log ≤ 20 }
-    ensures { IfOk result (λ v. IsLength (length v.items)) }
+    ensures length { IfOk result (λ v. IsLength (length v.items)) }
+    ensures size { IfOk result (λ v. length v.items ≡ 2 ^ log) }
 {
     let mut all = Vec::new(alloc);
     all.resize(1usize << log, Gold::ZERO)?;
