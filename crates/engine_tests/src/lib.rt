@@ -9,3 +9,5 @@ mod checks;
 mod events;
 #[cfg(test)]
 mod machine;
+#[cfg(test)]
+mod workers;
