@@ -20,7 +20,7 @@ use cir_values::Signals;
 use circom_files::{Generated, Reply, Stop};
 use circom_words::{Options, RunOptions, generated_start, generated_text};
 use gold_field::Gold;
-use out_io::IoFault;
+use out_io::{History, IoFault};
 use std::alloc::{AllocError, AllocGlobal, Global};
 use std::sync::Wait;
 use std::thread::Threads;
@@ -81,7 +81,10 @@ fn source_of(alloc: Global, size: u32) -> Result<Coded, Stop>
     ensures coded { IfOk result (IsCoded O1) }
 {
     let text = generated_text(alloc, size)?;
-    let mut store = OneFile { text };
+    let mut store = OneFile {
+        text,
+        history: History::new(),
+    };
     let options = Options {
         level: Level::O1,
         folder: None,

@@ -3,12 +3,14 @@
 #![tactic(auto)]
 
 mod fault;
+mod history;
 mod memory;
 mod real;
 mod sink;
 mod store;
 
-pub use fault::IoFault;
+pub use fault::{IoFault, rose};
+pub use history::History;
 pub use memory::{MemSink, MemStore};
 pub use real::{RealSink, RealStore};
 pub use sink::Sink;

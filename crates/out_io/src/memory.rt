@@ -1,11 +1,12 @@
-ghost use Rattle.std.specs.Prelude.{◌≡◌, ◌↔◌, ◌≤◌, ◌++◌, [], Some, if◌then◌else◌, IsTrue, IsErrOf};
-ghost use Rattle.std.specs.Prelude.{IfOk, OnOk, OnErr};
-ghost use Rattle.out_io.specs.Contents.{Finds, Replaces};
-ghost use Rattle.out_io.specs.Faults.{CountsFaults};
-ghost use Rattle.out_io.specs.Memory.{files_of, IsDue, next_call, one_more_fault, faults_after};
+ghost use Rattle.std.specs.Prelude.{◌≡◌, ◌↔◌, ◌≤◌, ◌∷◌, ◌++◌, [], ℕ, List, Some, if◌then◌else◌};
+ghost use Rattle.std.specs.Prelude.{IfOk, OnOk, OnErr, IsTrue, IsErrOf};
+ghost use Rattle.out_io.specs.Contents.{Contents, Finds, Replaces, bytes_of};
+ghost use Rattle.out_io.specs.Faults.{CountsFaults, faults_after, one_more_fault};
+ghost use Rattle.out_io.specs.History.{Appended, Put, Read, Write, Wrote, found_of};
+ghost use Rattle.out_io.specs.Memory.{files_of, IsDue, next_call};
 ghost use Rattle.out_io.specs.declared.fault.IoFault.TheVariants.{Failed};
 
-use crate::{IoFault, Sink, Store};
+use crate::{History, IoFault, Sink, Store};
 use std::alloc::Global;
 use std::collections::BTreeMap;
 
@@ -16,6 +17,7 @@ pub struct MemStore {
     pub fail: Vec<u32>,
     /// The next call's number. It stays at its last value, at which no call fails.
     pub calls: u32,
+    pub history: History,
     pub faults: u64,
 }
 
@@ -26,6 +28,7 @@ pub struct MemSink {
     pub fail: Vec<u32>,
     /// The next call's number. It stays at its last value, at which no call fails.
     pub calls: u32,
+    pub history: History,
     pub faults: u64,
 }
 
@@ -35,12 +38,14 @@ impl MemStore {
         ensures files { result.files.entries ≡ [] }
         ensures fail { result.fail.items ≡ [] }
         ensures calls { result.calls ≡ 0 }
+        ensures history { result.history.calls ≡ [] }
         ensures faults { result.faults ≡ 0 }
     {
         MemStore {
             files: BTreeMap::new(alloc),
             fail: Vec::new(alloc),
             calls: 0,
+            history: History::new(),
             faults: 0,
         }
     }
@@ -52,12 +57,14 @@ impl MemSink {
         ensures bytes { result.bytes.items ≡ [] }
         ensures fail { result.fail.items ≡ [] }
         ensures calls { result.calls ≡ 0 }
+        ensures history { result.history.calls ≡ [] }
         ensures faults { result.faults ≡ 0 }
     {
         MemSink {
             bytes: Vec::new(alloc),
             fail: Vec::new(alloc),
             calls: 0,
+            history: History::new(),
             faults: 0,
         }
     }
@@ -79,8 +86,52 @@ fn count_call(fail: &[u32], calls: &mut u32, faults: &mut u64) -> bool
     is_due
 }
 
+fn found_in(
+    alloc: Global,
+    files: &BTreeMap<String, Vec<u8>>,
+    name: &str,
+) -> Result<Option<Vec<u8>>, IoFault>
+    ensures found { IfOk result (λ found. bytes_of found ≡ files_of files.now name.now) }
+    ensures cause { ¬ IsErrOf result Failed }
+{
+    match files.get(name) {
+        None => Ok(None),
+        Some(bytes) => Ok(Some(Vec::from_slice(alloc, bytes)?)),
+    }
+}
+
+fn put_under(
+    alloc: Global,
+    files: &mut BTreeMap<String, Vec<u8>>,
+    name: &str,
+    bytes: &[u8],
+) -> Result<(), IoFault>
+    ensures ok { OnOk result
+        (Replaces name.now bytes.now (files_of files.old) (files_of files.new)) }
+    ensures err { OnErr result (files.new.entries ≡ files.old.entries) }
+    ensures cause { ¬ IsErrOf result Failed }
+{
+    let key = String::from_str(alloc, name)?;
+    let bytes = Vec::from_slice(alloc, bytes)?;
+    files.insert(key, bytes)?;
+    Ok(())
+}
+
+fn append(text: &mut Vec<u8>, bytes: &[u8]) -> Result<(), IoFault>
+    ensures ok { OnOk result (text.new.items ≡ text.old.items ++ bytes.now) }
+    ensures err { OnErr result (text.new.items ≡ text.old.items) }
+    ensures cause { ¬ IsErrOf result Failed }
+{
+    text.extend_from_slice(bytes)?;
+    Ok(())
+}
+
 impl Store for MemStore {
     ghost contents = { λ s. Some (files_of s.files) };
+
+    ghost may_hold = { λ s files. files ≡ files_of s.files };
+
+    ghost calls = { λ s. s.history.calls };
 
     ghost faults = { λ s. s.faults };
 
@@ -89,6 +140,8 @@ impl Store for MemStore {
     fn read(&mut self, alloc: Global, name: &str) -> Result<Option<Vec<u8>>, IoFault>
         ensures found { IfOk result (Finds (Some (files_of self.old.files)) name.now) }
         ensures same { self.new.files ≡ self.old.files }
+        ensures asked { self.new.history.calls
+            ≡ Read name.now (found_of result) ∷ self.old.history.calls }
 
         ensures cause { CountsFaults self.old.faults self.new.faults result }
         ensures steady { self.old.fail.items ≡ [] → (self.new.fail.items ≡ [])
@@ -100,18 +153,18 @@ impl Store for MemStore {
         ensures to_come { self.new.fail ≡ self.old.fail }
     {
         if count_call(&self.fail, &mut self.calls, &mut self.faults) {
-            return Err(IoFault::Failed);
+            return self.history.add_read(name, Err(IoFault::Failed));
         }
-        match self.files.get(name) {
-            None => Ok(None),
-            Some(bytes) => Ok(Some(Vec::from_slice(alloc, bytes)?)),
-        }
+        let found = found_in(alloc, &self.files, name);
+        self.history.add_read(name, found)
     }
 
     fn write(&mut self, alloc: Global, name: &str, bytes: &[u8]) -> Result<(), IoFault>
         ensures ok { OnOk result
             (Replaces name.now bytes.now (files_of self.old.files) (files_of self.new.files)) }
         ensures err { OnErr result (self.new.files.entries ≡ self.old.files.entries) }
+        ensures asked { self.new.history.calls
+            ≡ Write name.now bytes.now result ∷ self.old.history.calls }
 
         ensures cause { CountsFaults self.old.faults self.new.faults result }
         ensures steady { self.old.fail.items ≡ [] → (self.new.fail.items ≡ [])
@@ -123,17 +176,19 @@ impl Store for MemStore {
         ensures to_come { self.new.fail ≡ self.old.fail }
     {
         if count_call(&self.fail, &mut self.calls, &mut self.faults) {
-            return Err(IoFault::Failed);
+            return self.history.add_write(name, bytes, Err(IoFault::Failed));
         }
-        let key = String::from_str(alloc, name)?;
-        let bytes = Vec::from_slice(alloc, bytes)?;
-        self.files.insert(key, bytes)?;
-        Ok(())
+        let done = put_under(alloc, &mut self.files, name, bytes);
+        self.history.add_write(name, bytes, done)
     }
 }
 
 impl Sink for MemSink {
     ghost contents = { λ s. Some s.bytes.items };
+
+    ghost may_have = { λ s text. text ≡ s.bytes.items };
+
+    ghost calls = { λ s. s.history.calls };
 
     ghost faults = { λ s. s.faults };
 
@@ -142,6 +197,8 @@ impl Sink for MemSink {
     fn put(&mut self, bytes: &[u8]) -> Result<(), IoFault>
         ensures ok { OnOk result (self.new.bytes.items ≡ self.old.bytes.items ++ bytes.now) }
         ensures err { OnErr result (self.new.bytes.items ≡ self.old.bytes.items) }
+        ensures asked { self.new.history.calls
+            ≡ Put bytes.now result ∷ self.old.history.calls }
 
         ensures cause { CountsFaults self.old.faults self.new.faults result }
         ensures steady { self.old.fail.items ≡ [] → (self.new.fail.items ≡ [])
@@ -153,9 +210,9 @@ impl Sink for MemSink {
         ensures to_come { self.new.fail ≡ self.old.fail }
     {
         if count_call(&self.fail, &mut self.calls, &mut self.faults) {
-            return Err(IoFault::Failed);
+            return self.history.add_put(bytes, Err(IoFault::Failed));
         }
-        self.bytes.extend_from_slice(bytes)?;
-        Ok(())
+        let done = append(&mut self.bytes, bytes);
+        self.history.add_put(bytes, done)
     }
 }

@@ -1,7 +1,8 @@
-ghost use Rattle.std.specs.Prelude.{◌≡◌, ℕ, None};
-ghost use Rattle.out_io.specs.Faults.{CountsFaults};
+ghost use Rattle.std.specs.Prelude.{◌≡◌, ℕ, [], None};
+ghost use Rattle.out_io.specs.Faults.{CountsFaults, faults_after};
+ghost use Rattle.out_io.specs.History.{MayHave, MayHold};
 
-use crate::{IoFault, Sink, Store};
+use crate::{History, IoFault, Sink, Store};
 use std::alloc::Global;
 use std::fs::File;
 use std::io::{ErrorKind, Read, Write};
@@ -19,6 +20,7 @@ const BUFFER: usize = 65_536;
 #[derive(Drop)]
 pub struct RealStore<R: Files + Drop> {
     rt: R,
+    pub history: History,
     pub faults: u64,
 }
 
@@ -26,24 +28,35 @@ pub struct RealStore<R: Files + Drop> {
 #[derive(Drop)]
 pub struct RealSink<R: Print + Drop> {
     rt: R,
+    pub history: History,
     pub faults: u64,
 }
 
 impl<R: Files + Drop> RealStore<R> {
-    /// The files that this runtime opens; no call has failed yet.
+    /// The files that this runtime opens.
     pub fn new(rt: R) -> RealStore<R>
-        ensures { result.faults ≡ 0 }
+        ensures history { result.history.calls ≡ [] }
+        ensures faults { result.faults ≡ 0 }
     {
-        RealStore { rt, faults: 0 }
+        RealStore {
+            rt,
+            history: History::new(),
+            faults: 0,
+        }
     }
 }
 
 impl<R: Print + Drop> RealSink<R> {
-    /// The standard output of this runtime; no call has failed yet.
+    /// The standard output of this runtime.
     pub fn new(rt: R) -> RealSink<R>
-        ensures { result.faults ≡ 0 }
+        ensures history { result.history.calls ≡ [] }
+        ensures faults { result.faults ≡ 0 }
     {
-        RealSink { rt, faults: 0 }
+        RealSink {
+            rt,
+            history: History::new(),
+            faults: 0,
+        }
     }
 }
 
@@ -51,6 +64,7 @@ impl<R: Print + Drop> RealSink<R> {
 fn counted<T>(faults: &mut u64, outcome: Result<T, IoFault>) -> Result<T, IoFault>
     ensures same { result ≡ outcome }
     ensures cause { CountsFaults faults.old faults.new result }
+    ensures counted { faults.new ≡ faults_after result faults.old }
 {
     if let Err(IoFault::Failed) = &outcome {
         *faults = faults.saturating_add(1);
@@ -98,23 +112,31 @@ fn write_file<R: Files>(rt: &R, name: &str, bytes: &[u8]) -> Result<(), IoFault>
 impl<R: Files + Drop> Store for RealStore<R> {
     ghost contents = { λ s. None };
 
+    ghost may_hold = { λ s. MayHold s.history.calls };
+
+    ghost calls = { λ s. s.history.calls };
+
     ghost faults = { λ s. s.faults };
 
     ghost never_fails = { λ s. ⊥ };
 
     fn read(&mut self, alloc: Global, name: &str) -> Result<Option<Vec<u8>>, IoFault> {
-        let outcome = read_file(&self.rt, alloc, name);
-        counted(&mut self.faults, outcome)
+        let found = counted(&mut self.faults, read_file(&self.rt, alloc, name));
+        self.history.add_read(name, found)
     }
 
     fn write(&mut self, _alloc: Global, name: &str, bytes: &[u8]) -> Result<(), IoFault> {
-        let outcome = write_file(&self.rt, name, bytes);
-        counted(&mut self.faults, outcome)
+        let done = counted(&mut self.faults, write_file(&self.rt, name, bytes));
+        self.history.add_write(name, bytes, done)
     }
 }
 
 impl<R: Print + Drop> Sink for RealSink<R> {
     ghost contents = { λ s. None };
+
+    ghost may_have = { λ s. MayHave s.history.calls };
+
+    ghost calls = { λ s. s.history.calls };
 
     ghost faults = { λ s. s.faults };
 
@@ -125,6 +147,7 @@ impl<R: Print + Drop> Sink for RealSink<R> {
             Ok(()) => Ok(()),
             Err(_) => Err(IoFault::Failed),
         };
-        counted(&mut self.faults, outcome)
+        let done = counted(&mut self.faults, outcome);
+        self.history.add_put(bytes, done)
     }
 }

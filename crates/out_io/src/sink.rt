@@ -1,6 +1,7 @@
-ghost use Rattle.std.specs.Prelude.{◌≡◌, ℕ, List, Option, OnOk, OnErr};
+ghost use Rattle.std.specs.Prelude.{◌≡◌, ◌∷◌, ℕ, List, Option, OnOk, OnErr};
 ghost use Rattle.out_io.specs.Written.{IsAppended, IsAppendedInPart};
-ghost use Rattle.out_io.specs.Faults.{CountsFaults};
+ghost use Rattle.out_io.specs.Faults.{CountsFaults, faults_after};
+ghost use Rattle.out_io.specs.History.{Appended, Call, Put};
 
 use crate::IoFault;
 
@@ -8,6 +9,12 @@ use crate::IoFault;
 pub trait Sink {
     // What it was given so far, where it tells.
     ghost contents: { Self → Option (List ℕ) };
+
+    // Whether this may be what was put so far: it agrees with all its answers.
+    ghost may_have: { Self → List ℕ → Type 0 };
+
+    // Its calls so far, of which the last one stands first.
+    ghost calls: { Self → List Call };
 
     // How many of its calls have failed.
     ghost faults: { Self → ℕ };
@@ -21,7 +28,13 @@ pub trait Sink {
         ensures err { OnErr result
             (IsAppendedInPart bytes.now (contents self.old) (contents self.new)) }
 
+        ensures appended { (text : List ℕ) → may_have self.new text →
+            (before : List ℕ) × may_have self.old before
+            × Appended result bytes.now before text }
+        ensures asked { calls self.new ≡ Put bytes.now result ∷ calls self.old }
+
         ensures cause { CountsFaults (faults self.old) (faults self.new) result }
+        ensures counted { faults self.new ≡ faults_after result (faults self.old) }
         ensures steady { never_fails self.old → never_fails self.new
             × (faults self.new ≡ faults self.old) };
 }

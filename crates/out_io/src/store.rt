@@ -1,6 +1,8 @@
-ghost use Rattle.std.specs.Prelude.{◌≡◌, ℕ, Option, IfOk, OnOk, OnErr};
+ghost use Rattle.std.specs.Prelude.{◌≡◌, ◌∷◌, ℕ, List, Option, IfOk, OnOk, OnErr};
 ghost use Rattle.out_io.specs.Contents.{Contents, Finds, Changes, Replaces, ReplacesInPart};
-ghost use Rattle.out_io.specs.Faults.{CountsFaults};
+ghost use Rattle.out_io.specs.Contents.{bytes_of};
+ghost use Rattle.out_io.specs.Faults.{CountsFaults, faults_after};
+ghost use Rattle.out_io.specs.History.{Call, Read, Write, Wrote, found_of};
 
 use crate::IoFault;
 use std::alloc::Global;
@@ -9,6 +11,12 @@ use std::alloc::Global;
 pub trait Store {
     // What it holds, where it tells.
     ghost contents: { Self → Option Contents };
+
+    // Whether these may be its contents: they agree with all its answers so far.
+    ghost may_hold: { Self → Contents → Type 0 };
+
+    // Its calls so far, of which the last one stands first.
+    ghost calls: { Self → List Call };
 
     // How many of its calls have failed.
     ghost faults: { Self → ℕ };
@@ -21,7 +29,13 @@ pub trait Store {
         ensures found { IfOk result (Finds (contents self.old) name.now) }
         ensures same { contents self.new ≡ contents self.old }
 
+        ensures there { IfOk result (λ found. (files : Contents) →
+            may_hold self.new files → bytes_of found ≡ files name.now) }
+        ensures still { (files : Contents) → may_hold self.new files → may_hold self.old files }
+        ensures asked { calls self.new ≡ Read name.now (found_of result) ∷ calls self.old }
+
         ensures cause { CountsFaults (faults self.old) (faults self.new) result }
+        ensures counted { faults self.new ≡ faults_after result (faults self.old) }
         ensures steady { never_fails self.old → never_fails self.new
             × (faults self.new ≡ faults self.old) };
 
@@ -32,7 +46,13 @@ pub trait Store {
         ensures err { OnErr result
             (Changes (ReplacesInPart name.now bytes.now) (contents self.old) (contents self.new)) }
 
+        ensures wrote { (after : Contents) → may_hold self.new after →
+            (files : Contents) × may_hold self.old files
+            × Wrote result name.now bytes.now files after }
+        ensures asked { calls self.new ≡ Write name.now bytes.now result ∷ calls self.old }
+
         ensures cause { CountsFaults (faults self.old) (faults self.new) result }
+        ensures counted { faults self.new ≡ faults_after result (faults self.old) }
         ensures steady { never_fails self.old → never_fails self.new
             × (faults self.new ≡ faults self.old) };
 }
