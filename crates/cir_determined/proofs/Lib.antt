@@ -11,3 +11,4 @@ pub mod Verdicts
 pub mod Closed
 pub mod Counting
 pub mod Found
+pub mod Texts

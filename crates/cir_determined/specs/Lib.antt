@@ -5,3 +5,4 @@ pub mod Rules
 pub mod Certificate
 pub mod Determined
 pub mod Search
+pub mod Text

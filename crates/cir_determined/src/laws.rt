@@ -1,11 +1,12 @@
 //! Laws of certificates, as functions that do nothing: the law is what each ensures.
-ghost use Rattle.std.specs.Prelude.{◌≡◌, ℕ, ◌*◌, ◌≤◌, true, List, All, length};
+ghost use Rattle.std.specs.Prelude.{◌≡◌, ◌↔◌, ℕ, ◌*◌, ◌≤◌, true, List, All, length, Some, Ok};
 ghost use Rattle.gold_field.specs.Form.{ConstraintBelow};
 ghost use Rattle.cir_determined.specs.declared.rule.Rule.{Rule as ARule};
 ghost use Rattle.cir_determined.specs.Circuit.{Circuit, in_normal_form};
 ghost use Rattle.cir_determined.specs.Marks.{opening};
 ghost use Rattle.cir_determined.specs.Certificate.{AllApply, IsCertificate, IsClosed, shown_by};
 ghost use Rattle.cir_determined.specs.Determined.{Determines};
+ghost use Rattle.cir_determined.specs.Text.{IsNarrow, line_of, rule_of, rules_of, rules_text};
 
 /// Where there is a certificate, the inputs determine the outputs.
 pub fn certificates_are_sound()
@@ -29,4 +30,16 @@ pub fn rules_are_few()
     ensures { (c : Circuit) (rules : List ARule) → All (ConstraintBelow c.wires) c.constraints
         → AllApply c.constraints (opening c) rules
         → length rules ≤ 2 * c.wires }
+{}
+
+/// Rules that were written are read back.
+pub fn written_rules_are_read()
+    ensures { (rules : List ARule) → All IsNarrow rules → length rules ≤ 4194304
+        → rules_of (rules_text rules) ≡ Ok rules }
+{}
+
+/// A line says a rule just where it is the one that is written of it.
+pub fn rules_have_one_line()
+    ensures { (line : List ℕ) (rule : ARule)
+        → rule_of line ≡ Some rule ↔ (line ≡ line_of rule) × IsNarrow rule }
 {}

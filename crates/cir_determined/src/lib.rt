@@ -10,8 +10,10 @@ mod normal;
 mod rule;
 mod search;
 mod step;
+mod text;
 mod verdict;
 
 pub use rule::{Answer, Confirm, Rule};
 pub use search::determine;
+pub use text::{RuleFault, read_rules, write_rules};
 pub use verdict::confirm;
