@@ -12,3 +12,4 @@ pub mod Closed
 pub mod Counting
 pub mod Found
 pub mod Texts
+pub mod Once

@@ -102,7 +102,7 @@ numbers_are : (text a b : List ℕ) (m n : ℕ) (x y : Option ℕ) → number_of
 numbers_are text a b m n None y p q e h = cc
 numbers_are text a b m n (Some i) None p q e h = cc
 numbers_are text a b m n (Some i) (Some j) p q e h =
-    let one : (i, j) ≡ (m, n) = cc in
+    let one : ◌≡◌ {A = ℕ × ℕ} (i, j) (m, n) = cc in
     let im : i ≡ m = ap (λ (r : ℕ × ℕ). r.0) one in
     let jn : j ≡ n = ap (λ (r : ℕ × ℕ). r.1) one in
     let v = is_written i a p in

@@ -66,3 +66,8 @@ pub record IsLeastUnshown (c : Circuit) (wire : ℕ) : Type 0 where
 abbrev pub IsAnswer : Circuit → Answer → Type 0
 IsAnswer c (Shown rules) = IsCertificate c rules.items × (length rules.items ≤ 2 * c.wires)
 IsAnswer c (NotShown wire) = IsLeastUnshown c wire
+
+-- there is a certificate
+abbrev pub IsShown : Answer → Type 0
+IsShown (Shown rules) = Unit {0}
+IsShown (NotShown wire) = ⊥

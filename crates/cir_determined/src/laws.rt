@@ -1,10 +1,13 @@
 //! Laws of certificates, as functions that do nothing: the law is what each ensures.
-ghost use Rattle.std.specs.Prelude.{◌≡◌, ◌↔◌, ℕ, ◌*◌, ◌≤◌, true, List, All, length, Some, Ok};
+ghost use Rattle.std.specs.Prelude.{◌≡◌, ◌⊎◌, ◌↔◌, ℕ, ◌*◌, ◌≤◌, true, List, All, length, Some, Ok};
 ghost use Rattle.gold_field.specs.Form.{ConstraintBelow};
 ghost use Rattle.cir_determined.specs.declared.rule.Rule.{Rule as ARule};
+ghost use Rattle.cir_determined.specs.declared.rule.Confirm.{Confirm as AConfirm};
+ghost use Rattle.cir_determined.specs.declared.rule.Answer.{Answer as AnAnswer};
 ghost use Rattle.cir_determined.specs.Circuit.{Circuit, in_normal_form};
 ghost use Rattle.cir_determined.specs.Marks.{opening};
 ghost use Rattle.cir_determined.specs.Certificate.{AllApply, IsCertificate, IsClosed, shown_by};
+ghost use Rattle.cir_determined.specs.Certificate.{IsAnswer, IsShown, IsVerdict};
 ghost use Rattle.cir_determined.specs.Determined.{Determines};
 ghost use Rattle.cir_determined.specs.Text.{IsNarrow, line_of, rule_of, rules_of, rules_text};
 
@@ -30,6 +33,19 @@ pub fn rules_are_few()
     ensures { (c : Circuit) (rules : List ARule) → All (ConstraintBelow c.wires) c.constraints
         → AllApply c.constraints (opening c) rules
         → length rules ≤ 2 * c.wires }
+{}
+
+/// A list of rules has one verdict.
+pub fn one_verdict()
+    ensures { (c : Circuit) (rules : List ARule) (a b : AConfirm) → IsVerdict c rules a
+        → IsVerdict c rules b
+        → a ≡ b }
+{}
+
+/// A circuit has one answer, but for the rules that are shown.
+pub fn one_answer()
+    ensures { (c : Circuit) (a b : AnAnswer) → IsAnswer c a → IsAnswer c b
+        → (a ≡ b) ⊎ (IsShown a × IsShown b) }
 {}
 
 /// Rules that were written are read back.

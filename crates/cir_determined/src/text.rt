@@ -1,8 +1,8 @@
-ghost use Rattle.std.specs.Prelude.{◌≡◌, ◌≤◌, [], ◌∷◌, ◌++◌, length, decimal, IfOk, OnOk};
+ghost use Rattle.std.specs.Prelude.{◌≡◌, ◌≤◌, [], ◌∷◌, ◌++◌, length, decimal, IfOk, OnOk, Ok};
 ghost use Rattle.binary_format.specs.Reading.{Gives};
 ghost use Rattle.text_lines.specs.Reading.{refused};
 ghost use Rattle.cir_determined.specs.Text.{line_of, pair_of, pair_text, rule_of, rule_named};
-ghost use Rattle.cir_determined.specs.Text.{rules_of, rules_text};
+ghost use Rattle.cir_determined.specs.Text.{rules_of, rules_text, IsNarrow};
 
 use crate::rule::Rule;
 use std::alloc::{AllocError, Global};
@@ -16,7 +16,9 @@ pub type RuleFault = LineFault;
 
 /// The text of rules: `solve K W`, `bool K W` or `bits K`, each with a line feed behind it.
 pub fn write_rules(alloc: Global, rules: &[Rule]) -> Result<Vec<u8>, AllocError>
-    ensures { IfOk result (λ text. text.items ≡ rules_text rules.now) }
+    ensures text { IfOk result (λ text. text.items ≡ rules_text rules.now) }
+    ensures read_back { IfOk result (λ text. length rules.now ≤ 4194304
+        → rules_of text.items ≡ Ok rules.now) }
 {
     let mut text = Vec::new(alloc);
     for rule in rules {
@@ -34,7 +36,8 @@ pub fn read_rules(alloc: Global, text: &[u8]) -> Result<Vec<Rule>, RuleFault>
 }
 
 fn put_rule(out: &mut Vec<u8>, rule: Rule) -> Result<(), AllocError>
-    ensures { OnOk result (out.new.items ≡ out.old.items ++ (line_of rule ++ 10 ∷ [])) }
+    ensures text { OnOk result (out.new.items ≡ out.old.items ++ (line_of rule ++ 10 ∷ [])) }
+    ensures narrow { IsNarrow rule }
 {
     match rule {
         Rule::Solve { constraint, wire } => {
