@@ -3,3 +3,4 @@ pub mod Leading
 pub mod Paths
 pub mod Places
 pub mod Walk
+pub mod Binding

@@ -3,3 +3,4 @@ pub mod Merkle
 pub mod Nodes
 pub mod Shared
 pub mod Levels
+pub mod Binding

@@ -9,13 +9,18 @@ use Rattle.sha2.specs.Sha256.{sha256}
 abbrev pub column_bytes : List ℕ → List ℕ
 column_bytes column = flat_map (to_le_bytes w64) column
 
--- the hash of the leaf that holds a column
-abbrev pub leaf_hash : List ℕ → List ℕ
-leaf_hash column = sha256 (0 ∷ column_bytes column)
+-- what is hashed for the leaf that holds a column, and for the node over two children
+abbrev pub leaf_message : List ℕ → List ℕ
+leaf_message column = 0 ∷ column_bytes column
 
--- the hash of the node over two children
+abbrev pub node_message : List ℕ → List ℕ → List ℕ
+node_message left right = 1 ∷ (left ++ right)
+
+abbrev pub leaf_hash : List ℕ → List ℕ
+leaf_hash column = sha256 (leaf_message column)
+
 abbrev pub node_hash : List ℕ → List ℕ → List ℕ
-node_hash left right = sha256 (1 ∷ (left ++ right))
+node_hash left right = sha256 (node_message left right)
 
 -- the leaves of a tree: 2 ^ depth hashes
 pub record Leaves : Type 0 where

@@ -3,6 +3,7 @@
 ghost use Rattle.std.specs.Prelude.{◌≡◌, ◌<◌, ◌^◌, ℕ, List, slice_index_or, []};
 ghost use Rattle.lig_merkle.specs.Merkle.{PathLeadsToRoot};
 ghost use Rattle.lig_merkle.specs.Shared.{SharedNodesLeadToRoot};
+ghost use Rattle.lig_merkle.specs.Binding.{OpeningsBind};
 
 /// A leaf, its index and its path lead to the root, in every tree.
 pub fn path_leads_to_root()
@@ -12,4 +13,10 @@ pub fn path_leads_to_root()
 /// Opened leaves, with the nodes that they share, lead to the root, in every tree.
 pub fn shared_nodes_lead_to_root()
     ensures { SharedNodesLeadToRoot }
+{}
+
+/// Two openings of one root at one place that have different columns hash, on one of the levels, two
+/// different messages with one SHA-256 digest.
+pub fn openings_bind()
+    ensures { OpeningsBind }
 {}

@@ -12,6 +12,6 @@ mod opened;
 mod tree;
 
 pub use hash::{Hash, absorb, leaf, root_of};
-pub use laws::{path_leads_to_root, shared_nodes_lead_to_root};
+pub use laws::{openings_bind, path_leads_to_root, shared_nodes_lead_to_root};
 pub use opened::{root_of_many, shared};
 pub use tree::Tree;
