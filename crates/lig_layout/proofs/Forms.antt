@@ -86,7 +86,7 @@ combined_at-append place (n ∷ r) s (form ∷ a) b e =
     let same : length r ≡ length a = omega arith in
     ap (λ x. n * coefficient place form + x) (combined_at-append place r s a b same) ∙ omega arith
 
-length-differences : (start : ℕ) (side : Side) (ks : List Constraint)
+pub length-differences : (start : ℕ) (side : Side) (ks : List Constraint)
     → length (differences start (forms side ks)) ≡ length ks
 length-differences start side [] = refl
 length-differences start side (k ∷ ks) = ap suc (length-differences (start + 1) side ks)

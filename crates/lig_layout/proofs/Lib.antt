@@ -4,3 +4,4 @@ pub mod Wired
 pub mod Forms
 pub mod Products
 pub mod Solving
+pub mod Exact

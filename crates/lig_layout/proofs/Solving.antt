@@ -12,6 +12,8 @@ use Rattle.gold_field.specs.declared.gold.TheConstants.{P}
 use Rattle.gold_field.specs.declared.form.Term.{Term}
 use Rattle.gold_field.specs.declared.form.Constraint.{Constraint}
 use Rattle.gold_field.specs.Form.{SignalsBelow, ConstraintBelow, value_at}
+use Rattle.iden_files.specs.File.{File}
+use Rattle.lig_layout.specs.declared.matrix.Vectors.{Vectors}
 use Rattle.lig_layout.specs.declared.side.Side.{Side}
 use Rattle.lig_layout.specs.declared.side.Side.TheVariants.{A, B, C}
 use Rattle.lig_layout.specs.Sides.{form_of, forms}
@@ -45,7 +47,7 @@ behind n k xs ys h = ap (λ a. slice_index (padded n xs ++ ys) (a + k)) (sym (le
     ∙ get_or-append-add (padded n xs) ys k 0
 
 -- a form has one value at lists that agree on its signals
-exact-same : (n : ℕ) (m w : List ℕ) (form : List Term)
+pub exact-same : (n : ℕ) (m w : List ℕ) (form : List Term)
     → ((i : ℕ) → i < n → slice_index m i ≡ slice_index w i) → SignalsBelow n form
     → exact m form ≡ exact w form
 exact-same n m w [] same below = refl
@@ -84,7 +86,7 @@ one_side n st m w side (c ∷ ks) same below there =
     ∙ ap (λ xs. 0 ∷ xs) rest
 
 -- the first wires have their values
-wires_known : (n i count : ℕ) (m w : List ℕ) → ((i : ℕ) → i < n → slice_index m i ≡ slice_index w i)
+pub wires_known : (n i count : ℕ) (m w : List ℕ) → ((i : ℕ) → i < n → slice_index m i ≡ slice_index w i)
     → ((i : ℕ) → slice_index w i < P) → n ≤ length w → i + count ≤ n
     → map (value_at (slice_index m)) (wire_forms i count) ≡ take count (drop i w)
 wires_known n i zero m w same reduced whole h = refl
@@ -97,7 +99,7 @@ wires_known n i (suc count) m w same reduced whole h =
     ∙ ap (λ xs. slice_index w i ∷ xs) rest
     ∙ ap (take (suc count)) (sym (drop_more w i 0 (omega arith)))
 
-zeros : (q : ℕ) → replicate {A = ℕ} q 0 ++ (replicate q 0 ++ replicate q 0) ≡ replicate (3 * q) 0
+pub zeros : (q : ℕ) → replicate {A = ℕ} q 0 ++ (replicate q 0 ++ replicate q 0) ≡ replicate (3 * q) 0
 zeros q =
     let two : replicate {A = ℕ} q 0 ++ replicate q 0 ≡ replicate (q + q) 0 =
     replicate-append-replicate q q 0 in
@@ -106,13 +108,76 @@ zeros q =
     let count : q + (q + q) ≡ 3 * q = omega arith in
     ap (λ xs. replicate {A = ℕ} q 0 ++ xs) two ∙ three ∙ ap (λ n. replicate {A = ℕ} n 0) count
 
-three_maps : (g : List Term → ℕ) (a b c d : List (List Term))
+pub three_maps : (g : List Term → ℕ) (a b c d : List (List Term))
     → map g (a ++ (b ++ (c ++ d))) ≡ map g a ++ (map g b ++ (map g c ++ map g d))
 three_maps g a b c d = map-append g a (b ++ (c ++ d))
     ∙ ap (λ x. map g a ++ x) (map-append g b (c ++ d) ∙ ap (λ x. map g b ++ x) (map-append g c d))
 
-regroup : (z k : List ℕ) → z ++ (z ++ (z ++ k)) ≡ (z ++ (z ++ z)) ++ k
+pub regroup : (z k : List ℕ) → z ++ (z ++ (z ++ k)) ≡ (z ++ (z ++ z)) ++ k
 regroup z k = sym (simp append_assoc)
+
+-- the first wires are wire 0 and the public ones
+pub known_taken : (f : File) (w : List ℕ) → 0 < length w
+    → take (known_wires f) (drop 0 w) ≡ slice_index w 0 ∷ publics_of f w
+known_taken f w some =
+    let count : known_wires f ≡ suc (f.outputs + f.public_inputs) = omega arith in
+    ap (λ n. take n w) count
+    ∙ ap (take (suc (f.outputs + f.public_inputs))) (drop_more w 0 0 some)
+
+-- the places of vectors with a value for each wire and each constraint
+module _ (f : File) (v : Vectors) (w_count : length v.w ≡ f.wires)
+    (x_count : length v.x ≡ length f.constraints) (y_count : length v.y ≡ length f.constraints)
+    (z_count : length v.z ≡ length f.constraints) where
+  abbrev wires : ℕ
+  wires = (params_of f).wire_rows * (params_of f).l
+
+  abbrev side : ℕ
+  side = (params_of f).constraint_rows * (params_of f).l
+
+  abbrev rest_y : List ℕ
+  rest_y = padded side v.y ++ padded side v.z
+
+  abbrev rest_x : List ℕ
+  rest_x = padded side v.x ++ rest_y
+
+  abbrev values : List ℕ
+  values = message (params_of f) v
+
+  pos : 0 < (params_of f).l
+  pos = pow_pos (width_exponent (f.wires + 3 * length f.constraints))
+
+  room : length v.w ≤ wires
+  room = omega (arith, w_count, ceil_room f.wires (params_of f).l pos)
+
+  side_room : length f.constraints ≤ side
+  side_room = ceil_room (length f.constraints) (params_of f).l pos
+
+  pub wires_at : (i : ℕ) → i < f.wires → slice_index values i ≡ slice_index v.w i
+  wires_at i h = in_front wires i v.w rest_x room (omega (arith, w_count))
+
+  pub x_at : (k : ℕ) → k < length f.constraints
+      → slice_index values (x_start (params_of f) + k) ≡ slice_index v.x k
+  x_at k h =
+      behind wires k v.w rest_x room
+      ∙ in_front side k v.x rest_y (omega (arith, x_count, side_room)) (omega (arith, x_count))
+
+  pub y_at : (k : ℕ) → k < length f.constraints
+      → slice_index values (y_start (params_of f) + k) ≡ slice_index v.y k
+  y_at k h =
+      let place : y_start (params_of f) + k ≡ wires + (side + k) = omega arith in
+      ap (slice_index values) place ∙ behind wires (side + k) v.w rest_x room
+      ∙ behind side k v.x rest_y (omega (arith, x_count, side_room))
+      ∙ in_front side k v.y (padded side v.z) (omega (arith, y_count, side_room))
+      (omega (arith, y_count))
+
+  pub z_at : (k : ℕ) → k < length f.constraints
+      → slice_index values (z_start (params_of f) + k) ≡ slice_index v.z k
+  z_at k h =
+      let place : z_start (params_of f) + k ≡ wires + (side + (side + k)) = omega arith in
+      ap (slice_index values) place ∙ behind wires (side + (side + k)) v.w rest_x room
+      ∙ behind side (side + k) v.x rest_y (omega (arith, x_count, side_room))
+      ∙ behind side k v.y (padded side v.z) (omega (arith, y_count, side_room))
+      ∙ get_or_append_left v.z (replicate (side - length v.z) 0) 0 k (omega (arith, z_count))
 
 pub solves : VectorsSolve
 solves f w file limits len reduced one =
@@ -121,61 +186,22 @@ solves f w file limits len reduced one =
     let p = params_of f in
     let v = vectors_of f w in
     let m = message p v in
-    let pos = pow_pos (width_exponent (f.wires + 3 * q)) in
-    let wires = p.wire_rows * p.l in
-    let side = p.constraint_rows * p.l in
-    let rest_y = padded side v.y ++ padded side v.z in
-    let rest_x = padded side v.x ++ rest_y in
-    let room : length w ≤ wires = omega (arith, ceil_room f.wires p.l pos) in
-    let x_fits : length v.x ≤ side =
-    omega (
-      arith,
-      ceil_room q p.l pos,
-      length-map ks (λ (k : Constraint). value_at (slice_index w) (form_of A k)),
-    ) in
-    let y_fits : length v.y ≤ side =
-    omega (
-      arith,
-      ceil_room q p.l pos,
-      length-map ks (λ (k : Constraint). value_at (slice_index w) (form_of B k)),
-    ) in
-    let same : (i : ℕ) → i < f.wires → slice_index m i ≡ slice_index w i =
-    λ i h. in_front wires i w rest_x room (omega arith) in
-    let in_x : (k : ℕ) → k < q → slice_index m (x_start p + k) ≡ slice_index v.x k = λ k h.
-    behind wires k w rest_x room
-    ∙ in_front side k v.x rest_y x_fits
-    (omega (
-      arith,
-      length-map ks (λ (k : Constraint). value_at (slice_index w) (form_of A k)),
-    )) in
-    let in_y : (k : ℕ) → k < q → slice_index m (y_start p + k) ≡ slice_index v.y k = λ k h.
-    let place : y_start p + k ≡ wires + (side + k) = omega arith in
-    ap (slice_index m) place ∙ behind wires (side + k) w rest_x room
-    ∙ behind side k v.x rest_y x_fits
-    ∙ in_front side k v.y (padded side v.z) y_fits
-    (omega (
-      arith,
-      length-map ks (λ (k : Constraint). value_at (slice_index w) (form_of B k)),
-    )) in
-    let in_z : (k : ℕ) → k < q → slice_index m (z_start p + k) ≡ slice_index v.z k = λ k h.
-    let place : z_start p + k ≡ wires + (side + (side + k)) = omega arith in
-    ap (slice_index m) place ∙ behind wires (side + (side + k)) w rest_x room
-    ∙ behind side (side + k) v.x rest_y x_fits ∙ behind side k v.y (padded side v.z) y_fits
-    ∙ get_or_append_left v.z (replicate (side - length v.z) 0) 0 k
-    (omega (
-      arith,
-      length-map ks (λ (k : Constraint). value_at (slice_index w) (form_of C k)),
-    )) in
+    let x_count = length-map ks (λ (k : Constraint). value_at (slice_index w) (form_of A k)) in
+    let y_count = length-map ks (λ (k : Constraint). value_at (slice_index w) (form_of B k)) in
+    let z_count = length-map ks (λ (k : Constraint). value_at (slice_index w) (form_of C k)) in
+    let same = wires_at f v len x_count y_count z_count in
     let g = value_at (slice_index m) in
-    let sides_x = one_side f.wires (x_start p) m w A ks same file.wired in_x in
-    let sides_y = one_side f.wires (y_start p) m w B ks same file.wired in_y in
-    let sides_z = one_side f.wires (z_start p) m w C ks same file.wired in_z in
+    let sides_x = one_side f.wires (x_start p) m w A ks same file.wired
+    (x_at f v len x_count y_count z_count) in
+    let sides_y = one_side f.wires (y_start p) m w B ks same file.wired
+    (y_at f v len x_count y_count z_count) in
+    let sides_z = one_side f.wires (z_start p) m w C ks same file.wired
+    (z_at f v len x_count y_count z_count) in
     let count : known_wires f ≡ suc (f.outputs + f.public_inputs) = omega arith in
     let known : map g (wire_forms 0 (known_wires f)) ≡ 1 ∷ publics_of f w =
     wires_known f.wires 0 (known_wires f) m w same reduced (omega arith)
     (omega (arith, file.numbered))
-    ∙ ap (λ n. take n w) count
-    ∙ ap (take (suc (f.outputs + f.public_inputs))) (drop_more w 0 0 (omega (arith, file.numbered)))
+    ∙ known_taken f w (omega (arith, file.numbered))
     ∙ ap (λ x. x ∷ publics_of f w) one in
     three_maps g (differences (x_start p) (forms A ks)) (differences (y_start p) (forms B ks))
     (differences (z_start p) (forms C ks)) (wire_forms 0 (known_wires f))

@@ -5,3 +5,4 @@ pub mod Layout
 pub mod System
 pub mod Laws
 pub mod Adding
+pub mod Solutions

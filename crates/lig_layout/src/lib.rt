@@ -15,7 +15,7 @@ mod side;
 mod system;
 
 pub use fill::vectors;
-pub use laws::{combining_is_linear, vectors_solve};
+pub use laws::{combining_is_linear, system_is_file, vectors_solve};
 pub use matrix::Vectors;
 pub use params::Params;
 pub use system::combine;
