@@ -1,16 +1,17 @@
 -- What a tree is made of are hashes.
 use Rattle.std.proofs.Common.{◌≡◌, ℕ, zero, suc, ◌+◌, ◌-◌, ◌*◌, ◌%◌, ◌^◌, ◌<◌, List, [], ◌∷◌, ◌++◌}
-use Rattle.std.proofs.Common.{Bool, true, false, cond, ltb, not, All, length, get_or, slice_index}
-use Rattle.std.proofs.Common.{map, take, drop, refl, sym, subst, arith, ⊎_elim, lit<}
+use Rattle.std.proofs.Common.{Bool, true, false, cond, ltb, not, All, get_or, slice_index}
+use Rattle.std.proofs.Common.{map, take, drop, sym, subst, arith, ⊎_elim, lit<}
 use Rattle.std.specs.List.{AllByRecursion}
 use Rattle.std.specs.Int.{w32, to_be_bytes, byte_at, bytes_high_first}
 use Rattle.std.proofs.Math.Nat.{pow-suc}
 use Rattle.std.proofs.lemmas.Bool.{cases_eq, eq-eqb, ne_eqb}
 use Rattle.std.proofs.lemmas.Nat.{mod_below}
-use Rattle.std.proofs.lemmas.List.{length-append, get_or-take, get_or-drop}
+use Rattle.std.proofs.lemmas.List.{get_or-take, get_or-drop}
 use Rattle.std.proofs.lemmas.List.Elements.{recursion_from_All, All-filter, All-map, All-weaker}
 use Rattle.sha2.specs.Sha256.{sha256, digest_bytes}
 use Rattle.lig_merkle.specs.Merkle.{root_at, path_at}
+use Rattle.lig_merkle.proofs.Binding.{digest_length}
 use Rattle.lig_merkle.specs.Nodes.{sibling_of}
 use Rattle.lig_merkle.specs.Shared.{is_known, missing, parents, level_over, shared_nodes}
 use Rattle.lig_proof.specs.ProofBytes.{IsHash}
@@ -40,21 +41,9 @@ digest_low h (suc n) =
     all_append (λ byte. byte < 256) (digest_bytes h n) (to_be_bytes w32 (slice_index h n))
     (digest_low h n) (bytes_low 4 (slice_index h n))
 
-digest_count : (h : List ℕ) (n : ℕ) → length (digest_bytes h n) ≡ n * 4
-unfolding digest_bytes
-digest_count h zero = refl
-digest_count h (suc n) =
-    let last : length (to_be_bytes w32 (slice_index h n)) ≡ 4 = refl in
-    omega (
-      arith,
-      digest_count h n,
-      last,
-      length-append (digest_bytes h n) (to_be_bytes w32 (slice_index h n)),
-    )
-
 pub is_digest : (message : List ℕ) → IsHash (sha256 message)
 unfolding sha256
-is_digest message = record { count = digest_count _ 8; each = digest_low _ 8 }
+is_digest message = record { count = digest_length message; each = digest_low _ 8 }
 
 pub root_is_hash : (depth : ℕ) (hashes : List (List ℕ))
     → ((k : ℕ) → k < 2 ^ depth → IsHash (get_or hashes k [])) → IsHash (root_at depth hashes)

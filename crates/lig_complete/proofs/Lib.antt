@@ -6,10 +6,14 @@ pub mod Columns
 pub mod Places
 pub mod Solved
 pub mod AtColumns
+pub mod Audited
 pub mod AtMessage
 pub mod Hashes
 pub mod Opened
 pub mod Messages
 pub mod Spelled
+pub mod Offered
+pub mod Made
+pub mod Making
 pub mod Accepted
 pub mod Answered

@@ -13,7 +13,7 @@ use Rattle.lig_layout.specs.Layout.{padded, message, row_at}
 use Rattle.lig_layout.proofs.Solving.{length-padded}
 use Rattle.lig_complete.proofs.Sizes.{Fits}
 
-zeros_at : (n k : ℕ) → get_or (replicate {A = ℕ} n 0) k 0 ≡ 0
+pub zeros_at : (n k : ℕ) → get_or (replicate {A = ℕ} n 0) k 0 ≡ 0
 zeros_at n k = ⊎_elim
     (λ low. get_or-replicate n k 0 0 low)
     (λ high. get_or_past (replicate {A = ℕ} n 0) k 0 (omega (arith, length-replicate {A = ℕ} n 0)))

@@ -1,23 +1,16 @@
--- What an encoded matrix has at the message points, where its values satisfy the file.
-use Rattle.std.proofs.Common.{◌≡◌, ℕ, zero, suc, ◌+◌, ◌-◌, ◌*◌, ◌%◌, ◌^◌, ◌<◌, All, List, [], ◌∷◌}
-use Rattle.std.proofs.Common.{length, get_or, slice_index, map, drop, refl, sym, ap, subst, ◌∙◌}
-use Rattle.std.proofs.Common.{arith, ⊎_elim}
-use Rattle.std.proofs.lemmas.Bool.{cases_lt}
+-- What an encoded matrix of vectors has at the message points.
+use Rattle.std.proofs.Common.{◌≡◌, ℕ, zero, suc, ◌+◌, ◌-◌, ◌*◌, ◌%◌, ◌^◌, ◌<◌, List, ◌∷◌}
+use Rattle.std.proofs.Common.{length, get_or, drop, sym, ap, subst, ◌∙◌, arith}
 use Rattle.std.proofs.lemmas.Nat.{pow_pos}
-use Rattle.std.proofs.lemmas.List.{get_or_past, length-take-le, length-drop}
-use Rattle.std.proofs.lemmas.List.Elements.{All-head, All-tail}
+use Rattle.std.proofs.lemmas.List.{length-take-le, length-drop}
 use Rattle.gold_field.specs.declared.gold.TheConstants.{P}
-use Rattle.gold_field.specs.declared.form.Constraint.{Constraint}
-use Rattle.gold_field.specs.Form.{Holds, value_at}
 use Rattle.gold_ntt.specs.Polynomial.{sum_to, eval_at}
-use Rattle.iden_files.specs.File.{File, IsFile, InLimits}
+use Rattle.iden_files.specs.File.{File, IsFile}
 use Rattle.lig_layout.specs.declared.params.Params.{Params}
-use Rattle.lig_layout.specs.declared.side.Side.{Side}
-use Rattle.lig_layout.specs.declared.side.Side.TheVariants.{A, B, C}
-use Rattle.lig_layout.specs.Sides.{form_of}
+use Rattle.lig_layout.specs.declared.matrix.Vectors.{Vectors}
 use Rattle.lig_layout.specs.Sizes.{IsParams, params_of}
-use Rattle.lig_layout.specs.Layout.{message, vectors_of, row_at}
-use Rattle.lig_layout.specs.System.{combined, left_sides, public_count, right_sides, equation_count}
+use Rattle.lig_layout.specs.Layout.{message, row_at}
+use Rattle.lig_layout.specs.System.{combined, left_sides, public_count, equation_count}
 use Rattle.lig_layout.specs.Laws.{publics_of}
 use Rattle.lig_proof.specs.declared.challenge.Challenges.{Challenges}
 use Rattle.lig_proof.specs.Points.{width_log, message_point}
@@ -29,24 +22,11 @@ use Rattle.lig_proof.specs.Values.{HasDegrees}
 use Rattle.lig_proof.specs.Proving.{IsEncoded, AreSystems}
 use Rattle.lig_proof.proofs.Interpolants.{width_is}
 use Rattle.rand_chacha.specs.ChaCha.{key_of}
-use Rattle.lig_complete.specs.Completeness.{IsWitness}
-use Rattle.lig_complete.proofs.Sizes.{values_fit}
-use Rattle.lig_complete.proofs.Matrix.{row_place, x_at, y_at, z_at}
+use Rattle.lig_complete.proofs.Matrix.{row_place}
 use Rattle.lig_complete.proofs.Folding.{values_cancel}
 use Rattle.lig_complete.proofs.MaskedRows.{numbers_below, masked_row_at_message, row_mask_count}
 use Rattle.lig_complete.proofs.MaskedRows.{row_mask_low, product_mask_zero}
-use Rattle.lig_complete.proofs.Solved.{solved, length-right_sides}
 use Rattle.lig_complete.proofs.AtMessage.{AreMessages}
-
--- the sides of constraints that hold, with zeros behind
-abbrev side_value : List ℕ → List Constraint → ℕ → Side → ℕ
-side_value w ks i side = get_or (map (λ k. value_at (slice_index w) (form_of side k)) ks) i 0
-
-multiply : (w : List ℕ) (ks : List Constraint) (i : ℕ) → All (Holds (slice_index w)) ks
-    → (side_value w ks i A * side_value w ks i B) % P ≡ side_value w ks i C
-multiply w [] i h = refl
-multiply w (k ∷ ks) zero h = All-head (Holds (slice_index w)) k ks h
-multiply w (k ∷ ks) (suc i) h = multiply w ks i (All-tail (Holds (slice_index w)) k ks h)
 
 cancelled : (a b : ℕ) → a < P → b < P → (((P - a) + (P - b)) % P + (a + b)) % P ≡ 0
 cancelled a b low_a low_b = omega arith
@@ -89,30 +69,23 @@ linear_cancels p seed t coefs h count is =
     ∙ values_cancel (width_log p) coefs width.small (pow_pos (width_log p)) (omega arith)
     (subst None_at power none)
 
-all_numbers : (w : List ℕ) → All (λ value. value < P) w → (i : ℕ) → slice_index w i < P
-all_numbers w low i = ⊎_elim (λ inside. low i 0 inside) (λ past. let none = get_or_past w i 0 past
-    in omega arith) (cases_lt i (length w))
-
 pub length-publics : (f : File) (w : List ℕ) → IsFile f → length w ≡ f.wires
     → length (publics_of f w) ≡ public_count f
 length-publics f w file count =
     let numbered = file.numbered in
     length-take-le (public_count f) (drop 1 w) (omega (arith, length-drop 1 w))
 
-module _ (f : File) (w seed : List ℕ) (c : Challenges) (e : Encoded) (system : ℕ → ℕ → List ℕ)
-    (file : IsFile f) (limits : InLimits f) (witness : IsWitness f w)
-    (h : IsParams (params_of f)) (degrees : HasDegrees (params_of f) e)
-    (encoded : IsEncoded (params_of f) (vectors_of f w) seed e)
-    (systems : AreSystems f c system) where
+-- the system, combined by the numbers of each repetition
+abbrev pub combination : File → Challenges → ℕ → List ℕ
+combination f c t =
+    let p = params_of f in
+    combined (p.rows * p.l) (r_numbers (equation_count f) c t) (left_sides p f)
+
+module _ (f : File) (v : Vectors) (seed : List ℕ) (c : Challenges) (e : Encoded)
+    (system : ℕ → ℕ → List ℕ) (h : IsParams (params_of f)) (degrees : HasDegrees (params_of f) e)
+    (encoded : IsEncoded (params_of f) v seed e) (systems : AreSystems f c system) where
   abbrev values : List ℕ
-  values = message (params_of f) (vectors_of f w)
-
-  abbrev rights : List ℕ
-  rights = right_sides f (publics_of f w)
-
-  abbrev pub combination : ℕ → List ℕ
-  combination t = combined ((params_of f).rows * (params_of f).l) (r_numbers (equation_count f) c t)
-      (left_sides (params_of f) f)
+  values = message (params_of f) v
 
   row_has : (k j : ℕ) → k < (params_of f).rows → j < (params_of f).l
       → eval_at (e.row k) (message_point (params_of f) j)
@@ -126,30 +99,14 @@ module _ (f : File) (w seed : List ℕ) (c : Challenges) (e : Encoded) (system :
 
   system_has : (t k j : ℕ) → t < 2 → k < (params_of f).rows → j < (params_of f).l
       → eval_at (system t k) (message_point (params_of f) j)
-      ≡ get_or (combination t) (k * (params_of f).l + j) 0
+      ≡ get_or (combination f c t) (k * (params_of f).l + j) 0
   system_has t k j low m inside =
       let p = params_of f in
-      let is : Interpolates p (row_at p (combination t) k) (system t k) = systems t low k m in
+      let is : Interpolates p (row_at p (combination f c t) k) (system t k) = systems t low k m in
       let count = is.degree.count in
-      sym (is.values.value j (omega arith)) ∙ row_place p (combination t) k j inside
+      sym (is.values.value j (omega arith)) ∙ row_place p (combination f c t) k j inside
 
-  products_are : (k j : ℕ) → k < (params_of f).constraint_rows → j < (params_of f).l
-      → (let p = params_of f in
-      let x = get_or values ((p.wire_rows + k) * p.l + j) 0 in
-      let y = get_or values ((p.wire_rows + p.constraint_rows + k) * p.l + j) 0 in
-      (x * y) % P ≡ get_or values ((p.wire_rows + 2 * p.constraint_rows + k) * p.l + j) 0)
-  products_are k j low inside =
-      let p = params_of f in
-      let v = vectors_of f w in
-      let fits = values_fit f w witness.count in
-      let i = k * p.l + j in
-      ap (λ (y : ℕ). (y * get_or values ((p.wire_rows + p.constraint_rows + k) * p.l + j) 0) % P)
-      (x_at p v fits k j low inside)
-      ∙ ap (λ (y : ℕ). (get_or v.x i 0 * y) % P) (y_at p v fits k j low inside)
-      ∙ multiply w f.constraints i witness.holds
-      ∙ sym (z_at p v fits k j low inside)
-
-  pub are_messages : AreMessages (params_of f) c e system rights values combination
+  pub are_messages : AreMessages (params_of f) e system values (combination f c)
   are_messages =
       let p = params_of f in
       record {
@@ -160,12 +117,4 @@ module _ (f : File) (w seed : List ℕ) (c : Challenges) (e : Encoded) (system :
         product =
             λ t j low. ap (λ (xs : List ℕ). eval_at xs (message_point p j)) (encoded.product t low)
             ∙ product_mask_zero p seed t j h;
-        solved = λ t low.
-            solved f w (r_numbers (equation_count f) c t) file limits witness.count
-            (all_numbers w witness.numbers) witness.one
-            ∙ ap (λ (n : ℕ). sum_to (length rights)
-            (λ i. get_or (r_numbers n c t) i 0 * get_or rights i 0) % P)
-            (sym (length-right_sides f (publics_of f w)
-            (length-publics f w file witness.count)));
-        products = products_are;
       }

@@ -8,6 +8,7 @@ use Rattle.gold_field.specs.declared.gold.TheConstants.{P}
 use Rattle.lig_layout.specs.declared.params.Params.{Params}
 use Rattle.lig_proof.specs.ProofBytes.{AreValues}
 use Rattle.lig_proof.specs.Sent.{Polynomials, in_order, polynomials_of}
+use Rattle.lig_complete.specs.Offers.{AreSent}
 
 values_after : (m n : ℕ) (xs ys : List ℕ) → AreValues m xs → AreValues n ys
     → AreValues (m + n) (xs ++ ys)
@@ -30,12 +31,6 @@ part a b c xs m n whole from size =
     ∙ ap (λ (ys : List ℕ). take n ys) (drop-append_seam a (b ++ c))
     ∙ ap (λ (k : ℕ). take k (b ++ c)) size
     ∙ take-append_seam b c
-
--- polynomials with as many coefficients as are sent
-pub record AreSent (p : Params) (s : Polynomials) : Type 0 where
-  pub proximity : (t : ℕ) → t < 2 → AreValues (2 * p.l) (s.proximity t)
-  pub linear : (t : ℕ) → t < 2 → AreValues (3 * p.l) (s.linear t)
-  pub product : (t : ℕ) → t < 2 → AreValues (4 * p.l) (s.product t)
 
 module _ (p : Params) (s : Polynomials) (sent : AreSent p s) where
   pub sent_values : AreValues (18 * p.l) (in_order s)

@@ -1,20 +1,15 @@
 -- The sizes for a file within the limits, and what of its values fits into them.
-use Rattle.std.proofs.Common.{◌≡◌, ℕ, ◌+◌, ◌*◌, ◌^◌, ◌<◌, ◌≤◌, List, length, slice_index, refl}
+use Rattle.std.proofs.Common.{◌≡◌, ℕ, ◌+◌, ◌*◌, ◌^◌, ◌<◌, ◌≤◌, length, refl}
 use Rattle.std.proofs.Common.{arith}
 use Rattle.std.specs.Int.{div_ceil}
 use Rattle.std.proofs.Math.Nat.{lt_of_mul-lt-mul_right, pow-le-pow_right}
 use Rattle.std.proofs.lemmas.Grind.{div_ceil_times}
 use Rattle.std.proofs.lemmas.Nat.{pow-add, pow_pos}
-use Rattle.std.proofs.lemmas.List.{length-map}
-use Rattle.gold_field.specs.Form.{value_at}
-use Rattle.gold_field.specs.declared.form.Constraint.{Constraint}
 use Rattle.iden_files.specs.File.{File, InLimits}
 use Rattle.lig_layout.specs.declared.params.Params.{Params}
 use Rattle.lig_layout.specs.declared.matrix.Vectors.{Vectors}
-use Rattle.lig_layout.specs.declared.side.Side.TheVariants.{A, B, C}
-use Rattle.lig_layout.specs.Layout.{vectors_of}
-use Rattle.lig_layout.specs.Sides.{form_of}
 use Rattle.lig_layout.specs.Sizes.{IsParams, params_of}
+use Rattle.lig_layout.specs.Solutions.{AreVectors}
 use Rattle.lig_layout.specs.Width.{width_exponent}
 use Rattle.lig_layout.proofs.Widths.{exponent_small, least_width}
 use Rattle.lig_layout.proofs.Wired.{ceil_room}
@@ -56,28 +51,20 @@ pub record Fits (p : Params) (v : Vectors) : Type 0 where
   pub y : length v.y ≤ p.constraint_rows * p.l
   pub z : length v.z ≤ p.constraint_rows * p.l
 
-pub values_fit : (f : File) (w : List ℕ) → length w ≡ f.wires → Fits (params_of f) (vectors_of f w)
-values_fit f w count =
+pub values_fit : (f : File) (v : Vectors) → AreVectors f v → Fits (params_of f) v
+values_fit f v are =
     let q = length f.constraints in
     let e = width_exponent (f.wires + 3 * q) in
     let wires = ceil_room f.wires (2 ^ e) (pow_pos e) in
     let sides = ceil_room q (2 ^ e) (pow_pos e) in
+    let w = are.w.count in
+    let x = are.x.count in
+    let y = are.y.count in
+    let z = are.z.count in
     record {
       rows = refl;
       w = omega arith;
-      x = omega (
-        arith,
-        length-map f.constraints
-            (λ (k : Constraint). value_at (slice_index w) (form_of A k)),
-      );
-      y = omega (
-        arith,
-        length-map f.constraints
-            (λ (k : Constraint). value_at (slice_index w) (form_of B k)),
-      );
-      z = omega (
-        arith,
-        length-map f.constraints
-            (λ (k : Constraint). value_at (slice_index w) (form_of C k)),
-      );
+      x = omega arith;
+      y = omega arith;
+      z = omega arith;
     }

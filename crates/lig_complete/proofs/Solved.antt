@@ -13,26 +13,27 @@ use Rattle.gold_field.specs.declared.form.Constraint.{Constraint}
 use Rattle.gold_field.specs.Form.{SignalsBelow, ConstraintBelow, value_at}
 use Rattle.gold_ntt.specs.Polynomial.{sum_to}
 use Rattle.gold_ntt.proofs.Sums.{sum_same, sum-zero, sum_first}
-use Rattle.iden_files.specs.File.{File, IsFile, InLimits}
+use Rattle.iden_files.specs.File.{File, IsFile}
 use Rattle.lig_layout.specs.declared.params.Params.{Params}
 use Rattle.lig_layout.specs.declared.side.Side.{Side}
 use Rattle.lig_layout.specs.declared.side.Side.TheVariants.{A, B, C}
 use Rattle.lig_layout.specs.Sides.{form_of, forms}
 use Rattle.lig_layout.specs.Sizes.{params_of}
 use Rattle.lig_layout.specs.Width.{width_exponent}
-use Rattle.lig_layout.specs.Layout.{message, vectors_of, x_start, y_start, z_start}
+use Rattle.lig_layout.specs.Layout.{message, x_start, y_start, z_start}
 use Rattle.lig_layout.specs.System.{combined, differences, wire_forms, known_wires, left_sides}
 use Rattle.lig_layout.specs.System.{public_count, right_sides, equation_count}
-use Rattle.lig_layout.specs.Laws.{inner_product, combined_values, publics_of}
+use Rattle.lig_layout.specs.Laws.{inner_product, combined_values}
+use Rattle.lig_layout.specs.Solutions.{SolvesSystem}
+use Rattle.lig_layout.specs.declared.matrix.Vectors.{Vectors}
 use Rattle.lig_layout.proofs.Products.{linear}
-use Rattle.lig_layout.proofs.Solving.{solves}
 use Rattle.lig_layout.proofs.Wired.{side_below, ceil_room}
 use Rattle.lig_complete.proofs.Hashes.{all_append}
-use Rattle.lig_complete.proofs.Sizes.{values_fit}
+use Rattle.lig_complete.proofs.Sizes.{Fits}
 use Rattle.lig_complete.proofs.Matrix.{length-message}
 
 -- the products of two lists, as a sum over their places
-product_sum : (n : ℕ) (xs ys : List ℕ) → length ys ≤ n
+pub product_sum : (n : ℕ) (xs ys : List ℕ) → length ys ≤ n
     → inner_product xs ys ≡ sum_to n (λ i. get_or xs i 0 * get_or ys i 0)
 product_sum n [] ys fits =
     sym (sum_same n (λ i. 0 * get_or ys i 0) (λ i. 0) (λ i l. omega arith) ∙ sum-zero n)
@@ -109,32 +110,36 @@ length-right_sides f publics count =
       length-replicate {A = ℕ} (3 * length f.constraints) 0,
     )
 
-pub solved : (f : File) (w r : List ℕ) → IsFile f → InLimits f → length w ≡ f.wires
-    → ((i : ℕ) → slice_index w i < P) → slice_index w 0 ≡ 1
+-- the combined system, times the values of the matrix of any vectors, is the combination of the
+-- values of the left sides
+pub combined_system : (f : File) (v : Vectors) (r : List ℕ) → IsFile f → Fits (params_of f) v
     → (let p = params_of f in
-    let m = message p (vectors_of f w) in
+    let m = message p v in
     let n = p.rows * p.l in
-    let rights = right_sides f (publics_of f w) in
     sum_to n (λ i. get_or (combined n r (left_sides p f)) i 0 * get_or m i 0) % P
-    ≡ sum_to (length rights) (λ e. get_or r e 0 * get_or rights e 0) % P)
-solved f w r file limits count low one =
+    ≡ combined_values m r (left_sides p f) % P)
+combined_system f v r file fits =
     let p = params_of f in
-    let m = message p (vectors_of f w) in
+    let m = message p v in
     let n = p.rows * p.l in
     let lefts = left_sides p f in
-    let rights = right_sides f (publics_of f w) in
-    let fits = values_fit f w count in
-    let size = length-message p (vectors_of f w) fits in
-    let wires = fits.w in
+    let size = length-message p v fits in
+    let exponent = width_exponent (f.wires + 3 * length f.constraints) in
     let Within : ℕ → Type 0 = λ k. AllByRecursion (SignalsBelow k) lefts in
+    let wires : f.wires ≤ p.wire_rows * p.l = ceil_room f.wires p.l (pow_pos exponent) in
     let sides : length f.constraints ≤ p.constraint_rows * p.l =
-    ceil_room (length f.constraints) p.l
-    (pow_pos (width_exponent (f.wires + 3 * length f.constraints))) in
-    let below = subst Within (sym size) (left_below p f file (omega arith) sides refl) in
+    ceil_room (length f.constraints) p.l (pow_pos exponent) in
+    let below = subst Within (sym size) (left_below p f file wires sides refl) in
     ap (λ (s : ℕ). s % P) (sym (product_sum n (combined n r lefts) m (omega arith)))
     ∙ ap (λ (k : ℕ). inner_product (combined k r lefts) m % P) (sym size)
     ∙ linear m r lefts below
-    ∙ ap (λ (s : ℕ). s % P)
-    (combined_product m r lefts
-    ∙ ap (λ (values : List ℕ). inner_product r values) (solves f w file limits count low one)
-    ∙ product_sum (length rights) r rights (omega arith))
+
+-- the combination of the left sides' values is that of the right sides where they are equal
+pub solved_combined : (f : File) (publics : List ℕ) (v : Vectors) (r : List ℕ)
+    → SolvesSystem f publics v
+    → combined_values (message (params_of f) v) r (left_sides (params_of f) f) % P
+    ≡ inner_product r (right_sides f publics) % P
+solved_combined f publics v r solved =
+    ap (λ (s : ℕ). s % P)
+    (combined_product (message (params_of f) v) r (left_sides (params_of f) f)
+    ∙ ap (λ (values : List ℕ). inner_product r values) solved)

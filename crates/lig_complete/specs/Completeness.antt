@@ -1,10 +1,10 @@
 -- Proofs that are made of values which satisfy the file are accepted.
-use Rattle.std.specs.Prelude.{◌≡◌, ◌↔◌, ℕ, ◌<◌, List, All, length, slice_index, Result, IfOk, Vec}
+use Rattle.std.specs.Prelude.{◌≡◌, ◌↔◌, ℕ, ◌<◌, List, All, Result, IfOk, Vec}
 use Rattle.std.specs.declared.alloc.Global.{Global}
-use Rattle.gold_field.specs.Form.{Holds}
 use Rattle.gold_field.specs.declared.gold.TheConstants.{P}
 use Rattle.iden_files.specs.File.{File, IsFile, InLimits}
 use Rattle.lig_layout.specs.Layout.{vectors_of}
+pub use Rattle.lig_layout.specs.Solutions.{IsWitness}
 use Rattle.lig_layout.specs.Laws.{publics_of}
 use Rattle.lig_proof.specs.declared.version.Version.{Version}
 use Rattle.lig_proof.specs.declared.verdict.Verdict.{Verdict}
@@ -14,15 +14,8 @@ use Rattle.lig_proof.specs.Acceptance.{IsVerdict}
 use Rattle.lig_prover.specs.Proves.{IsProofOrRefusal}
 use Rattle.lig_prover.specs.declared.fault.ProveFault.{ProveFault}
 
--- values that satisfy a file: a number of the field for each wire, 1 for wire 0, and every
--- constraint holds
-pub record IsWitness (f : File) (w : List ℕ) : Type 0 where
-  pub count : length w ≡ f.wires
-  pub numbers : All (λ value. value < P) w
-  pub one : slice_index w 0 ≡ 1
-  pub holds : All (Holds (slice_index w)) f.constraints
-
--- the proof made of these is accepted, for the same file and its public values among them
+-- the proof made of values that satisfy the file is accepted, for the same file and its public
+-- values among them
 abbrev pub MadeProofsAreAccepted : Type 0
 MadeProofsAreAccepted = (version : Version) (r1cs_bytes : List ℕ) (f : File)
     (w seed bytes : List ℕ) → IsFile f → InLimits f → IsWitness f w

@@ -1,1 +1,3 @@
 pub mod Completeness
+pub mod Offers
+pub mod Verdicts
