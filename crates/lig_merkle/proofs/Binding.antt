@@ -55,7 +55,7 @@ word_same x y low_x low_y e =
 word_count : (x : ℕ) → length (to_le_bytes w64 x) ≡ 8
 word_count x = refl
 
-column_same : (a b : List ℕ) → All (λ value. value < 2 ^ 64) a → All (λ value. value < 2 ^ 64) b
+pub column_same : (a b : List ℕ) → All (λ value. value < 2 ^ 64) a → All (λ value. value < 2 ^ 64) b
     → column_bytes a ≡ column_bytes b → a ≡ b
 column_same [] [] low_a low_b e = refl
 column_same [] (y ∷ b) low_a low_b e =
@@ -86,10 +86,10 @@ column_same (x ∷ a) (y ∷ b) low_a low_b e =
 -- ---- level by level
 
 -- what is hashed for the node over a hash, on this side, and its sibling
-abbrev over : Bool → List ℕ → List ℕ → List ℕ
+abbrev pub over : Bool → List ℕ → List ℕ → List ℕ
 over left hash sibling = cond left (node_message hash sibling) (node_message sibling hash)
 
-over_same : (left : Bool) (h k s t : List ℕ) → length h ≡ length k
+pub over_same : (left : Bool) (h k s t : List ℕ) → length h ≡ length k
     → over left h s ≡ over left k t → h ≡ k
 over_same true h k s t count e = front_same h k s t count (ap (λ (xs : List ℕ). drop 1 xs) e)
 over_same false h k s t count e =
@@ -97,7 +97,7 @@ over_same false h k s t count e =
     back_same s t h k
     (omega (arith, ap length whole, length-append s h, length-append t k, count)) whole
 
-equal_or_not : (m n : List ℕ) → (m ≡ n) ⊎ (m ≢ n)
+pub equal_or_not : (m n : List ℕ) → (m ≡ n) ⊎ (m ≢ n)
 equal_or_not m n =
     let tells = bytes_eq-Decides m n in
     ⊎_elim (λ yes. inl (tells.0 yes)) (λ no. inr (not_from_Decides (bytes_eq m n) tells no))

@@ -4,3 +4,4 @@ pub mod Paths
 pub mod Places
 pub mod Walk
 pub mod Binding
+pub mod SharedBinding

@@ -3,7 +3,7 @@
 ghost use Rattle.std.specs.Prelude.{◌≡◌, ◌<◌, ◌^◌, ℕ, List, slice_index_or, []};
 ghost use Rattle.lig_merkle.specs.Merkle.{PathLeadsToRoot};
 ghost use Rattle.lig_merkle.specs.Shared.{SharedNodesLeadToRoot};
-ghost use Rattle.lig_merkle.specs.Binding.{OpeningsBind};
+ghost use Rattle.lig_merkle.specs.Binding.{OpeningsBind, SharedOpeningsBind};
 
 /// A leaf, its index and its path lead to the root, in every tree.
 pub fn path_leads_to_root()
@@ -15,8 +15,10 @@ pub fn shared_nodes_lead_to_root()
     ensures { SharedNodesLeadToRoot }
 {}
 
-/// Two openings of one root at one place that have different columns hash, on one of the levels, two
-/// different messages with one SHA-256 digest.
+/// Two openings of one root that have different columns at one place hash, on one of the levels,
+/// two different messages with one SHA-256 digest: each with its path, or several with shared
+/// nodes.
 pub fn openings_bind()
-    ensures { OpeningsBind }
+    ensures one { OpeningsBind }
+    ensures several { SharedOpeningsBind }
 {}
