@@ -12,4 +12,4 @@ pub use coset::Coset;
 pub use dot::{eval_by, powers, sum_of_products};
 pub use polynomial::{eval, mul, padded};
 pub use roots::{ROOT, root};
-pub use transform::{coset_ntt, intt, ntt, scale_by_powers};
+pub use transform::{intt, ntt, scale_by_powers};

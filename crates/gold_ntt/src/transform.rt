@@ -2,7 +2,7 @@ ghost use Rattle.std.specs.Prelude.{◌≡◌, ℕ, ◌+◌, ◌-◌, ◌*◌, �
 ghost use Rattle.std.specs.Prelude.{slice_index};
 ghost use Rattle.gold_field.specs.declared.gold.TheConstants.{P};
 ghost use Rattle.gold_ntt.specs.Reversal.{reversed};
-ghost use Rattle.gold_ntt.specs.Transform.{IsLength, HasValues, IsTransform, IsCosetTransform};
+ghost use Rattle.gold_ntt.specs.Transform.{IsLength, HasValues, IsTransform};
 ghost use Rattle.gold_ntt.specs.Transform.{HalvesAt, TransformsBlock};
 
 use crate::roots::root;
@@ -153,13 +153,4 @@ pub fn intt(a: &mut [Gold])
     transform_at(a, log, root(log).pow(last));
     let half = Gold::from_wide(INVERSE_OF_TWO);
     scale(a, half.pow(log as u64));
-}
-
-/// From coefficients to values at 7 times the powers of the root, in place.
-pub fn coset_ntt(a: &mut [Gold])
-    requires { IsLength (length a.old) }
-    ensures { (e : ℕ) → length a.old ≡ 2 ^ e → IsCosetTransform e a.old a.new }
-{
-    scale_by_powers(a, Gold::from_wide(7));
-    ntt(a);
 }

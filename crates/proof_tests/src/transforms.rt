@@ -1,10 +1,10 @@
-ghost use Rattle.std.specs.Prelude.{length};
+ghost use Rattle.std.specs.Prelude.{◌≡◌, ◌≤◌, ◌^◌, length};
 ghost use Rattle.gold_ntt.specs.Transform.{IsLength};
 
 use crate::checks::same;
 use crate::samples::gold;
 use gold_field::Gold;
-use gold_ntt::{coset_ntt, eval, intt, mul, ntt, root};
+use gold_ntt::{Coset, eval, intt, mul, ntt, root};
 use std::process::Abort;
 
 static COEFFICIENTS_8: [u64; 8] = [
@@ -124,8 +124,8 @@ fn are(rt: &impl Abort, room: &[Gold], list: &[u64]) {
     }
 }
 
-// The three transforms and a value against numbers that plain sums gave.
-fn agree(rt: &impl Abort, room: &mut [Gold], coefs: &[u64], values: &[u64], coset: &[u64])
+// A transform and its inverse against numbers that plain sums gave.
+fn agree(rt: &impl Abort, room: &mut [Gold], coefs: &[u64], values: &[u64])
     requires { IsLength (length room.old) }
 {
     fill(room, coefs);
@@ -133,24 +133,29 @@ fn agree(rt: &impl Abort, room: &mut [Gold], coefs: &[u64], values: &[u64], cose
     are(rt, room, values);
     intt(room);
     are(rt, room, coefs);
-    let at_seven = eval(room, gold(7)).get();
-    same(rt, Some(at_seven), coset.first().copied());
-    coset_ntt(room);
-    are(rt, room, coset);
+}
+
+// So for the values at 7 times the powers of the root.
+fn agree_at_seven<R: AllocGlobal + Abort>(rt: &R, log: u32, room: &mut [Gold], values: &[u64])
+    requires small { log ≤ 20 }
+    requires whole { length room.old ≡ 2 ^ log }
+{
+    let first = eval(room, gold(7)).get();
+    same(rt, Some(first), values.first().copied());
+    let points = Coset::of(rt.alloc(), log).expect(rt, "memory");
+    let count = room.len();
+    points.transform(room, count);
+    are(rt, room, values);
 }
 
 #[test]
 fn transforms_agree_with_plain_sums(rt: HostRuntime) {
     let mut room = [Gold::ZERO; 8];
-    agree(&rt, &mut room, &COEFFICIENTS_8, &VALUES_8, &COSET_VALUES_8);
+    agree(&rt, &mut room, &COEFFICIENTS_8, &VALUES_8);
+    agree_at_seven(&rt, 3, &mut room, &COSET_VALUES_8);
     let mut room = [Gold::ZERO; 16];
-    agree(
-        &rt,
-        &mut room,
-        &COEFFICIENTS_16,
-        &VALUES_16,
-        &COSET_VALUES_16,
-    );
+    agree(&rt, &mut room, &COEFFICIENTS_16, &VALUES_16);
+    agree_at_seven(&rt, 4, &mut room, &COSET_VALUES_16);
 }
 
 #[test]
