@@ -19,7 +19,8 @@ use iden_files::R1cs;
 use lig_layout::Params;
 use lig_merkle::Hash;
 use lig_proof::{
-    AnyProof, ProofFault, Verdict, challenges, equation_count, opened_once, queries, read_any,
+    AnyProof, ProofFault, Relation, Verdict, challenges, equation_count, opened_once, queries,
+    read_any,
 };
 use std::alloc::{AllocError, Global};
 use std::thread::Threads;
@@ -37,12 +38,26 @@ pub fn audit<R: Threads + AllocGlobal + Sync>(
     ensures { IfOk result (λ verdict.
         IsVerdict r1cs_bytes.now file.now publics.now proof.now verdict) }
 {
+    audit_relation(rt, &Relation::of(r1cs_bytes), file, publics, proof)
+}
+
+fn audit_relation<R: Threads + AllocGlobal + Sync>(
+    rt: &R,
+    relation: &Relation<'_>,
+    file: &R1cs,
+    publics: &[Gold],
+    proof: &[u8],
+) -> Result<Verdict, AllocError>
+    requires { InLimits file.now }
+    ensures { IfOk result (λ verdict.
+        IsVerdict relation.now.bytes.now file.now publics.now proof.now verdict) }
+{
     if publics.len() != public_count(file) {
         return Ok(Verdict::PublicCount);
     }
     let params = Params::of(file);
-    match read_any(rt.alloc(), &params, r1cs_bytes, publics, proof) {
-        Ok(proof) => audit_proof(rt, r1cs_bytes, file, publics, &params, &proof),
+    match read_any(rt.alloc(), &params, relation, publics, proof) {
+        Ok(proof) => audit_proof(rt, relation, file, publics, &params, &proof),
         Err(ProofFault::Malformed { offset }) => Ok(Verdict::Malformed { offset }),
         Err(ProofFault::OutOfMemory) => Err(AllocError),
     }
@@ -62,7 +77,7 @@ fn public_count(file: &R1cs) -> usize
 // The verdict on a proof.
 fn audit_proof<R: Threads + AllocGlobal + Sync>(
     rt: &R,
-    r1cs_bytes: &[u8],
+    relation: &Relation<'_>,
     file: &R1cs,
     publics: &[Gold],
     params: &Params,
@@ -72,13 +87,13 @@ fn audit_proof<R: Threads + AllocGlobal + Sync>(
     requires params { params.now ≡ params_of file.now }
     requires sizes { IsParams params.now }
     requires publics { length publics.now ≡ public_count file.now }
-    requires proof { IsAny params.now r1cs_bytes.now publics.now proof.now }
+    requires proof { IsAny params.now relation.now.bytes.now publics.now proof.now }
     ensures { IfOk result (λ verdict.
-        IsProofVerdict r1cs_bytes.now file.now publics.now proof.now verdict) }
+        IsProofVerdict relation.now.bytes.now file.now publics.now proof.now verdict) }
 {
     let alloc = rt.alloc();
     let equations = equation_count(file);
-    let challenges = challenges(alloc, params, r1cs_bytes, publics, equations, proof.root())?;
+    let challenges = challenges(alloc, params, relation, publics, equations, proof.root())?;
     let indices = indices(alloc, params, &challenges.first, proof)?;
     let way = first_astray(alloc, params, &indices, proof)?;
     if let Some(opened) = way {

@@ -8,6 +8,7 @@ ghost use Rattle.lig_proof.specs.SharedReading.{any_proof_of, IsAny};
 
 use crate::fault::ProofFault;
 use crate::read::read_proof;
+use crate::relation::Relation;
 use crate::shared_proof::AnyProof;
 use crate::shared_read::read_proof2;
 use binary_format::Reader;
@@ -19,19 +20,20 @@ use std::alloc::Global;
 pub fn read_any(
     alloc: Global,
     params: &Params,
-    r1cs_bytes: &[u8],
+    relation: &Relation<'_>,
     publics: &[Gold],
     bytes: &[u8],
 ) -> Result<AnyProof, ProofFault>
     requires params { IsParams params.now }
     requires publics { length publics.now < 2 ^ 32 }
-    ensures found { IfOk result (λ proof. IsAny params.now r1cs_bytes.now publics.now proof) }
+    ensures found { IfOk result (λ proof.
+        IsAny params.now relation.now.bytes.now publics.now proof) }
     // Which proof it is, or which fault, and where.
     ensures exact { Gives refused (λ x. x) result
-        (any_proof_of params.now r1cs_bytes.now publics.now bytes.now) }
+        (any_proof_of params.now relation.now.bytes.now publics.now bytes.now) }
 {
     if is_second(bytes) {
-        match read_proof2(alloc, params, r1cs_bytes, publics, bytes) {
+        match read_proof2(alloc, params, relation, publics, bytes) {
             Ok(proof) => Ok(AnyProof::Second(proof)),
             Err(fault) => Err(fault),
         }

@@ -13,6 +13,7 @@ mod laws;
 mod parallel;
 mod proof;
 mod read;
+mod relation;
 mod rows;
 mod shared_proof;
 mod shared_read;
@@ -31,6 +32,7 @@ pub use laws::{proofs_are_one, rows_have_polynomials, tests_have_values, verdict
 pub use parallel::each_place;
 pub use proof::Proof;
 pub use read::read_proof;
+pub use relation::Relation;
 pub use rows::{row_at, row_polynomial, row_polynomials};
 pub use shared_proof::{AnyProof, Proof2};
 pub use shared_read::{opened_once, read_proof2};

@@ -12,6 +12,7 @@ ghost use Rattle.lig_proof.specs.declared.shared_proof.Proof2.{Proof2};
 
 use crate::fault::ProofFault;
 use crate::fields::{next_hash, next_hashes, next_values, read_head};
+use crate::relation::Relation;
 use crate::shared_proof::Proof2;
 use crate::transcript::{first_key, queries};
 use binary_format::Reader;
@@ -26,7 +27,7 @@ use std::alloc::{AllocError, Global};
 pub fn read_proof2(
     alloc: Global,
     params: &Params,
-    r1cs_bytes: &[u8],
+    relation: &Relation<'_>,
     publics: &[Gold],
     bytes: &[u8],
 ) -> Result<Proof2, ProofFault>
@@ -34,39 +35,39 @@ pub fn read_proof2(
     requires publics { length publics.now < 2 ^ 32 }
     // What is read is a proof that opens the columns that are due, and the bytes are its spelling.
     ensures found { IfOk result (λ proof.
-        let opened = opened_for params.now r1cs_bytes.now publics.now proof.root proof.polys in
-        IsProof2 params.now opened proof × (bytes.now ≡ proof2_bytes proof)) }
+        let opened = opened_for params.now relation.now.bytes.now publics.now proof.root
+        proof.polys in IsProof2 params.now opened proof × (bytes.now ≡ proof2_bytes proof)) }
     // The spelling of such a proof is read, unless memory runs out.
     ensures only { (proof : Proof2)
-        → (let opened = opened_for params.now r1cs_bytes.now publics.now proof.root proof.polys in
-        IsProof2 params.now opened proof)
+        → (let opened = opened_for params.now relation.now.bytes.now publics.now proof.root
+        proof.polys in IsProof2 params.now opened proof)
         → bytes.now ≡ proof2_bytes proof → Gives refused (λ x. x) result (Ok proof) }
     // Which fault it is, and where.
     ensures exact { Gives refused (λ x. x) result
-        (proof2_of params.now r1cs_bytes.now publics.now bytes.now) }
+        (proof2_of params.now relation.now.bytes.now publics.now bytes.now) }
 {
-    proof2_in(alloc, params, r1cs_bytes, publics, bytes)
+    proof2_in(alloc, params, relation, publics, bytes)
 }
 
 #[tactic(auto, unfolding(crate::specs::SharedReading::proof2_of))]
 fn proof2_in(
     alloc: Global,
     params: &Params,
-    r1cs_bytes: &[u8],
+    relation: &Relation<'_>,
     publics: &[Gold],
     bytes: &[u8],
 ) -> Result<Proof2, ProofFault>
     requires params { IsParams params.now }
     requires publics { length publics.now < 2 ^ 32 }
     ensures { Gives refused (λ x. x) result
-        (proof2_of params.now r1cs_bytes.now publics.now bytes.now) }
+        (proof2_of params.now relation.now.bytes.now publics.now bytes.now) }
 {
     let mut fields = Reader::new(bytes);
     read_head(&mut fields, 2)?;
     let root = next_hash(&mut fields)?;
     // In each of two repetitions 2 * l, 3 * l and 4 * l coefficients.
     let polys = next_values(alloc, &mut fields, 18 * params.l)?;
-    let opened = opened_for(alloc, params, r1cs_bytes, publics, &root, &polys)?;
+    let opened = opened_for(alloc, params, relation, publics, &root, &polys)?;
     rest_in(alloc, &mut fields, params, root, polys, &opened)
 }
 
@@ -105,7 +106,7 @@ fn rest_in(
 fn opened_for(
     alloc: Global,
     params: &Params,
-    r1cs_bytes: &[u8],
+    relation: &Relation<'_>,
     publics: &[Gold],
     root: &Hash,
     polys: &[Gold],
@@ -113,11 +114,11 @@ fn opened_for(
     requires params { IsParams params.now }
     requires publics { length publics.now < 2 ^ 32 }
     ensures value { IfOk result (λ v. v.items
-        ≡ opened_for params.now r1cs_bytes.now publics.now root.now polys.now) }
+        ≡ opened_for params.now relation.now.bytes.now publics.now root.now polys.now) }
     ensures opened { IfOk result (λ v. AreOpened params.now.depth v.items) }
     ensures few { IfOk result (λ v. vec_len v ≤ opened_count) }
 {
-    let first = first_key(r1cs_bytes, publics, root);
+    let first = first_key(relation, publics, root);
     let drawn = queries(alloc, params, &first, polys)?;
     let opened = opened_once(alloc, params, &drawn)?;
     Ok(opened)

@@ -7,6 +7,7 @@ ghost use Rattle.lig_proof.specs.Transcript.{first_key, second_key, challenges_o
 
 use crate::challenge::{Challenges, OPENED};
 use crate::drawing::{draw, next_column};
+use crate::relation::Relation;
 use gold_field::Gold;
 use items::Items;
 use lig_layout::Params;
@@ -19,11 +20,11 @@ use std::alloc::{AllocError, Global};
 // What the message of the second key begins with.
 const SECOND: u8 = 2;
 
-/// The challenges for a relation, by the bytes of its `.r1cs` file, its public values and the root.
+/// The challenges for a relation, its public values and the root.
 pub fn challenges(
     alloc: Global,
     params: &Params,
-    r1cs_bytes: &[u8],
+    relation: &Relation<'_>,
     publics: &[Gold],
     equations: u32,
     root: &Hash,
@@ -31,12 +32,13 @@ pub fn challenges(
     requires params { IsParams params.now }
     requires publics { length publics.now < 2 ^ 32 }
     ensures value { IfOk result (λ c. c
-        ≡ challenges_of params.now equations (first_key r1cs_bytes.now publics.now root.now)) }
+        ≡ challenges_of params.now equations
+        (first_key relation.now.bytes.now publics.now root.now)) }
     ensures alpha { IfOk result (λ c. length c.alpha ≡ 2 * params.now.rows) }
     ensures r { IfOk result (λ c. length c.r ≡ 2 * equations) }
     ensures rho { IfOk result (λ c. length c.rho ≡ 2 * params.now.constraint_rows) }
 {
-    let first = first_key(r1cs_bytes, publics, root);
+    let first = first_key(relation, publics, root);
     let mut words = ChaCha20Rng::from_seed(first);
     let mut alpha = Vec::new(alloc);
     let mut r = Vec::new(alloc);
@@ -78,13 +80,13 @@ pub fn queries(
 }
 
 /// The first key, of the relation, the public values and the root.
-pub fn first_key(r1cs_bytes: &[u8], publics: &[Gold], root: &Hash) -> Hash
+pub fn first_key(relation: &Relation<'_>, publics: &[Gold], root: &Hash) -> Hash
     requires { length publics.now < 2 ^ 32 }
-    ensures { result ≡ first_key r1cs_bytes.now publics.now root.now }
+    ensures { result ≡ first_key relation.now.bytes.now publics.now root.now }
 {
     let mut hasher = Sha256::new();
     hasher.update(b"circom_gold 1");
-    hasher.update(Sha256::digest(r1cs_bytes));
+    hasher.update(relation.digest);
     hasher.update((publics.len() as u32).to_le_bytes());
     absorb(&mut hasher, publics);
     hasher.update(root.as_slice());

@@ -21,7 +21,7 @@ use iden_files::{R1cs, first_failing};
 use items::Items;
 use lig_layout::{Params, Vectors, vectors};
 use lig_merkle::Hash;
-use lig_proof::{Version, challenges, equation_count, queries};
+use lig_proof::{Relation, Version, challenges, equation_count, queries};
 use std::alloc::{AllocError, Global};
 use std::thread::Threads;
 
@@ -129,7 +129,8 @@ pub fn prove_any_as<R: Threads + AllocGlobal + Sync>(
     let tree = commit(rt, alloc, &params, &codewords)?;
     let publics = publics_of(file, vectors.w.as_slice());
     let equations = equation_count(file);
-    let challenges = challenges(alloc, &params, r1cs_bytes, publics, equations, &tree.root())?;
+    let relation = Relation::of(r1cs_bytes);
+    let challenges = challenges(alloc, &params, &relation, publics, equations, &tree.root())?;
     let polys = sent(
         rt,
         alloc,

@@ -5,7 +5,9 @@ use crate::checks::same;
 use crate::samples::{PRODUCT, bytes_of, gold, hex_of, put};
 use gold_field::{Gold, P};
 use lig_layout::Params;
-use lig_proof::{Challenges, Proof, ProofFault, challenges, queries, read_proof, write_proof};
+use lig_proof::{
+    Challenges, Proof, ProofFault, Relation, challenges, queries, read_proof, write_proof,
+};
 use std::alloc::Global;
 use std::process::Abort;
 
@@ -62,7 +64,8 @@ fn begin(rt: &impl Abort, values: &[Gold], numbers: &[u64]) {
 fn drawn<R: AllocGlobal + Abort>(rt: &R) -> Challenges {
     let file = bytes_of(rt, PRODUCT);
     let root = hash_of(rt, ROOT);
-    challenges(rt.alloc(), &SMALL, &file, &[gold(33)], 5, &root).expect(rt, "memory")
+    let relation = Relation::of(&file);
+    challenges(rt.alloc(), &SMALL, &relation, &[gold(33)], 5, &root).expect(rt, "memory")
 }
 
 /// The first key of the true proofs of that file, for the seed of zeros.

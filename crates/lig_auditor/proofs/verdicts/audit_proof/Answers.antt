@@ -8,7 +8,7 @@ use Rattle.lig_auditor.proofs.verdicts.audit_proof.Goals as goal
 
 pub first_astray-requires-clause-ways : goal.first_astray-requires-clause-ways
 first_astray-requires-clause-ways g c =
-    let r1cs_bytes = c.args.r1cs_bytes.now in
+    let r1cs_bytes = c.args.relation.now.bytes.now in
     let publics = c.args.publics.now in
     let p = c.args.params.now in
     let proof = c.args.proof.now in
@@ -23,7 +23,7 @@ first_astray-requires-clause-ways g c =
 
 pub returns-in-Some : goal.returns-in-Some
 returns-in-Some g c =
-    let r1cs_bytes = c.args.r1cs_bytes.now in
+    let r1cs_bytes = c.args.relation.now.bytes.now in
     let f = c.args.file.now in
     let publics = c.args.publics.now in
     let p = c.args.params.now in
@@ -44,7 +44,7 @@ returns-in-Some g c =
 
 pub tested-requires-clause-opening : goal.tested-requires-clause-opening
 tested-requires-clause-opening g c κs within =
-    let r1cs_bytes = c.args.r1cs_bytes.now in
+    let r1cs_bytes = c.args.relation.now.bytes.now in
     let publics = c.args.publics.now in
     let p = c.args.params.now in
     let proof = c.args.proof.now in
@@ -69,7 +69,7 @@ tested-requires-clause-opening g c κs within =
 
 pub returns : goal.returns
 returns g c =
-    let r1cs_bytes = c.args.r1cs_bytes.now in
+    let r1cs_bytes = c.args.relation.now.bytes.now in
     let f = c.args.file.now in
     let publics = c.args.publics.now in
     let p = c.args.params.now in

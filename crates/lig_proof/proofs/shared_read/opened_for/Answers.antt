@@ -13,7 +13,8 @@ due p r1cs_bytes publics root polys first drawn once a b e =
 
 pub returns-clause-value : goal.returns-clause-value
 returns-clause-value c =
-    due c.args.params.now c.args.r1cs_bytes.now c.args.publics.now c.args.root.now c.args.polys.now
+    due c.args.params.now c.args.relation.now.bytes.now c.args.publics.now c.args.root.now
+    c.args.polys.now
     c.first_key-first.result c.in_ok-drawn.drawn.items c.in_ok-opened.opened.items
     c.first_key-first.ensures
     c.in_ok-drawn.ensures.columns (c.in_ok-opened.ensures.once

@@ -27,7 +27,7 @@ reached p r1cs_bytes publics bytes root polys opened r0 r1 r2 e1 e2 e3 x is1 is2
 pub returns : goal.returns
 returns c =
     let p = c.args.params.now in
-    let r1cs_bytes = c.args.r1cs_bytes.now in
+    let r1cs_bytes = c.args.relation.now.bytes.now in
     let publics = c.args.publics.now in
     let root = c.in_ok-root.root in
     let e1 = c.read_head.ensures.end ∙ c.new-fields.ensures.end in

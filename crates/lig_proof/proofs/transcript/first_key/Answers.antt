@@ -10,7 +10,7 @@ regroup a b c d e = simp append_assoc
 pub returns : goal.returns
 returns c =
     let name = codes "circom_gold 1" in
-    let file = c.digest.result in
+    let file = c.args.relation.now.digest in
     let count = c.to_le_bytes.result in
     let publics = column_bytes c.args.publics.now in
     let root = c.as_slice.result.now in
@@ -21,4 +21,4 @@ returns c =
     let rooted = c.update-4.ensures (((name ++ file) ++ count) ++ publics) publicised in
     c.finalize.ensures ((((name ++ file) ++ count) ++ publics) ++ root) rooted
     ∙ ap sha256 (regroup name file count publics root)
-    ∙ rw (c.digest.ensures, c.to_le_bytes.ensures, c.as_slice.ensures) refl
+    ∙ rw (c.args.relation.now.digested, c.to_le_bytes.ensures, c.as_slice.ensures) refl

@@ -56,7 +56,7 @@ returns g c =
     (record {
       rows = c.in_ok-polynomials.ensures.encoded;
       challenges_drawn = c.in_ok-challenges.ensures.value ∙ (λ i. challenges_of p (equations i)
-          (first_key r1cs_bytes (publics i) (root i)));
+          (first_key (c.of-relation.ensures i) (publics i) (root i)));
       systems = sent.1;
       spelled = made ∙ (λ i. proof_spelling version p (column_in (c.deref-4.ensures.value i)) tree
           all (c.deref-5.ensures.value i))
