@@ -2,4 +2,5 @@ pub mod Adding
 pub mod Coset
 pub mod Encodings
 pub mod Made
+pub mod Placing
 pub mod Points

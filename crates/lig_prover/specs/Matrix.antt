@@ -1,6 +1,7 @@
 -- The encoded matrix in two lists: its polynomials in the order of a column, and their codewords.
 use Rattle.std.specs.Prelude.{◌≡◌, ◌≤◌, ℕ, ◌+◌, ◌-◌, ◌*◌, ◌%◌, List, [], ◌∷◌, length, map}
 use Rattle.std.specs.Prelude.{slice_index, slice_index_or}
+use Rattle.std.specs.List.{range_with_len}
 use Rattle.gold_field.specs.declared.gold.TheConstants.{P}
 use Rattle.gold_ntt.specs.Polynomial.{sum_to}
 use Rattle.iden_files.specs.File.{File}
@@ -11,7 +12,7 @@ use Rattle.lig_proof.specs.declared.challenge.Challenges.{Challenges}
 use Rattle.lig_proof.specs.Columns.{Encoded}
 use Rattle.lig_proof.specs.Encoding.{InterpolateRows}
 use Rattle.lig_proof.specs.Masks.{proximity_mask, linear_mask, product_mask}
-use Rattle.lig_proof.specs.Sent.{rho, r_numbers, linear_test}
+use Rattle.lig_proof.specs.Sent.{alpha, rho, r_numbers, linear_test}
 use Rattle.lig_proof.specs.Values.{HasDegrees}
 use Rattle.lig_prover.specs.Transform.{values_at}
 
@@ -50,6 +51,16 @@ pub record AreCodewords (p : Params) (polynomials codewords : List (List ℕ)) :
   pub count : length polynomials ≡ p.rows + 6
   pub degrees : HasDegrees p (encoded_by p polynomials)
   pub each : codewords ≡ map (values_at p.depth) polynomials
+
+-- block b of a list that has what f gives at each place, in blocks of so many places
+abbrev pub IsBlock : (ℕ → ℕ) → ℕ → ℕ → List ℕ → Type 0
+IsBlock f size b values = values ≡ map f (range_with_len (b * size) size)
+
+-- coefficient i of the test that the rows are codewords
+abbrev pub proximity_value : Params → Challenges → List (List ℕ) → ℕ → ℕ → ℕ
+proximity_value p c polynomials t i =
+    (entry_of polynomials (p.rows + t) i
+    + sum_to p.rows (λ k. alpha p c t k * entry_of polynomials k i)) % P
 
 -- the test of the linear system at code point i, where the system's rows have the values at place j
 abbrev pub linear_value : Params → List (List ℕ) → List (List ℕ) → ℕ → ℕ → ℕ → ℕ

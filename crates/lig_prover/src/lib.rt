@@ -5,6 +5,7 @@
 //! don't depend on how many there are.
 #![tactic(auto)]
 
+mod blocks;
 mod columns;
 mod fault;
 mod masks;

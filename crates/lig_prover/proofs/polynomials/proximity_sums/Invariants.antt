@@ -1,0 +1,11 @@
+use Rattle.std.proofs.Common.{◌≡◌, ℕ, ◌+◌, ◌*◌, ◌%◌, ◌<◌, length, get_or}
+use Rattle.gold_field.specs.declared.gold.TheConstants.{P}
+use Rattle.gold_ntt.specs.Polynomial.{sum_to}
+use Rattle.lig_proof.specs.Sent.{alpha}
+use Rattle.lig_prover.specs.Matrix.{entry_of}
+use Rattle.lig_prover.proofs.polynomials.proximity_sums.Given as goal
+
+abbrev pub invariant-loop-k : goal.invariant-loop-k
+invariant-loop-k l = (i : ℕ) → i < length l.sums → get_or l.sums i 0
+    ≡ sum_to l.k (λ k. alpha l.params l.challenges l.t k
+    * entry_of l.polynomials k (l.first + i)) % P
