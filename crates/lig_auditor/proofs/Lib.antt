@@ -4,3 +4,4 @@ pub mod Matching
 pub mod RightSums
 pub mod Systems
 pub mod Concluding
+pub mod Weights

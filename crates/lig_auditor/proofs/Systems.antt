@@ -1,14 +1,12 @@
 -- The polynomials of the rows of a combined system.
 use Rattle.std.proofs.Common.{◌≡◌, ℕ, zero, suc, ◌+◌, ◌-◌, ◌*◌, ◌%◌, ◌<◌, ◌≤◌, ◌⊎◌, inl, inr, List}
-use Rattle.std.proofs.Common.{[], ◌∷◌, length, take, drop, get_or, sym, ap, subst, ◌∙◌, arith}
+use Rattle.std.proofs.Common.{[], ◌∷◌, length, take, drop, sym, ap, subst, ◌∙◌, arith}
 use Rattle.std.specs.List.{AllByRecursion}
 use Rattle.std.proofs.lemmas.Bool.{cases_lt}
 use Rattle.std.proofs.lemmas.List.FromFn.{length-map-range_with_len}
 use Rattle.std.proofs.lemmas.List.{length-take-le, length-drop}
 use Rattle.gold_field.specs.declared.gold.TheConstants.{P}
 use Rattle.gold_field.specs.declared.form.Term.{Term}
-use Rattle.gold_ntt.specs.Polynomial.{eval_at}
-use Rattle.gold_ntt.proofs.Sums.{sum_same}
 use Rattle.iden_files.specs.File.{File}
 use Rattle.lig_layout.specs.declared.params.Params.{Params}
 use Rattle.lig_layout.specs.Sizes.{IsParams, params_of}
@@ -19,10 +17,6 @@ use Rattle.lig_proof.specs.Encoding.{Interpolates, InterpolateRows}
 use Rattle.lig_proof.specs.ProofBytes.{AreValues}
 use Rattle.lig_proof.specs.Sent.{r_numbers}
 use Rattle.lig_proof.specs.Proving.{AreSystems}
-use Rattle.lig_proof.specs.Points.{code_point}
-use Rattle.lig_proof.specs.Columns.{row_value, linear_mask_value}
-use Rattle.lig_auditor.specs.declared.opening.Opening.{Opening}
-use Rattle.lig_auditor.specs.Opened.{RowsAgree}
 use Rattle.lig_proof.proofs.Interpolants.{made_values, rows_have_polynomials}
 
 taken : (n : ℕ) (xs : List ℕ) → AllByRecursion (λ x. x < P) xs
@@ -111,15 +105,3 @@ system_row p f c t equations numbers whole system is many drawn made are low =
     ∙ ap (λ r. combined (p.rows * p.l) r (left_sides p f))
     (drawn ∙ ap (λ n. r_numbers n c t) many)) in
     subst Whole same rows
-
--- rows that are the same agree alike
-pub agree_alike : (o : Opening) (a b : ℕ → List ℕ) (t : ℕ)
-    → ((k : ℕ) → k < o.params.now.rows → a k ≡ b k) → RowsAgree o a t → RowsAgree o b t
-agree_alike o a b t same h = λ q low.
-    let column = get_or o.columns.now q [] in
-    let x = code_point o.params.now (get_or o.indices.now q 0) in
-    h q low
-    ∙ ap (λ s. (linear_mask_value o.params.now column t + s) % P)
-    (sum_same o.params.now.rows (λ k. eval_at (a k) x * row_value column k)
-    (λ k. eval_at (b k) x * row_value column k)
-    (λ k low. ap (λ f. eval_at f x * row_value column k) (same k low)))

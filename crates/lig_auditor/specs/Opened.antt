@@ -2,11 +2,12 @@
 use Rattle.std.specs.Prelude.{◌≡◌, ℕ, ◌+◌, ◌*◌, ◌%◌, ◌<◌, List, [], length, All, slice_index}
 use Rattle.std.specs.Prelude.{slice_index_or}
 use Rattle.gold_field.specs.declared.gold.TheConstants.{P}
-use Rattle.gold_ntt.specs.Polynomial.{eval_at}
+use Rattle.gold_ntt.specs.Polynomial.{sum_to, eval_at}
 use Rattle.lig_layout.specs.declared.params.Params.{Params}
 use Rattle.lig_layout.specs.Sizes.{IsParams}
+use Rattle.lig_proof.specs.Encoding.{Interpolates}
 use Rattle.lig_proof.specs.Points.{code_point}
-use Rattle.lig_proof.specs.Sent.{alpha, rho, polynomials_of}
+use Rattle.lig_proof.specs.Sent.{polynomials_of}
 use Rattle.lig_proof.specs.Audit.{Audit, proximity_value, system_value, product_value}
 use Rattle.lig_auditor.specs.declared.opening.Opening.{Opening}
 
@@ -51,10 +52,6 @@ abbrev pub Agrees : Opening → List ℕ → (ℕ → ℕ) → Type 0
 Agrees o polynomial f = (q : ℕ) → q < length o.columns.now
     → eval_at polynomial (code_point o.params.now (slice_index o.indices.now q)) ≡ f q
 
--- the rows of a system, from their list
-abbrev pub rows_in : List (List ℕ) → ℕ → List ℕ
-rows_in rows k = slice_index_or rows k []
-
 -- an opened column, and the point at which it was encoded
 abbrev pub column_of : Opening → ℕ → List ℕ
 column_of o q = slice_index_or o.columns.now q []
@@ -74,6 +71,11 @@ ProductsAgree o t = Agrees o ((polynomials_of o.params.now o.polys.now).product 
 abbrev pub RowsAgree : Opening → (ℕ → List ℕ) → ℕ → Type 0
 RowsAgree o rows t = Agrees o ((polynomials_of o.params.now o.polys.now).linear t)
     (λ q. system_value o.params.now rows t (point_of o q) (column_of o q))
+
+-- times these, place by place, the values of a row sum to the value at x of its polynomial
+abbrev pub Weighs : Params → List ℕ → ℕ → Type 0
+Weighs p weights x = (row polynomial : List ℕ) → Interpolates p row polynomial
+    → sum_to p.l (λ i. slice_index row i * slice_index weights i) % P ≡ eval_at polynomial x
 
 -- coefficient k of the remainder by X ^ l - 1 of a polynomial of 4 * l coefficients
 abbrev pub folded : ℕ → List ℕ → ℕ → ℕ
