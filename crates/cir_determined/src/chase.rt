@@ -1,35 +1,70 @@
 ghost use Rattle.std.specs.Prelude.{◌≡◌, length, map, All, OnOk};
-ghost use Rattle.gold_field.specs.Form.{ConstraintBelow, SignalsBelow};
+ghost use Rattle.gold_field.specs.Form.{ConstraintBelow};
 ghost use Rattle.cir_determined.specs.Circuit.{normalized};
 ghost use Rattle.cir_determined.specs.Marks.{marks_of};
 ghost use Rattle.cir_determined.specs.Search.{AddsRules};
 
-use crate::marks::{Mark, is_known};
+use crate::marks::Mark;
 use crate::rule::Rule;
 use crate::search::visit;
 use gold_field::{Constraint, Term};
 use std::alloc::{AllocError, Global};
-use std::mem::replace;
 
-/// A constraint is looked at only where at most so many of its terms have unknown wires: the bits
-/// of one number are no more.
+/// The bits of one number are at most so many.
 const MOST_BITS: u32 = 64;
 
 /// What tells which constraints are worth a look.
 #[derive(Drop)]
 struct Notes {
+    /// Where the entries of each wire stand.
+    spans: Vec<Span>,
     /// The places of the constraints that name each unknown wire, once for each term.
-    holders: Vec<Vec<u32>>,
-    /// How many terms of each constraint have unknown wires.
-    left: Vec<u32>,
+    entries: Vec<u32>,
+    /// What is left of each constraint.
+    left: Vec<Left>,
     /// The places that are to be looked at.
     stack: Vec<u32>,
-    /// At least the number of looks.
-    looks: usize,
+}
+
+/// Entries from the first on, up to the end.
+#[derive(Clone, Copy)]
+struct Span {
+    first: u32,
+    end: u32,
+}
+
+/// The terms of a constraint whose wires aren't known.
+#[derive(Clone, Copy)]
+struct Left {
+    unknown: u32,
+    /// Those of them whose wires aren't shown to be 0 or 1 either.
+    odd: u32,
+}
+
+impl Left {
+    fn and_one(self, boolean: bool) -> Left {
+        Left {
+            unknown: self.unknown.saturating_add(1),
+            odd: self.odd.saturating_add(u32::from(!boolean)),
+        }
+    }
+
+    fn less_one(self, boolean: bool) -> Left {
+        Left {
+            unknown: self.unknown.saturating_sub(1),
+            odd: self.odd.saturating_sub(u32::from(!boolean)),
+        }
+    }
+
+    // Whether a rule may apply: the last unknown wire is solved for, and few ones are bits.
+    fn is_worth_a_look(self) -> bool {
+        self.unknown == 1 || (self.odd == 0 && 0 < self.unknown && self.unknown <= MOST_BITS)
+    }
 }
 
 /// Takes rules where they are likely to apply, which are the constraints of wires that become
-/// known. Each term costs a constant number of steps.
+/// known. A constraint is looked at where one unknown wire is left, and where the last 64 are all 0
+/// or 1, so the time grows with the number of terms.
 pub(crate) fn chase(
     alloc: Global,
     marks: &mut [Mark],
@@ -41,7 +76,8 @@ pub(crate) fn chase(
         (marks_of marks.old) (marks_of marks.new) rules.old.items rules.new.items) }
 {
     let mut notes = noted(alloc, marks, constraints)?;
-    for turn in 0..notes.looks {
+    let looks = notes.left.len().saturating_add(notes.entries.len());
+    for turn in 0..looks {
         let Some(place) = notes.stack.pop() else {
             return Ok(());
         };
@@ -67,131 +103,160 @@ fn look(
     };
     let taken = visit(alloc, marks, k, place, rules)?;
     if taken {
-        tell_constraint(alloc, notes, marks, k)?;
+        tell_constraint(notes, marks, k)?;
     }
     Ok(())
 }
 
-fn tell_constraint(
-    alloc: Global,
-    notes: &mut Notes,
-    marks: &[Mark],
-    k: &Constraint,
-) -> Result<(), AllocError>
-    requires { ConstraintBelow (length marks.now) k.now }
-{
-    tell_all(alloc, notes, marks, k.a.as_slice())?;
-    tell_all(alloc, notes, marks, k.b.as_slice())?;
-    tell_all(alloc, notes, marks, k.c.as_slice())?;
-    Ok(())
-}
-
-fn noted(alloc: Global, marks: &[Mark], constraints: &[Constraint]) -> Result<Notes, AllocError>
-    requires { All (ConstraintBelow (length marks.now)) constraints.now }
-{
-    let mut holders = Vec::with_capacity(alloc, marks.len())?;
-    for mark in marks {
-        holders.push(Vec::new(alloc))?;
-    }
-    let mut notes = Notes {
-        holders,
-        left: Vec::with_capacity(alloc, constraints.len())?,
-        stack: Vec::new(alloc),
-        looks: constraints.len(),
-    };
+fn noted(alloc: Global, marks: &[Mark], constraints: &[Constraint]) -> Result<Notes, AllocError> {
+    let mut spans = Vec::new(alloc);
+    spans.resize(marks.len(), Span { first: 0, end: 0 })?;
+    let mut left = Vec::with_capacity(alloc, constraints.len())?;
     for k in constraints {
-        note(&mut notes, marks, k)?;
+        left.push(counted(&mut spans, marks, k))?;
     }
-    Ok(notes)
+    let total = lay_out(&mut spans);
+    let mut entries = Vec::new(alloc);
+    entries.resize(total as usize, 0)?;
+    let mut place = 0u32;
+    for k in constraints {
+        enter(&mut entries, &mut spans, marks, k.a.as_slice(), place);
+        enter(&mut entries, &mut spans, marks, k.b.as_slice(), place);
+        enter(&mut entries, &mut spans, marks, k.c.as_slice(), place);
+        place = place.saturating_add(1);
+    }
+    let stack = first_looks(alloc, &left)?;
+    Ok(Notes {
+        spans,
+        entries,
+        left,
+        stack,
+    })
 }
 
-// Adds the next constraint.
-fn note(notes: &mut Notes, marks: &[Mark], k: &Constraint) -> Result<(), AllocError>
-    requires { ConstraintBelow (length marks.now) k.now }
-{
-    let place = as_place(notes.left.len());
-    let mut left = 0;
-    left = note_terms(&mut notes.holders, marks, k.a.as_slice(), place, left)?;
-    left = note_terms(&mut notes.holders, marks, k.b.as_slice(), place, left)?;
-    left = note_terms(&mut notes.holders, marks, k.c.as_slice(), place, left)?;
-    notes.left.push(left)?;
-    notes.looks = notes.looks.saturating_add(left as usize);
-    if left <= MOST_BITS {
-        notes.stack.push(place)?;
-    }
-    Ok(())
+// What is left of the constraint, of whose terms each span takes note.
+fn counted(spans: &mut [Span], marks: &[Mark], k: &Constraint) -> Left {
+    let none = Left { unknown: 0, odd: 0 };
+    let a = count_terms(spans, marks, k.a.as_slice(), none);
+    let b = count_terms(spans, marks, k.b.as_slice(), a);
+    count_terms(spans, marks, k.c.as_slice(), b)
 }
 
-fn note_terms(
-    holders: &mut Vec<Vec<u32>>,
-    marks: &[Mark],
-    terms: &[Term],
-    place: u32,
-    before: u32,
-) -> Result<u32, AllocError>
-    requires { SignalsBelow (length marks.now) terms.now }
-{
+fn count_terms(spans: &mut [Span], marks: &[Mark], terms: &[Term], before: Left) -> Left {
     let mut left = before;
     for t in terms {
-        if !is_known(marks, t.signal) {
-            push_at(holders, t.signal as usize, place)?;
-            left = left.saturating_add(1);
+        let wire = t.signal as usize;
+        if wire < marks.len() && !marks[wire].known {
+            left = left.and_one(marks[wire].boolean);
+            lengthen(spans, wire);
         }
     }
-    Ok(left)
+    left
 }
 
-fn push_at(holders: &mut Vec<Vec<u32>>, wire: usize, place: u32) -> Result<(), AllocError> {
-    if wire < holders.len() {
-        holders[wire].push(place)?;
-    }
-    Ok(())
-}
-
-// Tells of each wire of the terms that is known.
-fn tell_all(
-    alloc: Global,
-    notes: &mut Notes,
-    marks: &[Mark],
-    terms: &[Term],
-) -> Result<(), AllocError>
-    requires { SignalsBelow (length marks.now) terms.now }
-{
-    for t in terms {
-        if is_known(marks, t.signal) {
-            tell(alloc, notes, t.signal as usize)?;
-        }
-    }
-    Ok(())
-}
-
-fn tell(alloc: Global, notes: &mut Notes, wire: usize) -> Result<(), AllocError> {
-    let places = told(alloc, &mut notes.holders, wire);
-    for place in &places {
-        let at = *place as usize;
-        if at < notes.left.len() {
-            let left = notes.left[at].saturating_sub(1);
-            notes.left[at] = left;
-            if left <= MOST_BITS {
-                notes.stack.push(*place)?;
-            }
-        }
-    }
-    Ok(())
-}
-
-// The places of the constraints of a wire, of which this is the first to be told.
-fn told(alloc: Global, holders: &mut Vec<Vec<u32>>, wire: usize) -> Vec<u32> {
-    if wire < holders.len() {
-        return replace(&mut holders[wire], Vec::new(alloc));
-    }
-    Vec::new(alloc)
-}
-
-fn as_place(length: usize) -> u32 {
-    if length < 4294967296 {
-        length as u32
+// Adds a place to the span of the wire, and answers which one it is.
+fn lengthen(spans: &mut [Span], wire: usize) -> u32 {
+    if wire < spans.len() {
+        let Span { first, end } = spans[wire];
+        let more = end.saturating_add(1);
+        spans[wire] = Span { first, end: more };
+        end
     } else {
         0
     }
+}
+
+// Puts the spans, whose ends are their lengths, one behind the other, each still empty, and answers
+// the sum of the lengths.
+fn lay_out(spans: &mut [Span]) -> u32 {
+    let mut total = 0u32;
+    for span in spans.iter_mut() {
+        let first = total;
+        total = total.saturating_add(span.end);
+        *span = Span { first, end: first };
+    }
+    total
+}
+
+// Puts the place of a constraint into the span of each unknown wire of the terms.
+fn enter(entries: &mut [u32], spans: &mut [Span], marks: &[Mark], terms: &[Term], place: u32) {
+    for t in terms {
+        let wire = t.signal as usize;
+        if wire < marks.len() && !marks[wire].known {
+            let at = lengthen(spans, wire);
+            write_at(entries, at as usize, place);
+        }
+    }
+}
+
+fn write_at(entries: &mut [u32], at: usize, place: u32) {
+    if at < entries.len() {
+        entries[at] = place;
+    }
+}
+
+fn first_looks(alloc: Global, left: &[Left]) -> Result<Vec<u32>, AllocError> {
+    let mut stack = Vec::new(alloc);
+    let mut place = 0u32;
+    for l in left {
+        if l.is_worth_a_look() {
+            stack.push(place)?;
+        }
+        place = place.saturating_add(1);
+    }
+    Ok(stack)
+}
+
+fn tell_constraint(notes: &mut Notes, marks: &[Mark], k: &Constraint) -> Result<(), AllocError> {
+    tell_all(notes, marks, k.a.as_slice())?;
+    tell_all(notes, marks, k.b.as_slice())?;
+    tell_all(notes, marks, k.c.as_slice())
+}
+
+// Tells of each wire of the terms that is known.
+fn tell_all(notes: &mut Notes, marks: &[Mark], terms: &[Term]) -> Result<(), AllocError> {
+    for t in terms {
+        let wire = t.signal as usize;
+        if wire < marks.len() && marks[wire].known {
+            tell(notes, wire, marks[wire].boolean)?;
+        }
+    }
+    Ok(())
+}
+
+// Tells the constraints of a wire that it is known, the first time.
+fn tell(notes: &mut Notes, wire: usize, boolean: bool) -> Result<(), AllocError> {
+    let span = taken(&mut notes.spans, wire);
+    for at in span.first..span.end {
+        let at = at as usize;
+        if at < notes.entries.len() {
+            let place = notes.entries[at];
+            tell_place(notes, place, boolean)?;
+        }
+    }
+    Ok(())
+}
+
+// The span of the wire, which is empty from then on.
+fn taken(spans: &mut [Span], wire: usize) -> Span {
+    if wire < spans.len() {
+        let span = spans[wire];
+        let first = span.first;
+        spans[wire] = Span { first, end: first };
+        span
+    } else {
+        Span { first: 0, end: 0 }
+    }
+}
+
+fn tell_place(notes: &mut Notes, place: u32, boolean: bool) -> Result<(), AllocError> {
+    let at = place as usize;
+    if at < notes.left.len() {
+        let left = notes.left[at].less_one(boolean);
+        notes.left[at] = left;
+        if left.is_worth_a_look() {
+            notes.stack.push(place)?;
+        }
+    }
+    Ok(())
 }

@@ -13,8 +13,8 @@ use std::alloc::{AllocError, Global};
 /// What has been shown of a wire: that the inputs determine it, and that it is 0 or 1.
 #[derive(Clone, Copy)]
 pub(crate) struct Mark {
-    known: bool,
-    boolean: bool,
+    pub(crate) known: bool,
+    pub(crate) boolean: bool,
 }
 
 /// A mark for each wire, before the first rule.

@@ -14,12 +14,6 @@ visit-requires c =
     below_at (length c.args.marks.now) c.args.constraints.now c.args.place c.in-Some.k.now
     c.requires c.in-Some.ensures.lookup.0 c.in-Some.ensures.lookup.1
 
-pub tell_constraint-requires : goal.tell_constraint-requires
-tell_constraint-requires c =
-    subst (λ (n : ℕ). ConstraintBelow n c.in-Some.k.now) (sym c.visit.auto.marks)
-    (below_at (length c.args.marks.now) c.args.constraints.now c.args.place c.in-Some.k.now
-    c.requires c.in-Some.ensures.lookup.0 c.in-Some.ensures.lookup.1)
-
 pub returns-in_ok-tell_constraint : goal.returns-in_ok-tell_constraint
 returns-in_ok-tell_constraint c =
     let n : ℕ = length c.args.marks.now in
