@@ -1,8 +1,7 @@
-use Rattle.std.proofs.Common.{ℕ, map, length, ap, sym, ◌∙◌, refl, subst}
+use Rattle.std.proofs.Common.{ℕ, map, length, ap, sym, ◌∙◌, refl}
 use Rattle.std.specs.Option.{option_map}
 use Rattle.std.proofs.lemmas.Bool.{ltb-true}
 use Rattle.std.proofs.lemmas.Option.{slice_get-map, slice_get_read}
-use Rattle.gold_field.specs.Form.{ConstraintBelow}
 use Rattle.cir_determined.specs.Circuit.{normalized}
 use Rattle.cir_determined.specs.Marks.{marks_of}
 use Rattle.cir_determined.proofs.Found.{adds_visit}
