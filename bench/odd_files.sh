@@ -73,12 +73,12 @@ said 'a pipe without a writer: the program waits' 124 '' $?
 "$PROGRAM" check /dev/stdin m.wtns < m.r1cs > said
 said 'standard input' 0 satisfied $?
 head -c 16777217 /dev/zero > long
-try 'a source with a byte too many' 1 'refused: E19 Limit Source 16777217 at long:1:1 in -' compile long OUT
+try 'a source with a byte too many' 1 'refused: E19 Limit Source 16777217 at long:1:1 in -' \
+    compile long OUT
 echo 'include "inner"; component main = Mul();' > folder.circom
 try 'an include that is a folder' 3 "$fault" compile folder.circom OUT
-(ulimit -n 3; exec "$PROGRAM" check m.r1cs m.wtns) > said 2> errors
-said 'no number left for an open file' 3 "$fault" $?
-for command in 'check /dev/zero m.wtns' 'compile /dev/zero OUT' 'witness mul.circom /dev/zero OUT'; do
+for command in 'check /dev/zero m.wtns' 'compile /dev/zero OUT' \
+    'witness mul.circom /dev/zero OUT'; do
     (ulimit -Sv "${MEMORY:-720000}"; exec "$PROGRAM" $command) > said 2> errors
     said "a file that never ends, with a limit of memory: $command" 4 '' $?
 done

@@ -1,5 +1,5 @@
-/* Is loaded before the program (LD_PRELOAD) and answers some of its calls of one kind otherwise than
- * the system would. The calls of a kind are counted from 1, in all threads together.
+/* Is loaded before the program (LD_PRELOAD) and answers some of its calls of one kind otherwise
+ * than the system would. The calls of a kind are counted from 1, in all threads together.
  *
  *   REFUSED_KIND    memory, open, read, write or close; memory are requests for pieces of it, for
  *                   pages and for a thread
@@ -88,7 +88,8 @@ void *mmap(void *hint, size_t size, int protection, int flags, int file, off_t f
     return (void *)syscall(SYS_mmap, hint, size, protection, flags, file, from);
 }
 
-int pthread_create(pthread_t *thread, const pthread_attr_t *wanted, void *(*start)(void *), void *given)
+int pthread_create(
+    pthread_t *thread, const pthread_attr_t *wanted, void *(*start)(void *), void *given)
 {
     static int (*real)(pthread_t *, const pthread_attr_t *, void *(*)(void *), void *);
     if (is_refused(MEMORY))

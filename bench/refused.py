@@ -2,8 +2,8 @@
 
 usage: refused.py PROGRAM LIBRARY FOLDER [KIND ..]      (refused.sh makes the library and the folder)
 
-Each command of `COMMANDS` is run once as it is, and must give the answer that stands there. Then, for
-each kind of call, with the first call answered otherwise, with the second one, and so on:
+Each command of `COMMANDS` is run once as it is, and must give the answer that stands there. Then,
+for each kind of call, with the first call answered otherwise, with the second one, and so on:
 
   memory   refused, alone and with all later requests. The answer must be the same, or status 4,
            where the standard output is a front of the same text.
@@ -13,10 +13,10 @@ each kind of call, with the first call answered otherwise, with the second one, 
            Interrupted, where it isn't a read, and read or written one byte of, once and always: the
            answer must be the same.
 
-With statuses 3 and 4 the file that the command writes must be as before or a front of the same file;
-every other file must be as before. For each command and kind stand the number of calls, how many runs
-gave the same answer, how many a fault or want of memory, and how many something else. The words that
-repeat such a run stand behind. The status is 1 where there is one.
+With statuses 3 and 4 the file that the command writes must be as before or a front of the same
+file; every other file must be as before. For each command and kind stand the number of calls, how
+many runs gave the same answer, how many a fault or want of memory, and how many something else. The
+words that repeat such a run stand behind. The status is 1 where there is one.
 """
 import errno
 import os
@@ -190,7 +190,9 @@ class Runner:
 
 
 def is_front(written, whole, before):
-    return written == before or whole is not None and written is not None and whole.startswith(written)
+    if written == before:
+        return True
+    return whole is not None and written is not None and whole.startswith(written)
 
 
 def judge(own, answer, kind, how, before):
@@ -200,8 +202,8 @@ def judge(own, answer, kind, how, before):
         return "same"
     is_partly_written = is_front(answer.written, own.written, before)
     if kind == "memory" and answer.status == 4:
-        is_said = b"want of memory\n".startswith(answer.errors)
-        return "other" if is_said and is_partly_written and own.text.startswith(answer.text) else "wrong"
+        is_said = b"want of memory\n".startswith(answer.errors) and own.text.startswith(answer.text)
+        return "other" if is_said and is_partly_written else "wrong"
     if kind != "memory" and how in KINDS[kind][0] and answer.status == 3:
         of_store = b"fault: store\n".startswith(answer.text) and is_partly_written
         of_sink = own.text.startswith(answer.text) and answer.written == whole
