@@ -1,6 +1,7 @@
 pub mod Reading
 pub mod Offering
 pub mod Accepts
+pub mod Certified
 pub mod CheckLaws
 pub mod Checked
 pub mod Ended

@@ -27,7 +27,7 @@ first_step : {A C : Type 0} (x : Result A Refusal) (g : A → Result C Refusal) 
 first_step (Ok a) g k c keeps e = ap Ok (sym (keeps a c e))
 first_step (Err r) g k c keeps e = cc
 
-second_step : {A B C : Type 0} (x : Result A Refusal) (f : A → Result B Refusal)
+pub second_step : {A B C : Type 0} (x : Result A Refusal) (f : A → Result B Refusal)
     (g : A → B → Result C Refusal) (k : C → B) (c : C)
     → ((a : A) (b : B) (d : C) → g a b ≡ Ok d → k d ≡ b)
     → (x >>= λ a. f a >>= λ b. g a b) ≡ Ok c → (x >>= f) ≡ Ok (k c)
@@ -38,7 +38,7 @@ second_step (Err r) f g k c keeps e = cc
 abbrev well : {C : Type 0} → C → Result C Refusal
 well c = Ok c
 
-kept : {C D : Type 0} (c d : C) (k : C → D) → well c ≡ well d → k d ≡ k c
+pub kept : {C D : Type 0} (c d : C) (k : C → D) → well c ≡ well d → k d ≡ k c
 kept c d k e = let same : d ≡ c = cc in ap k same
 
 witness_kept : (bytes : List ℕ) (file : File) (values : Result (List ℕ) Refusal) (w : Witness)
@@ -91,7 +91,7 @@ file_in_limits name (Ok bytes) f e =
     read_file_in_limits bytes f (accepted_is name (r1cs_of bytes) f e)
 file_in_limits name (Err r) f e = let bad : ⊥ = cc in absurd bad
 
-read_in_limits : (files : Contents) (r1cs : List ℕ) (f : File) → r1cs_in files r1cs ≡ Ok f
+pub read_in_limits : (files : Contents) (r1cs : List ℕ) (f : File) → r1cs_in files r1cs ≡ Ok f
     → InLimits f
 unfolding r1cs_in
 read_in_limits files r1cs f e = file_in_limits r1cs (bytes_in files r1cs) f e
@@ -99,7 +99,7 @@ read_in_limits files r1cs f e = file_in_limits r1cs (bytes_in files r1cs) f e
 -- ---- what is found is one
 
 -- what is found in what was read is one, where it is one in each
-one_found : {X Y : Type 0} (Finds : X → Y → Type 0) (read : Result X Refusal)
+pub one_found : {X Y : Type 0} (Finds : X → Y → Type 0) (read : Result X Refusal)
     → ((x : X) → read ≡ Ok x → (y z : Y) → Finds x y → Finds x z → y ≡ z)
     → (a b : Result Y Refusal) → FoundIn Finds read a → FoundIn Finds read b → a ≡ b
 one_found Finds (Ok x) one (Ok y) (Ok z) p q = ap Ok (one x refl y z p q)

@@ -11,14 +11,19 @@ use Rattle.out_io.proofs.Telling.{answer_here, found_told, others_stay, told_on,
 use Rattle.iden_files.specs.File.{File}
 use Rattle.iden_files.specs.ReadR1cs.{r1cs_of}
 use Rattle.iden_files.specs.ReadWtns.{wtns_of}
+use Rattle.cir_determined.specs.Text.{rules_of}
+use Rattle.cir_determined.specs.declared.rule.Rule.{Rule}
 use Rattle.circom_words.specs.declared.answer.Refusal.{Refusal}
 use Rattle.circom_words.specs.declared.answer.Refusal.TheVariants.{NoSuchFile}
 use Rattle.circom_words.specs.declared.answer.Verdict.{Verdict}
 use Rattle.circom_files.specs.Check.{check_of, verdict}
-use Rattle.circom_files.specs.Files.{accepted, bytes_in, r1cs_in, wtns_in}
+use Rattle.circom_files.specs.Determining.{claim_of}
+use Rattle.circom_files.specs.Files.{accepted, accepted_rules, bytes_in, r1cs_in, rules_in}
+use Rattle.circom_files.specs.Files.{wtns_in}
 use Rattle.circom_files.specs.Proving.{public_of, published_values, witness_of}
 use Rattle.circom_files.specs.Steps.{Gets, Steps, StepsFrom, WasRead, WereRead}
 use Rattle.circom_files.specs.declared.inputs.Read.{Read}
+use Rattle.circom_files.specs.declared.outcome.Claim.{Claim}
 use Rattle.circom_files.specs.declared.outcome.Published.{Published}
 use Rattle.circom_files.specs.declared.outcome.Witness.{Witness}
 use Rattle.circom_files.specs.declared.stop.Stop.{Stop}
@@ -145,110 +150,169 @@ ok_now view contents now Before meaning x same step =
     subst (λ (o : Option Contents).
     Told o Before → Told o (λ files. Before files × (meaning files ≡ Ok (view x)))) same step
 
--- the witness, from the files' steps
+-- ---- one file of constraints
+
+file_is : (files : Contents) (r1cs : List ℕ)
+    → r1cs_in files r1cs ≡ (bytes_in files r1cs >>= λ bytes. accepted r1cs (r1cs_of bytes))
+unfolding r1cs_in
+file_is files r1cs = refl
+
+module _ (contents : Option Contents) (r1cs : List ℕ) (failed : Type 0) where
+  pub file_unread : (e : Stop) → Steps (λ (v : Vec ℕ Global). v.items) contents
+      (λ files. bytes_in files r1cs) failed (Err e)
+      → Steps (λ (f : File). f) contents (λ files. r1cs_in files r1cs) failed (Err e)
+  file_unread (Refused r) step =
+      told_on contents (λ files. bytes_in files r1cs ≡ Err r)
+      (λ files. r1cs_in files r1cs ≡ Err r)
+      (λ files is. file_is files r1cs ∙ ap (λ (a : Result (List ℕ) Refusal).
+      a >>= λ bytes. accepted r1cs (r1cs_of bytes)) is) step
+  file_unread StoreFailed step = step
+  file_unread OutOfMemory step = tt
+
+  module _ (bytes : List ℕ) (there : Told contents (λ files. bytes_in files r1cs ≡ Ok bytes))
+      (slice : List ℕ) (same : slice ≡ bytes) where
+    decoded : (f : Result File Refusal) → accepted r1cs (r1cs_of slice) ≡ f
+        → Told contents (λ files. r1cs_in files r1cs ≡ f)
+    decoded f gets =
+        told_on contents (λ files. bytes_in files r1cs ≡ Ok bytes)
+        (λ files. r1cs_in files r1cs ≡ f)
+        (λ files is. file_is files r1cs
+        ∙ ap (λ (a : Result (List ℕ) Refusal). a >>= λ bytes. accepted r1cs (r1cs_of bytes)) is
+        ∙ ap (λ (b : List ℕ). accepted r1cs (r1cs_of b)) (sym same) ∙ gets) there
+
+    pub file_decoded : (result : Result File Stop)
+        → Gets (λ (f : File). f) (accepted r1cs (r1cs_of slice)) result
+        → Steps (λ (f : File). f) contents (λ files. r1cs_in files r1cs) failed result
+    file_decoded (Ok f) gets = decoded (Ok f) gets
+    file_decoded (Err (Refused r)) gets = decoded (Err r) gets
+    file_decoded (Err StoreFailed) gets = absurd gets
+    file_decoded (Err OutOfMemory) gets = tt
+
+-- what is made of a file of constraints and of another file that is read behind it
+module _ {B C : Type 0} (accept : List ℕ → Result B Refusal) (make : List ℕ → File → B → C) where
+  abbrev with_second : List ℕ → File → Result (List ℕ) Refusal → Result C Refusal
+  with_second bytes file text = (text >>= accept) >>= λ b. Ok (make bytes file b)
+
+  abbrev with_first : List ℕ → Result File Refusal → Result (List ℕ) Refusal → Result C Refusal
+  with_first bytes file text = file >>= λ f. with_second bytes f text
+
+  abbrev two_by : (r1cs : List ℕ) → Result (List ℕ) Refusal → Result (List ℕ) Refusal
+      → Result C Refusal
+  two_by r1cs a b = a >>= λ bytes. with_first bytes (accepted r1cs (r1cs_of bytes)) b
+
+  module _ (meaning : Contents → Result C Refusal) (contents : Option Contents)
+      (r1cs second : List ℕ)
+      (meaning_is : (files : Contents) → meaning files
+      ≡ two_by r1cs (bytes_in files r1cs) (bytes_in files second))
+      (failed : Type 0) where
+    -- the first file isn't there
+    pub unread_first : (e : Stop) → Steps (λ (v : Vec ℕ Global). v.items) contents
+        (λ files. bytes_in files r1cs) failed (Err e)
+        → Steps (λ (c : C). c) contents meaning failed (Err e)
+    unread_first (Refused r) step =
+        told_on contents (λ files. bytes_in files r1cs ≡ Err r) (λ files. meaning files ≡ Err r)
+        (λ files is. meaning_is files
+        ∙ ap (λ (a : Result (List ℕ) Refusal). two_by r1cs a (bytes_in files second)) is) step
+    unread_first StoreFailed step = step
+    unread_first OutOfMemory step = tt
+
+    module _ (bytes : List ℕ) (there : Told contents (λ files. bytes_in files r1cs ≡ Ok bytes))
+        (slice : List ℕ) (same : slice ≡ bytes) where
+      -- it is refused
+      pub bad_first : (e : Stop) → Gets (λ (f : File). f) (accepted r1cs (r1cs_of slice)) (Err e)
+          → Steps (λ (c : C). c) contents meaning failed (Err e)
+      bad_first (Refused r) gets =
+          told_on contents (λ files. bytes_in files r1cs ≡ Ok bytes)
+          (λ files. meaning files ≡ Err r)
+          (λ files is. meaning_is files
+          ∙ ap (λ (a : Result (List ℕ) Refusal). two_by r1cs a (bytes_in files second)) is
+          ∙ ap (λ (f : Result File Refusal). with_first bytes f (bytes_in files second))
+          (ap (λ (b : List ℕ). accepted r1cs (r1cs_of b)) (sym same) ∙ gets)) there
+      bad_first StoreFailed gets = absurd gets
+      bad_first OutOfMemory gets = tt
+
+      module _ (file : File) (read : accepted r1cs (r1cs_of slice) ≡ Ok file) (first : Read)
+          (name : first.name.now ≡ r1cs) (all : first.bytes.now ≡ bytes) where
+        were_read : Told contents (WereRead first None)
+        were_read =
+            told_on contents (λ files. bytes_in files r1cs ≡ Ok bytes) (WereRead first None)
+            (λ files is. (ap (bytes_in files) name ∙ is ∙ ap Ok (sym all), tt)) there
+
+        both : (text : Result (List ℕ) Refusal) (found : Result C Refusal)
+            → with_second bytes file text ≡ found
+            → Told contents (λ files. WereRead first None files × (bytes_in files second ≡ text))
+            → Told contents (λ files. meaning files ≡ found)
+        both text found end were =
+            told_on contents
+            (λ files. WereRead first None files × (bytes_in files second ≡ text))
+            (λ files. meaning files ≡ found)
+            (λ files known. meaning_is files
+            ∙ ap (λ (a : Result (List ℕ) Refusal). two_by r1cs a (bytes_in files second))
+            (ap (bytes_in files) (sym name) ∙ known.0.0 ∙ ap Ok all)
+            ∙ ap (λ (f : Result File Refusal). with_first bytes f (bytes_in files second))
+            (ap (λ (b : List ℕ). accepted r1cs (r1cs_of b)) (sym same) ∙ read)
+            ∙ ap (λ (b : Result (List ℕ) Refusal). with_second bytes file b) known.1
+            ∙ end) were
+
+        -- the second file isn't there
+        pub unread_second : (e : Stop) → StepsFrom (λ (v : Vec ℕ Global). v.items) contents
+            (WereRead first None) (λ files. bytes_in files second) failed (Err e)
+            → Steps (λ (c : C). c) contents meaning failed (Err e)
+        unread_second (Refused r) step = both (Err r) (Err r) refl (step were_read)
+        unread_second StoreFailed step = step
+        unread_second OutOfMemory step = tt
+
+        module _ (text : Vec ℕ Global) (part : List ℕ)
+            (step : StepsFrom (λ (v : Vec ℕ Global). v.items) contents (WereRead first None)
+            (λ files. bytes_in files second) failed (Ok text)) (is : part ≡ text.items) where
+          -- it is refused
+          pub bad_second : {V : Type 0} (view : V → B) (e : Stop) → Gets view (accept part) (Err e)
+              → Steps (λ (c : C). c) contents meaning failed (Err e)
+          bad_second view (Refused r) gets =
+              both (Ok text.items) (Err r)
+              (ap (λ (b : Result B Refusal). b >>= λ x. Ok (make bytes file x))
+              (ap accept (sym is) ∙ gets)) (step were_read)
+          bad_second view StoreFailed gets = absurd gets
+          bad_second view OutOfMemory gets = tt
+
+          -- both are read
+          pub both_read : (b : B) (c : C) → accept part ≡ Ok b → c ≡ make bytes file b
+              → Told contents (λ files. meaning files ≡ Ok c)
+          both_read b c gets made =
+              both (Ok text.items) (Ok c)
+              (ap (λ (b : Result B Refusal). b >>= λ x. Ok (make bytes file x))
+              (ap accept (sym is) ∙ gets) ∙ ap Ok (sym made)) (step were_read)
+
+-- ---- the witness
+
 abbrev with_values : List ℕ → File → Result (List ℕ) Refusal → Result Witness Refusal
 with_values bytes file values =
     values >>= λ v. Ok (record { bytes = bytes; file = file; values = v })
 
-abbrev read_values : List ℕ → Result (List ℕ) Refusal → Result (List ℕ) Refusal
-read_values wtns text = text >>= λ t. accepted wtns (wtns_of t)
+abbrev pub values_in : (wtns : List ℕ) → List ℕ → Result (List ℕ) Refusal
+values_in wtns t = accepted wtns (wtns_of t)
 
-abbrev with_file : List ℕ → List ℕ → Result File Refusal → Result (List ℕ) Refusal
-    → Result Witness Refusal
-with_file wtns bytes file text = file >>= λ f. with_values bytes f (read_values wtns text)
+abbrev pub witness_with : List ℕ → File → List ℕ → Witness
+witness_with bytes file v = record { bytes = bytes; file = file; values = v }
 
-abbrev witness_by : (r1cs wtns : List ℕ) → Result (List ℕ) Refusal → Result (List ℕ) Refusal
-    → Result Witness Refusal
-witness_by r1cs wtns a b = a >>= λ bytes. with_file wtns bytes (accepted r1cs (r1cs_of bytes)) b
-
-witness_is : (files : Contents) (r1cs wtns : List ℕ) → witness_of files r1cs wtns
-    ≡ witness_by r1cs wtns (bytes_in files r1cs) (bytes_in files wtns)
+pub witness_is : (r1cs wtns : List ℕ) (files : Contents) → witness_of files r1cs wtns
+    ≡ two_by (values_in wtns) witness_with r1cs (bytes_in files r1cs) (bytes_in files wtns)
 unfolding witness_of wtns_in
-witness_is files r1cs wtns = refl
+witness_is r1cs wtns files = refl
 
-module _ (contents : Option Contents) (r1cs wtns : List ℕ) (failed : Type 0) where
-  -- the first file isn't there
-  pub unread_r1cs : (e : Stop) → Steps (λ (v : Vec ℕ Global). v.items) contents
-      (λ files. bytes_in files r1cs) failed (Err e)
-      → Steps (λ (w : Witness). w) contents (λ files. witness_of files r1cs wtns) failed (Err e)
-  unread_r1cs (Refused r) step =
-      told_on contents (λ files. bytes_in files r1cs ≡ Err r)
-      (λ files. witness_of files r1cs wtns ≡ Err r)
-      (λ files is. witness_is files r1cs wtns
-      ∙ ap (λ (a : Result (List ℕ) Refusal). witness_by r1cs wtns a (bytes_in files wtns)) is) step
-  unread_r1cs StoreFailed step = step
-  unread_r1cs OutOfMemory step = tt
+-- ---- the claim of a certificate
 
-  module _ (bytes : List ℕ) (there : Told contents (λ files. bytes_in files r1cs ≡ Ok bytes))
-      (slice : List ℕ) (same : slice ≡ bytes) where
-    -- it is refused
-    pub bad_r1cs : (e : Stop) → Gets (λ (f : File). f) (accepted r1cs (r1cs_of slice)) (Err e)
-        → Steps (λ (w : Witness). w) contents (λ files. witness_of files r1cs wtns) failed (Err e)
-    bad_r1cs (Refused r) gets =
-        told_on contents (λ files. bytes_in files r1cs ≡ Ok bytes)
-        (λ files. witness_of files r1cs wtns ≡ Err r)
-        (λ files is. witness_is files r1cs wtns
-        ∙ ap (λ (a : Result (List ℕ) Refusal). witness_by r1cs wtns a (bytes_in files wtns)) is
-        ∙ ap (λ (f : Result File Refusal). with_file wtns bytes f (bytes_in files wtns))
-        (ap (λ (b : List ℕ). accepted r1cs (r1cs_of b)) (sym same) ∙ gets)) there
-    bad_r1cs StoreFailed gets = absurd gets
-    bad_r1cs OutOfMemory gets = tt
+abbrev pub rules_at : (certificate : List ℕ) → List ℕ → Result (List Rule) Refusal
+rules_at certificate t = accepted_rules certificate (rules_of t)
 
-    module _ (file : File) (read : accepted r1cs (r1cs_of slice) ≡ Ok file) (first : Read)
-        (name : first.name.now ≡ r1cs) (all : first.bytes.now ≡ bytes) where
-      pub were_read : Told contents (WereRead first None)
-      were_read =
-          told_on contents (λ files. bytes_in files r1cs ≡ Ok bytes) (WereRead first None)
-          (λ files is. (ap (bytes_in files) name ∙ is ∙ ap Ok (sym all), tt)) there
+abbrev pub claim_with : List ℕ → File → List Rule → Claim
+claim_with bytes file rules = record { file = file; rules = rules }
 
-      both : (text : Result (List ℕ) Refusal) (found : Result Witness Refusal)
-          → with_values bytes file (read_values wtns text) ≡ found
-          → Told contents (λ files. WereRead first None files × (bytes_in files wtns ≡ text))
-          → Told contents (λ files. witness_of files r1cs wtns ≡ found)
-      both text found end were =
-          told_on contents (λ files. WereRead first None files × (bytes_in files wtns ≡ text))
-          (λ files. witness_of files r1cs wtns ≡ found)
-          (λ files known. witness_is files r1cs wtns
-          ∙ ap (λ (a : Result (List ℕ) Refusal). witness_by r1cs wtns a (bytes_in files wtns))
-          (ap (bytes_in files) (sym name) ∙ known.0.0 ∙ ap Ok all)
-          ∙ ap (λ (f : Result File Refusal). with_file wtns bytes f (bytes_in files wtns))
-          (ap (λ (b : List ℕ). accepted r1cs (r1cs_of b)) (sym same) ∙ read)
-          ∙ ap (λ (b : Result (List ℕ) Refusal). with_values bytes file (read_values wtns b))
-          known.1
-          ∙ end) were
-
-      -- the second file isn't there
-      pub unread_wtns : (e : Stop) → StepsFrom (λ (v : Vec ℕ Global). v.items) contents
-          (WereRead first None) (λ files. bytes_in files wtns) failed (Err e)
-          → Steps (λ (w : Witness). w) contents (λ files. witness_of files r1cs wtns) failed (Err e)
-      unread_wtns (Refused r) step = both (Err r) (Err r) refl (step were_read)
-      unread_wtns StoreFailed step = step
-      unread_wtns OutOfMemory step = tt
-
-      -- it is refused
-      pub bad_wtns : (text : Vec ℕ Global) (part : List ℕ) (e : Stop)
-          → StepsFrom (λ (v : Vec ℕ Global). v.items) contents (WereRead first None)
-          (λ files. bytes_in files wtns) failed (Ok text) → part ≡ text.items
-          → Gets (λ (v : Vec ℕ Global). v.items) (accepted wtns (wtns_of part)) (Err e)
-          → Steps (λ (w : Witness). w) contents (λ files. witness_of files r1cs wtns) failed (Err e)
-      bad_wtns text part (Refused r) step is gets =
-          both (Ok text.items) (Err r)
-          (ap (λ (b : List ℕ). with_values bytes file (accepted wtns (wtns_of b))) (sym is)
-          ∙ ap (with_values bytes file) gets) (step were_read)
-      bad_wtns text part StoreFailed step is gets = absurd gets
-      bad_wtns text part OutOfMemory step is gets = tt
-
-      -- both are read
-      pub witness_read : (text : Vec ℕ Global) (part values : List ℕ) (w : Witness)
-          → StepsFrom (λ (v : Vec ℕ Global). v.items) contents (WereRead first None)
-          (λ files. bytes_in files wtns) failed (Ok text) → part ≡ text.items
-          → accepted wtns (wtns_of part) ≡ Ok values
-          → w ≡ record { bytes = bytes; file = file; values = values }
-          → Told contents (λ files. witness_of files r1cs wtns ≡ Ok w)
-      witness_read text part values w step is gets made =
-          both (Ok text.items) (Ok w)
-          (ap (λ (b : List ℕ). with_values bytes file (accepted wtns (wtns_of b))) (sym is)
-          ∙ ap (with_values bytes file) gets ∙ ap Ok (sym made)) (step were_read)
+pub claim_is : (r1cs certificate : List ℕ) (files : Contents) → claim_of files r1cs certificate
+    ≡ two_by (rules_at certificate) claim_with r1cs (bytes_in files r1cs)
+    (bytes_in files certificate)
+unfolding claim_of rules_in
+claim_is r1cs certificate files = refl
 
 -- what a command finds in a witness
 found_in : {X : Type 0} (g : File → List ℕ → X) (a : Result (List ℕ) Refusal)

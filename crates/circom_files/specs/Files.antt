@@ -6,8 +6,12 @@ use Rattle.iden_files.specs.File.{File}
 use Rattle.iden_files.specs.ReadR1cs.{r1cs_of}
 use Rattle.iden_files.specs.ReadWtns.{wtns_of}
 use Rattle.iden_files.specs.Refusal.{Refusal as Fault}
+use Rattle.text_lines.specs.Reading.{LineRefusal, bad, over}
+use Rattle.cir_determined.specs.Text.{rules_of}
+use Rattle.cir_determined.specs.declared.rule.Rule.{Rule}
 use Rattle.circom_words.specs.declared.answer.Refusal.{Refusal}
-use Rattle.circom_words.specs.declared.answer.Refusal.TheVariants.{NoSuchFile, BadFile}
+use Rattle.circom_words.specs.declared.answer.Refusal.TheVariants.{NoSuchFile, BadFile, BadRules}
+use Rattle.circom_words.specs.declared.answer.RuleCause.TheVariants.{BadLine, Limit}
 use Rattle.circom_words.specs.declared.answer.Refusal.TheVariants.{BadInput as BadInputs}
 use Rattle.circom_words.specs.declared.answer.BadInput.{BadInput}
 use Rattle.circom_words.specs.declared.answer.BadInput.TheVariants.{NotJson}
@@ -55,3 +59,15 @@ unfoldable pub publics_in : Contents → List ℕ → Result (List ℕ) Refusal
 publics_in files name = do
   bytes ← bytes_in files name
   accepted_publics (publics_of bytes)
+
+-- what a text of rules says, or what is wrong with it
+abbrev pub accepted_rules : List ℕ → Result (List Rule) LineRefusal → Result (List Rule) Refusal
+accepted_rules name (Ok rules) = Ok rules
+accepted_rules name (Err (bad line)) = Err (BadRules name BadLine line)
+accepted_rules name (Err (over line)) = Err (BadRules name Limit line)
+
+-- the rules under the name
+unfoldable pub rules_in : Contents → List ℕ → Result (List Rule) Refusal
+rules_in files name = do
+  bytes ← bytes_in files name
+  accepted_rules name (rules_of bytes)

@@ -1,5 +1,6 @@
 pub mod Accepted
 pub mod Check
+pub mod Determining
 pub mod Files
 pub mod Given
 pub mod Proving

@@ -2,8 +2,14 @@
 use Rattle.std.specs.Prelude.{◌≡◌, ℕ, List, length, Option, Some, None, Result, Ok, Err}
 use Rattle.out_io.specs.Calls.{Told}
 use Rattle.out_io.specs.Contents.{Contents}
+use Rattle.cir_determined.specs.Text.{rules_text}
+use Rattle.cir_determined.specs.declared.rule.Answer.{Answer}
+use Rattle.cir_determined.specs.declared.rule.Answer.TheVariants.{Shown, NotShown}
+use Rattle.cir_determined.specs.declared.rule.Confirm.{Confirm}
 use Rattle.lig_proof.specs.declared.verdict.Verdict.{Verdict as Audited}
 use Rattle.wit_input.specs.Publics.{publics_text}
+use Rattle.circom_words.specs.Determining.{confirmed_line, confirmed_status, determined_line}
+use Rattle.circom_words.specs.Determining.{undetermined_line}
 use Rattle.circom_words.specs.Lines.{usage_line, fault_line, refusal_line, verdict_status}
 use Rattle.circom_words.specs.Lines.{verdict_line}
 use Rattle.circom_words.specs.Proving.{proved_line, public_line, audit_status, audit_line}
@@ -65,6 +71,22 @@ abbrev pub audited : Audited → Reply
 audited verdict = record {
   status = audit_status verdict;
   text = audit_line verdict;
+  file = None;
+}
+
+-- the rules are written under the name
+abbrev pub determined : List ℕ → Answer → Reply
+determined out (Shown rules) = written determined_line out (rules_text rules.items)
+determined out (NotShown wire) = record {
+  status = 2;
+  text = undetermined_line wire;
+  file = None;
+}
+
+abbrev pub confirmed : Confirm → Reply
+confirmed found = record {
+  status = confirmed_status found;
+  text = confirmed_line found;
   file = None;
 }
 

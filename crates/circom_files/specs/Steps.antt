@@ -4,8 +4,11 @@ use Rattle.out_io.specs.Calls.{Told}
 use Rattle.out_io.specs.Contents.{Contents}
 use Rattle.iden_files.specs.declared.fault.FileFault.{FileFault}
 use Rattle.iden_files.specs.declared.fault.FileFault.TheVariants as file
+use Rattle.text_lines.specs.declared.reading.LineFault.{LineFault}
+use Rattle.text_lines.specs.declared.reading.LineFault.TheVariants as lines
 use Rattle.circom_words.specs.declared.answer.Refusal.{Refusal}
-use Rattle.circom_words.specs.declared.answer.Refusal.TheVariants.{BadFile, BadInput}
+use Rattle.circom_words.specs.declared.answer.Refusal.TheVariants.{BadFile, BadInput, BadRules}
+use Rattle.circom_words.specs.declared.answer.RuleCause.TheVariants.{BadLine, Limit}
 use Rattle.wit_input.specs.declared.fault.InputFault.{InputFault}
 use Rattle.wit_input.specs.declared.fault.InputFault.TheVariants as input
 use Rattle.circom_files.specs.Files.{bad_publics, bytes_in}
@@ -62,6 +65,13 @@ Gets view meaning (Ok x) = meaning ≡ Ok (view x)
 Gets view meaning (Err (Refused refusal)) = meaning ≡ Err refusal
 Gets view meaning (Err StoreFailed) = ⊥
 Gets view meaning (Err OutOfMemory) = Unit {0}
+
+-- and for this fault of a text of rules under the name
+abbrev pub RefusesRules : List ℕ → LineFault → Stop → Type 0
+RefusesRules name (lines.BadLine line) (Refused refusal) = refusal ≡ BadRules name BadLine line
+RefusesRules name (lines.Limit line) (Refused refusal) = refusal ≡ BadRules name Limit line
+RefusesRules name fault OutOfMemory = Unit {0}
+RefusesRules name fault stop = ⊥
 
 -- and for this fault of a public file
 abbrev pub RefusesPublics : InputFault → Stop → Type 0

@@ -1,20 +1,22 @@
 ghost use Rattle.out_io.specs.Calls.{OnlyReads};
 ghost use Rattle.out_io.specs.Faults.{Rose};
 ghost use Rattle.iden_files.specs.File.{InLimits};
-ghost use Rattle.std.specs.Prelude.{◌<◌, All, IfOk};
+ghost use Rattle.std.specs.Prelude.{◌<◌, ◌^◌, All, IfOk, length};
 ghost use Rattle.gold_field.specs.declared.gold.TheConstants.{P};
 ghost use Rattle.iden_files.specs.ReadR1cs.{r1cs_of};
 ghost use Rattle.iden_files.specs.ReadWtns.{wtns_of};
 ghost use Rattle.wit_input.specs.Publics.{publics_of};
-ghost use Rattle.circom_files.specs.Files.{accepted, accepted_publics, bytes_in};
+ghost use Rattle.cir_determined.specs.Text.{rules_of};
+ghost use Rattle.circom_files.specs.Files.{accepted, accepted_publics, accepted_rules, bytes_in};
 ghost use Rattle.circom_files.specs.Proving.{witness_of};
-ghost use Rattle.circom_files.specs.Steps.{Gets, Refuses, RefusesPublics, Steps, StepsFrom};
-ghost use Rattle.circom_files.specs.Steps.{WereRead};
+ghost use Rattle.circom_files.specs.Steps.{Gets, Refuses, RefusesPublics, RefusesRules, Steps};
+ghost use Rattle.circom_files.specs.Steps.{StepsFrom, WereRead};
 
 use crate::outcome::Witness;
 use crate::stop::Stop;
 use cir_ast::Text;
-use circom_words::{BadInput, Refusal};
+use cir_determined::{Rule, RuleFault, read_rules};
+use circom_words::{BadInput, Refusal, RuleCause};
 use gold_field::Gold;
 use iden_files::{FileFault, R1cs, read_r1cs, read_wtns};
 use items::Items;
@@ -117,6 +119,32 @@ pub fn publics_from(alloc: Global, bytes: &[u8]) -> Result<Vec<Gold>, Stop>
     match read_publics(alloc, bytes) {
         Ok(values) => Ok(values),
         Err(fault) => Err(refused_publics(alloc, fault)),
+    }
+}
+
+/// The rules in the bytes that were read under the name.
+pub fn rules_from(alloc: Global, name: &str, bytes: &[u8]) -> Result<Vec<Rule>, Stop>
+    ensures step { Gets (λ v. v.items) (accepted_rules name.now (rules_of bytes.now)) result }
+    ensures few { IfOk result (λ v. length v.items < 2 ^ 32) }
+{
+    match read_rules(alloc, bytes) {
+        Ok(rules) => Ok(rules),
+        Err(fault) => Err(refused_rules(alloc, name, fault)),
+    }
+}
+
+// Why the rules aren't read.
+fn refused_rules(alloc: Global, name: &str, fault: RuleFault) -> Stop
+    ensures { RefusesRules name.now fault result }
+{
+    let (cause, line) = match fault {
+        RuleFault::BadLine { line } => (RuleCause::BadLine, line),
+        RuleFault::Limit { line } => (RuleCause::Limit, line),
+        RuleFault::OutOfMemory => return Stop::OutOfMemory,
+    };
+    match Text::from_slice(alloc, name.as_bytes()) {
+        Ok(name) => Stop::Refused(Refusal::BadRules { name, cause, line }),
+        Err(_) => Stop::OutOfMemory,
     }
 }
 

@@ -4,6 +4,7 @@
 
 mod audit;
 mod check;
+mod determined;
 mod inputs;
 mod laws;
 mod outcome;
@@ -16,6 +17,7 @@ mod writing;
 
 pub use audit::audit_reply;
 pub use check::check_reply;
+pub use determined::{confirm_reply, determine_reply};
 pub use inputs::bytes_in;
 pub use laws::check_laws;
 pub use outcome::{Generated, Halt, Ran};

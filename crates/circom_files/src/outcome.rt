@@ -1,4 +1,5 @@
 use cir_ast::{Place, Text};
+use cir_determined::Rule;
 use circom_words::Verdict;
 use gold_field::Gold;
 use iden_files::R1cs;
@@ -38,6 +39,22 @@ impl Drop for Offer {
             file: _file,
             publics: _publics,
             proof: _proof,
+        } = self;
+    }
+}
+
+/// A file of constraints, and rules that are offered as a certificate that its inputs determine its
+/// outputs.
+pub struct Claim {
+    pub file: R1cs,
+    pub rules: Items<Rule>,
+}
+
+impl Drop for Claim {
+    fn drop(self) {
+        let Claim {
+            file: _file,
+            rules: _rules,
         } = self;
     }
 }

@@ -5,9 +5,11 @@ ghost use Rattle.circom_files.specs.Shown.{shown};
 
 use crate::outcome::{Generated, Halt, Outcome, Published, Ran};
 use cir_ast::Text;
+use cir_determined::{Answer, Confirm, write_rules};
 use circom_words::{
-    Refusal, Verdict, audit_line, audit_status, fault_line, generated_line, log_text, proved_line,
-    public_line, stop_line, usage_line, witness_line,
+    Refusal, Verdict, audit_line, audit_status, confirmed_line, confirmed_status, determined_line,
+    fault_line, generated_line, log_text, proved_line, public_line, stop_line, undetermined_line,
+    usage_line, witness_line,
 };
 use iden_files::write_wtns;
 use items::Items;
@@ -43,7 +45,8 @@ pub struct NewFile<'w> {
 
 impl<'w> Reply<'w> {
     ghost use Rattle.circom_files.specs.Reply.{usage, refused, checked, written, proved, published};
-    ghost use Rattle.circom_files.specs.Reply.{audited, store_failed};
+    ghost use Rattle.circom_files.specs.Reply.{audited, confirmed, determined, store_failed};
+    ghost use Rattle.circom_files.specs.Determining.{IsReadBack};
     ghost use Rattle.circom_files.specs.Running.{witnessed, generated, halted, values_of};
 
     /// A reply that writes no file.
@@ -121,6 +124,28 @@ impl<'w> Reply<'w> {
         ensures { IfOk result (λ r. shown r ≡ audited verdict) }
     {
         Ok(Reply::saying(audit_status(verdict), audit_line(alloc, verdict)?))
+    }
+
+    /// The reply of `determine`.
+    pub fn determined(alloc: Global, out: &'w str, found: Answer) -> Result<Reply<'w>, AllocError>
+        ensures reply { IfOk result (λ r. shown r ≡ determined out.entry.now found) }
+        ensures read_back { IfOk result (λ _. IsReadBack found) }
+    {
+        match found {
+            Answer::Shown(rules) => {
+                let bytes = write_rules(alloc, rules.as_slice())?;
+                let text = determined_line(alloc)?;
+                Ok(Reply::written(text, out, Items::of(bytes)))
+            }
+            Answer::NotShown { wire } => Ok(Reply::saying(2, undetermined_line(alloc, wire)?)),
+        }
+    }
+
+    /// The reply of `confirm`.
+    pub fn confirmed(alloc: Global, found: Confirm) -> Result<Reply<'w>, AllocError>
+        ensures { IfOk result (λ r. shown r ≡ confirmed found) }
+    {
+        Ok(Reply::saying(confirmed_status(found), confirmed_line(alloc, found)?))
     }
 
     /// What is said where the store failed.

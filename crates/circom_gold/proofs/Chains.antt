@@ -17,20 +17,30 @@ use Rattle.lig_layout.specs.System.{public_count}
 use Rattle.lig_proof.specs.declared.verdict.Verdict.TheVariants.{Accepted}
 use Rattle.wit_input.proofs.ReadBack.{publics_again}
 use Rattle.wit_input.specs.Publics.{publics_of as publics_read, publics_text}
+use Rattle.cir_determined.specs.Text.{rules_of}
+use Rattle.cir_determined.specs.declared.rule.Answer.{Answer}
+use Rattle.cir_determined.specs.declared.rule.Answer.TheVariants.{Shown, NotShown}
+use Rattle.cir_determined.specs.declared.rule.Confirm.TheVariants.{Confirmed}
+use Rattle.cir_determined.specs.declared.rule.Rule.{Rule}
+use Rattle.circom_words.specs.Determining.{confirmed_line}
 use Rattle.circom_words.specs.Lines.{verdict_line}
 use Rattle.circom_words.specs.Proving.{audit_line}
 use Rattle.circom_words.specs.Words.{Options, ProveOptions, audit, check, compile, prove, public}
-use Rattle.circom_words.specs.Words.{witness}
+use Rattle.circom_words.specs.Words.{confirm, determine, witness}
 use Rattle.circom_words.specs.declared.answer.Refusal.{Refusal}
 use Rattle.circom_words.specs.declared.answer.Verdict.TheVariants.{Satisfied}
 use Rattle.circom_words.specs.declared.options.RunOptions.{RunOptions}
 use Rattle.circom_files.specs.Accepted.{IsAccepted, IsProofOf}
 use Rattle.circom_files.specs.Check.{check_of}
-use Rattle.circom_files.specs.Files.{accepted, accepted_publics, bytes_in, publics_in, wtns_in}
+use Rattle.circom_files.specs.Determining.{HoldsCertificate, IsCertificateOf, claim_of}
+use Rattle.circom_files.specs.Files.{accepted, accepted_publics, accepted_rules, bytes_in}
+use Rattle.circom_files.specs.Files.{publics_in, r1cs_in, rules_in, wtns_in}
 use Rattle.circom_files.specs.Given.{Leaves}
 use Rattle.circom_files.specs.Proving.{offer_of, witness_of}
-use Rattle.circom_files.specs.Reply.{NewFile, Reply, audited, checked, proved, published, said}
+use Rattle.circom_files.specs.Reply.{NewFile, Reply, audited, checked, confirmed, determined}
+use Rattle.circom_files.specs.Reply.{proved, published, said}
 use Rattle.circom_files.specs.Running.{witnessed}
+use Rattle.circom_files.specs.declared.outcome.Claim.{Claim}
 use Rattle.circom_files.specs.declared.outcome.Offer.{Offer}
 use Rattle.circom_files.specs.declared.outcome.Outcome.{Outcome}
 use Rattle.circom_files.specs.declared.outcome.Outcome.TheVariants.{Made, Unmade}
@@ -39,6 +49,7 @@ use Rattle.circom_files.specs.declared.outcome.Published.TheVariants.{Values, Wr
 use Rattle.circom_files.specs.declared.outcome.Ran.{Ran}
 use Rattle.circom_files.specs.declared.outcome.Ran.TheVariants.{Ended, Halted}
 use Rattle.circom_files.specs.declared.outcome.Witness.{Witness}
+use Rattle.circom_files.proofs.Certified.{confirmed_is, one_confirm}
 use Rattle.circom_files.proofs.Numbers.{values_below}
 use Rattle.circom_files.proofs.Once.{one_audit}
 use Rattle.circom_gold.specs.Compile.{AreConstraintsOf, LoadsAgain}
@@ -280,3 +291,78 @@ module _ (first second third last : Contents) (r1cs wtns publics proof : List �
       (one_audit third r1cs publics proof d.answers.0 (Ok Accepted) d.answers.1
       (accepted_is third r1cs publics proof accepts)) in
       (d.status ∙ ap (λ (r : Reply). r.status) is, d.said ∙ ap (λ (r : Reply). r.text) is)
+
+-- ---- determine, confirm
+
+determined_named : (out : List ℕ) (x : Answer) → IsNamed out (determined out x).file
+determined_named out (Shown rules) = refl
+determined_named out (NotShown wire) = tt
+
+abbrev claimed : File → List Rule → Claim
+claimed f rules = record { file = f; rules = rules }
+
+module _ (files after : Contents) (r1cs certificate bytes : List ℕ) (f : File) (rules : List Rule)
+    (same : after r1cs ≡ files r1cs) (held : after certificate ≡ Some bytes)
+    (text : rules_of bytes ≡ Ok rules) where
+  -- what is read of the file of constraints, and then of the certificate
+  abbrev behind : Result File Refusal → Result Claim Refusal
+  behind file = file >>= λ f. rules_in after certificate >>= λ rs. Ok (claimed f rs)
+
+  read_rules : rules_in after certificate ≡ Ok rules
+  unfolding rules_in
+  read_rules =
+      ap (λ (o : Option (List ℕ)). bytes_in (λ n. o) certificate
+      >>= λ b. accepted_rules certificate (rules_of b)) held
+      ∙ ap (accepted_rules certificate) text
+
+  first_two : claim_of after r1cs certificate ≡ behind (r1cs_in after r1cs)
+  unfolding claim_of r1cs_in
+  first_two = by (bytes_in after r1cs)
+    where
+      by : (read : Result (List ℕ) Refusal)
+          → (read >>= λ b. accepted r1cs (r1cs_of b)
+          >>= λ f. rules_in after certificate >>= λ rs. Ok (claimed f rs))
+          ≡ behind (read >>= λ b. accepted r1cs (r1cs_of b))
+      by (Ok b) = refl
+      by (Err r) = refl
+
+  same_file : r1cs_in after r1cs ≡ r1cs_in files r1cs
+  unfolding r1cs_in
+  same_file =
+      ap (λ (x : Result (List ℕ) Refusal). x >>= λ b. accepted r1cs (r1cs_of b))
+      (same_bytes after files r1cs same)
+
+  claim_read : r1cs_in files r1cs ≡ Ok f → claim_of after r1cs certificate ≡ Ok (claimed f rules)
+  claim_read read =
+      first_two ∙ ap behind (same_file ∙ read)
+      ∙ ap (λ (x : Result (List Rule) Refusal). x >>= λ rs. Ok (claimed f rs)) read_rules
+
+module _ (first second last : Contents) (r1cs certificate : List ℕ) (exit : ℕ)
+    (found text : List ℕ)
+    (a : IsReplied (Some (determine r1cs certificate)) first second 0 found)
+    (b : IsReplied (Some (confirm r1cs certificate)) second last exit text)
+    (differ : certificate ≢ r1cs) where
+  abbrev written_rules : (bytes : List ℕ) × (second certificate ≡ Some bytes)
+      × IsCertificateOf first r1cs bytes
+  written_rules = there (second certificate) (IsCertificateOf first r1cs) (a.means.1 refl)
+
+  holds : HoldsCertificate second r1cs certificate
+  holds =
+      let c = written_rules.2 in
+      record {
+        claim = claimed c.file c.rules;
+        read =
+            claim_read first second r1cs certificate written_rules.0 c.file c.rules
+            (others (determined certificate) certificate a.answers.0 a.reply first second
+            (determined_named certificate) a.answers.2 a.leaves r1cs (λ e. differ (sym e)))
+            written_rules.1 c.text c.read;
+        confirmed = c.certificate;
+      }
+
+  pub confirmed_in_turn : (exit ≡ 0) × (text ≡ confirmed_line Confirmed)
+  confirmed_in_turn =
+      let is : b.reply ≡ confirmed Confirmed =
+      b.answers.2 ∙ ap (said confirmed)
+      (one_confirm second r1cs certificate b.answers.0 (Ok Confirmed) b.answers.1
+      (confirmed_is second r1cs certificate holds)) in
+      (b.status ∙ ap (λ (r : Reply). r.status) is, b.said ∙ ap (λ (r : Reply). r.text) is)

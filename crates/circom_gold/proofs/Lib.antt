@@ -1,3 +1,4 @@
+pub mod Answered
 pub mod CompileLaws
 pub mod InputCounts
 pub mod OneCompiled
@@ -9,7 +10,6 @@ pub mod WitnessLaws
 pub mod NoInput
 pub mod Sourcing
 pub mod Witnessing
-pub mod RunReplies
 pub mod Saying
 pub mod Generating
 pub mod Doing

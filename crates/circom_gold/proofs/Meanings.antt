@@ -1,6 +1,6 @@
 -- What replies mean, command by command.
 use Rattle.std.proofs.Common.{◌≡◌, ◌≢◌, ◌∙◌, ◌↔◌, ℕ, Bool, true, false, List, length, slice_index}
-use Rattle.std.proofs.Common.{◌==◌, Option, Some, None, Result, Ok, Err, IsSomeAnd, refl, ap}
+use Rattle.std.proofs.Common.{◌==◌, Option, Some, None, Result, Ok, Err, IfSome, IsSomeAnd, refl, ap}
 use Rattle.std.proofs.Common.{sym, subst, arith, if◌then◌else◌}
 use Rattle.std.proofs.lemmas.Bool.Decides.{Decides-eqb}
 use Rattle.binary_format.specs.Reading.{◌>>=◌}
@@ -12,22 +12,31 @@ use Rattle.iden_files.specs.ReadR1cs.{r1cs_of}
 use Rattle.lig_layout.specs.Laws.{publics_of}
 use Rattle.lig_proof.specs.declared.verdict.Verdict.TheVariants.{Accepted}
 use Rattle.wit_input.specs.Publics.{publics_text}
+use Rattle.cir_determined.specs.declared.rule.Answer.{Answer}
+use Rattle.cir_determined.specs.declared.rule.Answer.TheVariants.{Shown, NotShown}
+use Rattle.cir_determined.specs.declared.rule.Confirm.{Confirm}
+use Rattle.cir_determined.specs.declared.rule.Confirm.TheVariants.{Confirmed, BadRule, Short}
+use Rattle.cir_determined.specs.declared.rule.Rule.{Rule}
 use Rattle.circom_words.specs.Lines.{verdict_status}
-use Rattle.circom_words.specs.Words.{Command, Options, ProveOptions, check, compile, witness, prove}
-use Rattle.circom_words.specs.Words.{public, audit, generate}
+use Rattle.circom_words.specs.Words.{Command, ProveOptions, check, compile, witness, prove}
+use Rattle.circom_words.specs.Words.{public, audit, confirm, determine, generate}
 use Rattle.circom_words.specs.declared.answer.Refusal.{Refusal}
 use Rattle.circom_words.specs.declared.answer.Verdict.{Verdict}
 use Rattle.circom_words.specs.declared.answer.Verdict.TheVariants.{CountsDiffer, WireZero}
 use Rattle.circom_words.specs.declared.answer.Verdict.TheVariants.{ConstraintFails, Satisfied}
-use Rattle.circom_files.specs.Accepted.{IsAccepted, WritesProof}
+use Rattle.circom_files.specs.Accepted.{IsAccepted}
 use Rattle.circom_files.specs.Check.{check_of, verdict}
+use Rattle.circom_files.specs.Determining.{AreCertificate, HasCertificate}
+use Rattle.circom_files.specs.Determining.{HoldsCertificate, IsConfirmed, IsSearched, claim_of}
 use Rattle.circom_files.specs.Files.{accepted, bytes_in, r1cs_in, wtns_in}
 use Rattle.circom_files.specs.Given.{Leaves}
 use Rattle.circom_files.specs.Proving.{Audits, FoundIn, IsAudited, IsProved, public_of}
 use Rattle.circom_files.specs.Proving.{published_values, witness_of}
-use Rattle.circom_files.specs.Reply.{NewFile, Reply, checked, proved, published, said}
+use Rattle.circom_files.specs.Reply.{NewFile, Reply, checked, confirmed, determined, proved}
+use Rattle.circom_files.specs.Reply.{published, said}
 use Rattle.circom_files.specs.Running.{generated, halted}
 use Rattle.circom_files.specs.Satisfaction.{IsAssignment, Satisfies}
+use Rattle.circom_files.specs.declared.outcome.Claim.{Claim}
 use Rattle.circom_files.specs.declared.outcome.Generated.{Generated}
 use Rattle.circom_files.specs.declared.outcome.Generated.TheVariants as made
 use Rattle.circom_files.specs.declared.outcome.Outcome.{Outcome}
@@ -38,8 +47,9 @@ use Rattle.circom_files.specs.declared.outcome.Ran.TheVariants.{Halted}
 use Rattle.circom_files.specs.declared.outcome.Witness.{Witness}
 use Rattle.circom_files.proofs.Accepts.{says_accepted}
 use Rattle.circom_files.proofs.CheckLaws.{satisfied}
+use Rattle.circom_files.proofs.Certified.{confirmed_is, one_confirm}
 use Rattle.circom_files.proofs.Once.{one_audit}
-use Rattle.circom_gold.specs.Answering.{HasMeaning, WritesConstraintsOf}
+use Rattle.circom_gold.specs.Answering.{Assures, HasMeaning}
 use Rattle.circom_gold.specs.Means.{ArePublicsOf, AreRead, Means}
 use Rattle.circom_gold.specs.Reply.{Answers}
 use Rattle.circom_gold.specs.Witness.{Generates, HasGenerated}
@@ -308,26 +318,82 @@ module _ (seed size fuel : ℕ) where
         (Ok (made.Ended has.wires has.constraints has.out has.log)) is has.found)),
   )
 
+-- ---- determine and confirm
+
+module _ (files : Contents) (r1cs : List ℕ) where
+  module _ (out : List ℕ) where
+    answer_shown : (read : Result File Refusal) (found : Result Answer Refusal)
+        → FoundIn IsSearched read found → (said (determined out) found).status ≡ 0
+        → (f : File) × (rules : List Rule) × (read ≡ Ok f) × AreCertificate f rules
+    answer_shown (Ok f) (Ok (Shown rules)) is zero = (f, rules.items, refl, is.0)
+    answer_shown (Ok f) (Ok (NotShown wire)) is zero = absurd (omega (arith, zero))
+    answer_shown (Ok f) (Err r) is zero = absurd is
+    answer_shown (Err r) (Ok a) is zero = absurd is
+    answer_shown (Err r) (Err s) is zero = absurd (omega (arith, zero))
+
+    shown_answer : (read : Result File Refusal) (found : Result Answer Refusal) (f : File)
+        (rules : List Rule) → FoundIn IsSearched read found → read ≡ Ok f → AreCertificate f rules
+        → (said (determined out) found).status ≡ 0
+    shown_answer (Ok g) (Ok (Shown rs)) f rules is e c = refl
+    shown_answer (Ok g) (Ok (NotShown wire)) f rules is e c =
+        let same : f ≡ g = cc in
+        let certificate = subst (λ (x : File). AreCertificate x rules) same c in
+        absurd (is.never (record {
+          rules = rules;
+          apply = certificate.apply;
+          known = certificate.outputs wire is.output;
+        }))
+    shown_answer (Ok g) (Err r) f rules is e c = absurd is
+    shown_answer (Err r) found f rules is e c = let bad : ⊥ = cc in absurd bad
+
+    determine_means : (r : Reply) → Answers (Some files) (Some (determine r1cs out)) r
+        → (r.status ≡ 0) ↔ HasCertificate files r1cs
+    determine_means r (found, is, e) = (
+      λ zero.
+          let a = answer_shown (r1cs_in files r1cs) found is
+          (sym (ap (λ (x : Reply). x.status) e) ∙ zero) in
+          record { file = a.0; read = a.2; rules = a.1; certificate = a.3 },
+      λ has. ap (λ (x : Reply). x.status) e
+          ∙ shown_answer (r1cs_in files r1cs) found has.file has.rules is has.read has.certificate,
+    )
+
+  module _ (certificate : List ℕ) where
+    verdict_confirmed : (read : Result Claim Refusal) (found : Result Confirm Refusal)
+        → FoundIn IsConfirmed read found → (said confirmed found).status ≡ 0
+        → (c : Claim) × (read ≡ Ok c) × AreCertificate c.file c.rules
+    verdict_confirmed (Ok c) (Ok Confirmed) is zero = (c, refl, is)
+    verdict_confirmed (Ok c) (Ok (BadRule index)) is zero = absurd (omega (arith, zero))
+    verdict_confirmed (Ok c) (Ok (Short wire)) is zero = absurd (omega (arith, zero))
+    verdict_confirmed (Ok c) (Err r) is zero = absurd is
+    verdict_confirmed (Err r) (Ok v) is zero = absurd is
+    verdict_confirmed (Err r) (Err s) is zero = absurd (omega (arith, zero))
+
+    confirm_means : (r : Reply) → Answers (Some files) (Some (confirm r1cs certificate)) r
+        → (r.status ≡ 0) ↔ HoldsCertificate files r1cs certificate
+    confirm_means r (found, is, e) = (
+      λ zero.
+          let a = verdict_confirmed (claim_of files r1cs certificate) found is
+          (sym (ap (λ (x : Reply). x.status) e) ∙ zero) in
+          record { claim = a.0; read = a.1; confirmed = a.2 },
+      λ holds. ap (λ (x : Reply). x.status)
+          (e ∙ ap (said confirmed)
+          (one_confirm files r1cs certificate found (Ok Confirmed) is
+          (confirmed_is files r1cs certificate holds))),
+    )
+
 -- ---- every command
 
--- what is known of the file that a reply writes, beside that it answers
-abbrev pub Wrote : Command → Contents → Reply → Type 0
-Wrote (compile source out options) files r =
-    r.status ≡ 0 → WritesConstraintsOf files source options out r
-Wrote (prove r1cs wtns out options) files r = r.status ≡ 0 → WritesProof files r1cs wtns out r
-Wrote _ files r = Unit {0}
-
 means_of : (c : Command) (files after : Contents) (r : Reply) → Answers (Some files) (Some c) r
-    → Leaves r.file files after → Wrote c files r → Means c files after r.status r.text
-means_of (check r1cs wtns) files after r answers leaves wrote =
+    → Leaves r.file files after → Assures c (Some files) r → Means c files after r.status r.text
+means_of (check r1cs wtns) files after r answers leaves assured =
     check_means files r1cs wtns r answers
-means_of (compile source out options) files after r answers leaves wrote = (
+means_of (compile source out options) files after r answers leaves assured = (
   compiling.status_of files source out options r answers,
   λ zero.
-      let w = wrote zero in
+      let w = assured zero in
       left_under _ out w.bytes r.file files after w.file leaves w.constraints,
 )
-means_of (witness source input out options running) files after r answers leaves wrote = (
+means_of (witness source input out options running) files after r answers leaves assured = (
   witnessing.status_of files source input out options running.fuel r answers,
   λ zero.
       let w = witnessing.written_witness files source input out options running.fuel r answers
@@ -339,49 +405,37 @@ means_of (witness source input out options running) files after r answers leaves
       stops in
       (ap (λ (x : Reply). x.status) same, ap (λ (x : Reply). x.text) same),
 )
-means_of (prove r1cs wtns out options) files after r answers leaves wrote = (
+means_of (prove r1cs wtns out options) files after r answers leaves assured = (
   prove_means out options files r1cs wtns r answers,
   λ zero.
-      let w = wrote zero in
+      let w = assured zero in
       left_under _ out w.bytes r.file files after w.file leaves w.proof,
 )
-means_of (public r1cs wtns out) files after r answers leaves wrote = (
+means_of (public r1cs wtns out) files after r answers leaves assured = (
   public_means files r1cs wtns out r answers,
   λ zero. public_left files r1cs wtns out r answers after leaves zero,
 )
-means_of (audit r1cs publics proof) files after r answers leaves wrote =
+means_of (audit r1cs publics proof) files after r answers leaves assured =
     audit_means (Some files) r1cs publics proof r answers
-means_of (generate seed size running) files after r answers leaves wrote =
+means_of (determine r1cs out) files after r answers leaves assured = (
+  determine_means files r1cs out r answers,
+  λ zero.
+      let w = assured zero in
+      left_under _ out w.bytes r.file files after w.file leaves w.certificate,
+)
+means_of (confirm r1cs certificate) files after r answers leaves assured = (
+  confirm_means files r1cs certificate r answers,
+  assured,
+)
+means_of (generate seed size running) files after r answers leaves assured =
     generate_means seed size running.fuel r answers.0 answers.1 answers.2
-
-module _ (command : Option Command) (files : Contents) (r : Reply)
-    (compiled : (source out : List ℕ) (options : Options)
-    → command ≡ Some (compile source out options) → r.status ≡ 0
-    → WritesConstraintsOf files source options out r)
-    (made : (r1cs wtns out : List ℕ) (options : ProveOptions)
-    → command ≡ Some (prove r1cs wtns out options) → r.status ≡ 0
-    → WritesProof files r1cs wtns out r) where
-  wrote : (c : Command) → command ≡ Some c → Wrote c files r
-  wrote (compile source out options) e = compiled source out options e
-  wrote (prove r1cs wtns out options) e = made r1cs wtns out options e
-  wrote (check r1cs wtns) e = tt
-  wrote (witness source input out options running) e = tt
-  wrote (public r1cs wtns out) e = tt
-  wrote (audit r1cs publics proof) e = tt
-  wrote (generate seed size running) e = tt
 
 -- the reply whose file is written has the meaning of the command
 pub has_meaning : (command : Option Command) (old new : Option Contents) (r : Reply)
     → Answers old command r → Changes (Leaves r.file) old new
-    → ((source out : List ℕ) (options : Options)
-    → command ≡ Some (compile source out options) → r.status ≡ 0
-    → Told old (λ files. WritesConstraintsOf files source options out r))
-    → ((r1cs wtns out : List ℕ) (options : ProveOptions)
-    → command ≡ Some (prove r1cs wtns out options) → r.status ≡ 0
-    → Told old (λ files. WritesProof files r1cs wtns out r))
-    → HasMeaning command old new r
-has_meaning None old new r answers leaves compiled made = tt
-has_meaning (Some c) None new r answers leaves compiled made = tt
-has_meaning (Some c) (Some files) None r answers leaves compiled made = absurd leaves
-has_meaning (Some c) (Some files) (Some after) r answers leaves compiled made =
-    means_of c files after r answers leaves (wrote (Some c) files r compiled made c refl)
+    → IfSome command (λ c. Assures c old r) → HasMeaning command old new r
+has_meaning None old new r answers leaves assured = tt
+has_meaning (Some c) None new r answers leaves assured = tt
+has_meaning (Some c) (Some files) None r answers leaves assured = absurd leaves
+has_meaning (Some c) (Some files) (Some after) r answers leaves assured =
+    means_of c files after r answers leaves assured

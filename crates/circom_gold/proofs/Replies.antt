@@ -17,13 +17,18 @@ use Rattle.iden_files.specs.ReadR1cs.{r1cs_of}
 use Rattle.iden_files.specs.Spelling.{r1cs_bytes}
 use Rattle.circom_gold.specs.Answering.{WritesConstraintsOf, Writing}
 use Rattle.circom_gold.specs.Compile.{CompilesTo}
+use Rattle.cir_determined.specs.declared.rule.Answer.{Answer}
+use Rattle.cir_determined.specs.declared.rule.Answer.TheVariants.{Shown, NotShown}
+use Rattle.cir_determined.specs.declared.rule.Confirm.{Confirm}
+use Rattle.cir_determined.specs.declared.rule.Confirm.TheVariants.{Confirmed, BadRule, Short}
+use Rattle.circom_words.specs.Determining.{confirmed_status}
 use Rattle.circom_words.specs.Lines.{verdict_status}
 use Rattle.circom_words.specs.Proving.{audit_status}
 use Rattle.lig_proof.specs.declared.verdict.Verdict.{Verdict as Audited}
 use Rattle.lig_proof.specs.declared.verdict.Verdict.TheVariants as audits
 use Rattle.circom_files.specs.Given.{Leaves, LeavesInPart, Puts}
 use Rattle.circom_files.specs.Reply.{Reply, NewFile, Says, said, checked, proved, published}
-use Rattle.circom_files.specs.Reply.{audited, store_failed}
+use Rattle.circom_files.specs.Reply.{audited, confirmed, determined, store_failed}
 use Rattle.circom_files.specs.declared.outcome.Outcome.{Outcome}
 use Rattle.circom_files.specs.declared.outcome.Outcome.TheVariants.{Made, Unmade}
 use Rattle.circom_files.specs.Running.{witnessed, generated}
@@ -36,7 +41,7 @@ use Rattle.circom_files.specs.declared.outcome.Published.TheVariants.{Values, Wr
 use Rattle.circom_gold.specs.Reply.{Answers, constraints_written}
 use Rattle.circom_gold.specs.Run.{Ends, Gives, Stays}
 use Rattle.circom_words.specs.Words.{Command, Options, check, compile, witness, prove, public}
-use Rattle.circom_words.specs.Words.{audit, generate}
+use Rattle.circom_words.specs.Words.{audit, confirm, determine, generate}
 use Rattle.circom_words.specs.declared.answer.Refusal.{Refusal}
 use Rattle.circom_words.specs.declared.answer.Verdict.{Verdict}
 use Rattle.circom_words.specs.declared.answer.Verdict.TheVariants.{CountsDiffer, WireZero}
@@ -190,6 +195,15 @@ audit_below audits.LinearColumn = omega arith
 audit_below audits.QuadZero = omega arith
 audit_below audits.QuadColumn = omega arith
 
+determined_below : (out : List ℕ) (x : Answer) → (determined out x).status < 3
+determined_below out (Shown rules) = omega arith
+determined_below out (NotShown wire) = omega arith
+
+confirmed_below : (x : Confirm) → confirmed_status x < 3
+confirmed_below Confirmed = omega arith
+confirmed_below (BadRule index) = omega arith
+confirmed_below (Short wire) = omega arith
+
 witnessed_below : (out : List ℕ) (x : Ran) → (witnessed out x).status < 3
 witnessed_below out (Ended values log) = omega arith
 witnessed_below out (Halted h) = omega arith
@@ -225,6 +239,10 @@ status_below contents (public r1cs wtns out) r answers =
     says_below contents (published out) _ r (published_below out) answers
 status_below contents (audit r1cs publics proof) r answers =
     says_below contents audited _ r audit_below answers
+status_below contents (determine r1cs out) r answers =
+    says_below contents (determined out) _ r (determined_below out) answers
+status_below contents (confirm r1cs certificate) r answers =
+    says_below contents confirmed _ r confirmed_below answers
 status_below contents (generate seed size running) r answers =
     says_below contents (generated size) _ r (generated_below size) answers
 

@@ -1,10 +1,13 @@
 -- What is done for a command before its text is put.
 use Rattle.std.specs.Prelude.{◌≡◌, ◌⊎◌, List, ℕ, Option, None, Some, Result, IfOk, IfSome, OnErr, IsErrOf}
-use Rattle.out_io.specs.Calls.{Course, HasFailed}
+use Rattle.std.specs.Prelude.{⊤}
+use Rattle.out_io.specs.Calls.{Course, HasFailed, Told}
 use Rattle.out_io.specs.Contents.{Contents, Changes}
 use Rattle.out_io.specs.declared.fault.IoFault.{IoFault}
 use Rattle.out_io.specs.declared.fault.IoFault.TheVariants.{Failed}
-use Rattle.circom_words.specs.Words.{Command, Options}
+use Rattle.circom_words.specs.Words.{Command, Options, compile, confirm, determine, prove}
+use Rattle.circom_files.specs.Accepted.{WritesProof}
+use Rattle.circom_files.specs.Determining.{HasDetermined, WritesCertificate}
 use Rattle.circom_files.specs.Given.{Leaves, LeavesInPart}
 use Rattle.circom_files.specs.Reply.{Reply}
 use Rattle.circom_files.specs.Shown.{shown}
@@ -20,6 +23,18 @@ pub record WritesConstraintsOf (files : Contents) (source : List ℕ) (options :
   pub bytes : List ℕ
   pub file : r.file ≡ Some (record { name = out; bytes = bytes })
   pub constraints : AreConstraintsOf files source options bytes
+
+-- what else is known of a successful reply to the command
+abbrev pub Assures : Command → Option Contents → Reply → Type 0
+Assures (compile source out options) contents r =
+    r.status ≡ 0 → Told contents (λ files. WritesConstraintsOf files source options out r)
+Assures (prove r1cs wtns out options) contents r =
+    r.status ≡ 0 → Told contents (λ files. WritesProof files r1cs wtns out r)
+Assures (determine r1cs out) contents r =
+    r.status ≡ 0 → Told contents (λ files. WritesCertificate files r1cs out r)
+Assures (confirm r1cs certificate) contents r =
+    r.status ≡ 0 → Told contents (λ files. HasDetermined files r1cs)
+Assures _ contents r = ⊤
 
 -- nothing was written, or a prefix of the file of a reply to the command
 abbrev pub Writing : Option Command → Option Contents → Option Contents → Type 0

@@ -6,8 +6,10 @@ use Rattle.lig_layout.specs.Laws.{publics_of}
 use Rattle.wit_input.specs.Publics.{publics_text}
 use Rattle.cir_compile.specs.Compiled.{IsCompiled}
 use Rattle.circom_words.specs.Words.{Command, check, compile, witness, prove, public, audit}
-use Rattle.circom_words.specs.Words.{generate}
+use Rattle.circom_words.specs.Words.{confirm, determine, generate}
 use Rattle.circom_files.specs.Accepted.{IsAccepted, IsProofOf}
+use Rattle.circom_files.specs.Determining.{HasCertificate, HasDetermined, HoldsCertificate}
+use Rattle.circom_files.specs.Determining.{IsCertificateOf}
 use Rattle.circom_files.specs.Proving.{witness_of}
 use Rattle.circom_files.specs.Running.{halted}
 use Rattle.circom_files.specs.Satisfaction.{IsAssignment, Satisfies}
@@ -59,6 +61,14 @@ Means (public r1cs wtns out) files after exit text =
 -- 0 exactly where the proof is accepted
 Means (audit r1cs publics proof) files after exit text =
     (exit ≡ 0) ↔ IsAccepted files r1cs publics proof
+-- 0 exactly where there are rules that show that the inputs determine the outputs; such rules are
+-- under OUT then
+Means (determine r1cs out) files after exit text =
+    ((exit ≡ 0) ↔ HasCertificate files r1cs)
+    × (exit ≡ 0 → IsSomeAnd (after out) (IsCertificateOf files r1cs))
+-- 0 exactly where these rules show it; the inputs determine the outputs then
+Means (confirm r1cs certificate) files after exit text =
+    ((exit ≡ 0) ↔ HoldsCertificate files r1cs certificate) × (exit ≡ 0 → HasDetermined files r1cs)
 -- 0 exactly where the run of the circuit ends; its values satisfy its constraints then
 Means (generate seed size running) files after exit text =
     (exit ≡ 0) ↔ HasGenerated seed size running.fuel

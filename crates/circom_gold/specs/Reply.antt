@@ -1,15 +1,16 @@
 -- The reply of the program to the words, over the files.
-use Rattle.std.specs.Prelude.{◌≡◌, ℕ, List, length, Option, Some, None}
+use Rattle.std.specs.Prelude.{◌≡◌, ◌⊎◌, ℕ, List, length, Option, Some, None}
 use Rattle.out_io.specs.Contents.{Contents}
 use Rattle.iden_files.specs.File.{File}
 use Rattle.iden_files.specs.Spelling.{r1cs_bytes}
 use Rattle.circom_words.specs.Lines.{compiled_line}
 use Rattle.circom_words.specs.Words.{Command, check, compile, witness, prove, public}
-use Rattle.circom_words.specs.Words.{audit, generate}
+use Rattle.circom_words.specs.Words.{audit, confirm, determine, generate}
 use Rattle.circom_files.specs.Check.{check_of}
+use Rattle.circom_files.specs.Determining.{Confirms, Searches, WritesRules}
 use Rattle.circom_files.specs.Proving.{Audits, Proves, public_of}
-use Rattle.circom_files.specs.Reply.{Reply, Says, audited, checked, proved, published, usage}
-use Rattle.circom_files.specs.Reply.{written}
+use Rattle.circom_files.specs.Reply.{Reply, Says, audited, checked, confirmed, determined, proved}
+use Rattle.circom_files.specs.Reply.{published, usage, written}
 use Rattle.circom_files.specs.Running.{witnessed, generated}
 use Rattle.circom_gold.specs.Compile.{CompilesTo}
 use Rattle.circom_gold.specs.Witness.{Witnesses, Generates}
@@ -34,5 +35,20 @@ Answers contents (Some (public r1cs wtns out)) =
     Says contents (published out) (λ files found. public_of files r1cs wtns ≡ found)
 Answers contents (Some (audit r1cs publics proof)) =
     Says contents audited (λ files found. Audits files r1cs publics proof found)
+Answers contents (Some (determine r1cs out)) =
+    Says contents (determined out) (λ files found. Searches files r1cs found)
+Answers contents (Some (confirm r1cs certificate)) =
+    Says contents confirmed (λ files found. Confirms files r1cs certificate found)
 Answers contents (Some (generate seed size running)) =
     Says contents (generated size) (λ files found. Generates seed size running.fuel found)
+
+-- two replies to `determine` are the same but for which rules they write, if they write some
+pub record AreAlike (files : Contents) (r1cs out : List ℕ) (a b : Reply) : Type 0 where
+  pub status : a.status ≡ b.status
+  pub text : a.text ≡ b.text
+  pub file : (a.file ≡ b.file) ⊎ (WritesRules files r1cs out a × WritesRules files r1cs out b)
+
+-- two replies to a command are one
+abbrev pub AreOne : Option Command → Contents → Reply → Reply → Type 0
+AreOne (Some (determine r1cs out)) files a b = AreAlike files r1cs out a b
+AreOne _ files a b = a ≡ b

@@ -12,21 +12,25 @@ ghost use Rattle.circom_files.specs.Running.{halted};
 ghost use Rattle.circom_files.specs.declared.outcome.Halt.{Halt};
 ghost use Rattle.circom_files.specs.declared.outcome.Ran.TheVariants.{Halted};
 ghost use Rattle.circom_gold.specs.Compile.{AreConstraintsOf, CompilesTo, LoadsAgain, task_of};
-ghost use Rattle.circom_gold.specs.Reply.{Answers, constraints_written};
+ghost use Rattle.circom_gold.specs.Reply.{Answers, AreOne, constraints_written};
 ghost use Rattle.circom_gold.specs.Run.{IsReplied};
 ghost use Rattle.circom_gold.specs.Witness.{HasWitness, IsWitnessOf, IsWitnessed};
+ghost use Rattle.cir_determined.specs.declared.rule.Confirm.TheVariants.{Confirmed};
+ghost use Rattle.circom_words.specs.Determining.{confirmed_line};
 ghost use Rattle.circom_words.specs.Lines.{verdict_line};
 ghost use Rattle.circom_words.specs.Proving.{audit_line};
 ghost use Rattle.circom_words.specs.Words.{Command, Options, ProveOptions, audit, check, compile};
-ghost use Rattle.circom_words.specs.Words.{prove, public, witness};
+ghost use Rattle.circom_words.specs.Words.{confirm, determine, prove, public, witness};
 ghost use Rattle.circom_words.specs.declared.answer.Refusal.{Refusal};
 ghost use Rattle.circom_words.specs.declared.answer.Verdict.TheVariants.{Satisfied};
 ghost use Rattle.circom_words.specs.declared.options.RunOptions.{RunOptions};
 
-/// The reply to a command over given files is one: status, text and file.
+/// The reply to a command over given files is one, status, text and file, but for which of the rules
+/// that show it `determine` writes.
 pub fn one_reply()
     ensures { (files : Contents) (command : Option Command) (a b : Reply)
-        → Answers (Some files) command a → Answers (Some files) command b → a ≡ b }
+        → Answers (Some files) command a → Answers (Some files) command b
+        → AreOne command files a b }
 {}
 
 /// What a reply to `compile` means. It is that of what the source compiles to, its file or its
@@ -104,4 +108,14 @@ pub fn prove_public_audit()
         → IsReplied (Some (audit r1cs publics proof)) third last exit said
         → proof ≢ r1cs → proof ≢ wtns → publics ≢ r1cs → publics ≢ proof
         → (exit ≡ 0) × (said ≡ audit_line Accepted) }
+{}
+
+/// `determine` and `confirm`, one after the other: rules that the first writes, under another name
+/// than that of the constraints, are confirmed.
+pub fn determine_confirm()
+    ensures { (first second last : Contents) (r1cs certificate : List ℕ) (exit : ℕ)
+        (found said : List ℕ)
+        → IsReplied (Some (determine r1cs certificate)) first second 0 found
+        → IsReplied (Some (confirm r1cs certificate)) second last exit said
+        → certificate ≢ r1cs → (exit ≡ 0) × (said ≡ confirmed_line Confirmed) }
 {}

@@ -1,13 +1,13 @@
-ghost use Rattle.std.specs.Prelude.{◌≡◌, ◌≢◌, ◌↔◌, ◌++◌, ℕ, List, [], None, IfOk, is_some, true};
+ghost use Rattle.std.specs.Prelude.{◌≡◌, ◌≢◌, ◌↔◌, ◌++◌, ℕ, List, [], None, IfOk, true};
 ghost use Rattle.std.specs.Result.{result_ok};
 ghost use Rattle.out_io.specs.Calls.{Counting, course};
 ghost use Rattle.out_io.specs.Memory.{files_of};
 ghost use Rattle.circom_gold.specs.Run.{Does, IsReplied, plain_status};
-ghost use Rattle.circom_words.specs.Words.{command_of, first_run_word, texts};
+ghost use Rattle.circom_words.specs.Words.{command_of, first_waits, texts};
 
+use crate::circuit::run_circuit;
 use crate::plain::run_command;
-use crate::waiting::run_circuit;
-use circom_words::RunCommand;
+use circom_words::Command;
 use out_io::{MemSink, MemStore, Sink, Store};
 use std::alloc::{AllocError, AllocGlobal, Global};
 use std::sync::Wait;
@@ -58,7 +58,7 @@ pub fn run_plain<R: Threads + AllocGlobal + Sync, S: Store, K: Sink>(
     out: &mut K,
 ) -> Result<Option<u8>, AllocError>
     ensures waits { IfOk result
-        (λ o. (o ≡ None) ↔ (is_some (first_run_word (texts words.now)) ≡ true)) }
+        (λ o. (o ≡ None) ↔ (first_waits (texts words.now) ≡ true)) }
     ensures untouched { IfOk result (λ o. o ≡ None
         → (S.contents store.new ≡ S.contents store.old) × (S.faults store.new ≡ S.faults store.old)
         × (K.contents out.new ≡ K.contents out.old) × (K.faults out.new ≡ K.faults out.old)) }
@@ -74,7 +74,7 @@ pub fn run_plain<R: Threads + AllocGlobal + Sync, S: Store, K: Sink>(
     ensures sink { Counting (K.faults out.old) (K.faults out.new)
         (K.never_fails out.old) (K.never_fails out.new) }
 {
-    if RunCommand::is_named(words) {
+    if Command::waits(words) {
         return Ok(None);
     }
     match run_command(rt, alloc, words, store, out) {

@@ -3,10 +3,8 @@ use Rattle.std.specs.Prelude.{ℕ, List, Some, true, codes}
 use Rattle.clap.specs.Simple.{App, new_app, new_rule, with_rule}
 use Rattle.clap.specs.Walk.{Rule}
 use Rattle.clap.specs.declared.builder.action.ArgAction.TheVariants.{SetTrue}
-use Rattle.circom_words.specs.declared.names.PlainWord.{PlainWord}
-use Rattle.circom_words.specs.declared.names.PlainWord.TheVariants as plain
-use Rattle.circom_words.specs.declared.names.RunWord.{RunWord}
-use Rattle.circom_words.specs.declared.names.RunWord.TheVariants as running
+use Rattle.circom_words.specs.declared.names.CommandWord.{CommandWord}
+use Rattle.circom_words.specs.declared.names.CommandWord.TheVariants as word
 
 -- a word that must be given
 abbrev pub given : List ℕ → Rule
@@ -72,6 +70,14 @@ public_form = three_form (codes "public") (codes "R1CS") (codes "WTNS") (codes "
 unfoldable pub audit_form : App
 audit_form = three_form (codes "audit") (codes "R1CS") (codes "PUBLIC") (codes "PROOF")
 
+-- `determine R1CS OUT`
+unfoldable pub determine_form : App
+determine_form = two_form (codes "determine") (codes "R1CS") (codes "OUT")
+
+-- `confirm R1CS CERT`
+unfoldable pub confirm_form : App
+confirm_form = two_form (codes "confirm") (codes "R1CS") (codes "CERT")
+
 -- `witness SRC INPUT OUT [--O0, --O1 or --O2] [-l DIR] [--workers N] [--fuel N]`
 unfoldable pub witness_form : App
 witness_form =
@@ -82,13 +88,13 @@ witness_form =
 unfoldable pub generate_form : App
 generate_form = with_running (two_form (codes "generate") (codes "SEED") (codes "SIZE"))
 
-abbrev pub form_of : PlainWord → App
-form_of plain.Check = check_form
-form_of plain.Compile = compile_form
-form_of plain.Prove = prove_form
-form_of plain.Public = public_form
-form_of plain.Audit = audit_form
-
-abbrev pub run_form_of : RunWord → App
-run_form_of running.Witness = witness_form
-run_form_of running.Generate = generate_form
+abbrev pub form_of : CommandWord → App
+form_of word.Check = check_form
+form_of word.Compile = compile_form
+form_of word.Witness = witness_form
+form_of word.Prove = prove_form
+form_of word.Public = public_form
+form_of word.Audit = audit_form
+form_of word.Determine = determine_form
+form_of word.Confirm = confirm_form
+form_of word.Generate = generate_form

@@ -1,3 +1,4 @@
+pub mod Determining
 pub mod Forms
 pub mod Generated
 pub mod Lines

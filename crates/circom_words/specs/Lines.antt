@@ -17,11 +17,14 @@ use Rattle.cir_ast.specs.declared.refusal.Form.TheVariants as form
 use Rattle.cir_ast.specs.declared.refusal.Place.{Place}
 use Rattle.cir_ast.specs.declared.refusal.Refusal.{Refusal as SourceRefusal}
 use Rattle.circom_words.specs.declared.answer.Refusal.{Refusal}
-use Rattle.circom_words.specs.declared.answer.Refusal.TheVariants.{NoSuchFile, BadFile, BadSource}
+use Rattle.circom_words.specs.declared.answer.Refusal.TheVariants.{NoSuchFile, BadFile, BadRules}
+use Rattle.circom_words.specs.declared.answer.Refusal.TheVariants.{BadSource}
 use Rattle.circom_words.specs.declared.answer.Refusal.TheVariants.{BadInput as BadInputs}
 use Rattle.circom_words.specs.declared.answer.BadInput.{BadInput}
 use Rattle.circom_words.specs.declared.answer.BadInput.TheVariants.{NotJson, Missing, UnknownSignal}
 use Rattle.circom_words.specs.declared.answer.BadInput.TheVariants.{WrongCount, BadNumber}
+use Rattle.circom_words.specs.declared.answer.RuleCause.{RuleCause}
+use Rattle.circom_words.specs.declared.answer.RuleCause.TheVariants as rules
 use Rattle.circom_words.specs.declared.answer.Verdict.{Verdict}
 use Rattle.circom_words.specs.declared.answer.Verdict.TheVariants.{CountsDiffer, WireZero}
 use Rattle.circom_words.specs.declared.answer.Verdict.TheVariants.{ConstraintFails, Satisfied}
@@ -54,6 +57,14 @@ cause_text Limit = codes "F11 Limit"
 abbrev pub bad_file_line : List ℕ → List ℕ → List ℕ → List ℕ
 bad_file_line name cause offset =
     line (codes "refused: " ∷ name ∷ codes ": " ∷ cause ∷ codes " at byte " ∷ offset ∷ [])
+
+abbrev pub rules_text : RuleCause → List ℕ
+rules_text rules.BadLine = codes "C1 BadLine"
+rules_text rules.Limit = codes "C2 Limit"
+
+abbrev pub bad_rules_line : (name cause number : List ℕ) → List ℕ
+bad_rules_line name cause number =
+    line (codes "refused: " ∷ name ∷ codes ": " ∷ cause ∷ codes " at line " ∷ number ∷ [])
 
 abbrev pub lex_text : LexCause → List ℕ
 lex_text lex.BadChar = codes " BadChar"
@@ -149,6 +160,8 @@ input_line (BadNumber name index) =
 abbrev pub refusal_line : Refusal → List ℕ
 refusal_line (NoSuchFile name) = line (codes "refused: " ∷ name ∷ codes ": no such file" ∷ [])
 refusal_line (BadFile name cause offset) = bad_file_line name (cause_text cause) (decimal offset)
+refusal_line (BadRules name cause number) =
+    bad_rules_line name (rules_text cause) (decimal number)
 refusal_line (BadSource r) = source_line r
 refusal_line (BadInputs r) = input_line r
 

@@ -14,20 +14,20 @@ use Rattle.cir_simplify.specs.declared.types.Level.TheVariants.{O0, O1, O2}
 use Rattle.hex.specs.Hex.{decode_sized}
 use Rattle.lig_proof.specs.declared.version.Version.{Version}
 use Rattle.lig_proof.specs.declared.version.Version.TheVariants.{One, Two}
-use Rattle.circom_words.specs.Forms.{form_of, run_form_of}
+use Rattle.circom_words.specs.Forms.{form_of}
 use Rattle.circom_words.specs.Numbers.{number_in}
-use Rattle.circom_words.specs.declared.names.PlainWord.{PlainWord}
-use Rattle.circom_words.specs.declared.names.PlainWord.TheVariants as plain
-use Rattle.circom_words.specs.declared.names.RunWord.{RunWord}
-use Rattle.circom_words.specs.declared.names.RunWord.TheVariants as running
+use Rattle.circom_words.specs.declared.names.CommandWord.{CommandWord}
+use Rattle.circom_words.specs.declared.names.CommandWord.TheVariants as word
 use Rattle.circom_words.specs.declared.options.Options.{Options as AskedOptions}
 use Rattle.circom_words.specs.declared.options.ProveOptions.{ProveOptions as AskedProving}
 use Rattle.circom_words.specs.declared.options.RunOptions.{RunOptions}
 use Rattle.circom_words.specs.declared.options.ThreeNames.{ThreeNames}
+use Rattle.circom_words.specs.declared.plain.PlainCommand.{PlainCommand}
+use Rattle.circom_words.specs.declared.plain.PlainCommand.TheVariants as plain
+use Rattle.circom_words.specs.declared.circuit.CircuitCommand.{CircuitCommand}
+use Rattle.circom_words.specs.declared.circuit.CircuitCommand.TheVariants as circuit
 use Rattle.circom_words.specs.declared.words.Command.{Command as Asked}
-use Rattle.circom_words.specs.declared.words.Command.TheVariants as asked
-use Rattle.circom_words.specs.declared.running.RunCommand.{RunCommand as AskedRun}
-use Rattle.circom_words.specs.declared.running.RunCommand.TheVariants as asked_run
+use Rattle.circom_words.specs.declared.words.Command.TheVariants.{Plain, Circuit}
 
 -- what the options of a command say
 pub record Options : Type 0 where
@@ -50,6 +50,8 @@ pub data Command : Type 0 where
   prove : (r1cs wtns out : List ℕ) → (options : ProveOptions) → Command
   public : (r1cs wtns out : List ℕ) → Command
   audit : (r1cs publics proof : List ℕ) → Command
+  determine : (r1cs out : List ℕ) → Command
+  confirm : (r1cs certificate : List ℕ) → Command
   generate : (seed size : ℕ) → (running : RunOptions) → Command
 
 -- the words by their bytes
@@ -130,11 +132,16 @@ names_in first second third rows = do
   c ← first_of third rows
   Some (record { first = a; second = b; third = c })
 
+-- the command of the values of two names, where both are found
+abbrev pub two_in : (first second : List ℕ) → (List ℕ → List ℕ → Command) → List Row
+    → Option Command
+two_in first second command rows = do
+  a ← first_of first rows
+  b ← first_of second rows
+  Some (command a b)
+
 abbrev pub check_in : List Row → Option Command
-check_in rows = do
-  r1cs ← first_of (codes "R1CS") rows
-  wtns ← first_of (codes "WTNS") rows
-  Some (check r1cs wtns)
+check_in rows = two_in (codes "R1CS") (codes "WTNS") check rows
 
 abbrev pub compile_in : List Row → Option Command
 compile_in rows = do
@@ -158,6 +165,12 @@ abbrev pub audit_in : List Row → Option Command
 audit_in rows = option_map (λ names. audit names.first names.second names.third)
     (names_in (codes "R1CS") (codes "PUBLIC") (codes "PROOF") rows)
 
+abbrev pub determine_in : List Row → Option Command
+determine_in rows = two_in (codes "R1CS") (codes "OUT") determine rows
+
+abbrev pub confirm_in : List Row → Option Command
+confirm_in rows = two_in (codes "R1CS") (codes "CERT") confirm rows
+
 abbrev pub witness_in : List Row → Option Command
 witness_in rows = do
   names ← names_in (codes "SRC") (codes "INPUT") (codes "OUT") rows
@@ -180,58 +193,49 @@ generate_in rows = do
 abbrev pub reading : App → (List Row → Option Command) → List (List ℕ) → Option Command
 reading form command words = option_and_then command (found form words)
 
--- the words of commands that wait for nobody
-abbrev pub plain_word : List ℕ → Option PlainWord
-plain_word name =
-    if bytes_eq name (codes "check") then Some plain.Check
-    else (if bytes_eq name (codes "compile") then Some plain.Compile
-    else (if bytes_eq name (codes "prove") then Some plain.Prove
-    else (if bytes_eq name (codes "public") then Some plain.Public
-    else (if bytes_eq name (codes "audit") then Some plain.Audit
-    else None))))
+-- the command that a word names
+abbrev pub command_word : List ℕ → Option CommandWord
+command_word name =
+    if bytes_eq name (codes "check") then Some word.Check
+    else (if bytes_eq name (codes "compile") then Some word.Compile
+    else (if bytes_eq name (codes "witness") then Some word.Witness
+    else (if bytes_eq name (codes "prove") then Some word.Prove
+    else (if bytes_eq name (codes "public") then Some word.Public
+    else (if bytes_eq name (codes "audit") then Some word.Audit
+    else (if bytes_eq name (codes "determine") then Some word.Determine
+    else (if bytes_eq name (codes "confirm") then Some word.Confirm
+    else (if bytes_eq name (codes "generate") then Some word.Generate
+    else None))))))))
 
-abbrev pub plain_in : PlainWord → List Row → Option Command
-plain_in plain.Check = check_in
-plain_in plain.Compile = compile_in
-plain_in plain.Prove = prove_in
-plain_in plain.Public = public_in
-plain_in plain.Audit = audit_in
+-- the command runs a circuit, and so waits for the threads that do
+abbrev pub waits : CommandWord → Bool
+waits word.Witness = true
+waits word.Generate = true
+waits _ = false
 
-abbrev pub plain_reading : List (List ℕ) → PlainWord → Option Command
-plain_reading words word = reading (form_of word) (plain_in word) words
+abbrev pub command_in : CommandWord → List Row → Option Command
+command_in word.Check = check_in
+command_in word.Compile = compile_in
+command_in word.Witness = witness_in
+command_in word.Prove = prove_in
+command_in word.Public = public_in
+command_in word.Audit = audit_in
+command_in word.Determine = determine_in
+command_in word.Confirm = confirm_in
+command_in word.Generate = generate_in
 
-abbrev pub plain_command_of : List (List ℕ) → Option Command
-plain_command_of [] = None
-plain_command_of (name ∷ others) =
-    option_and_then (plain_reading (name ∷ others)) (plain_word name)
-
--- the words of commands that run a circuit
-abbrev pub run_word : List ℕ → Option RunWord
-run_word name =
-    if bytes_eq name (codes "witness") then Some running.Witness
-    else (if bytes_eq name (codes "generate") then Some running.Generate
-    else None)
-
-abbrev pub run_in : RunWord → List Row → Option Command
-run_in running.Witness = witness_in
-run_in running.Generate = generate_in
-
-abbrev pub run_reading : List (List ℕ) → RunWord → Option Command
-run_reading words word = reading (run_form_of word) (run_in word) words
-
-abbrev pub run_command_of : List (List ℕ) → Option Command
-run_command_of [] = None
-run_command_of (name ∷ others) = option_and_then (run_reading (name ∷ others)) (run_word name)
-
--- which command that runs a circuit the first word names, if it does
-abbrev pub first_run_word : List (List ℕ) → Option RunWord
-first_run_word [] = None
-first_run_word (name ∷ others) = run_word name
+abbrev pub reading_of : List (List ℕ) → CommandWord → Option Command
+reading_of words word = reading (form_of word) (command_in word) words
 
 -- the reading of the words, None where they have none
 abbrev pub command_of : List (List ℕ) → Option Command
-command_of words =
-    if is_some (first_run_word words) then run_command_of words else plain_command_of words
+command_of [] = None
+command_of (name ∷ others) = option_and_then (reading_of (name ∷ others)) (command_word name)
+
+-- whether the first word names a command that runs a circuit
+abbrev pub first_waits : List (List ℕ) → Bool
+first_waits [] = false
+first_waits (name ∷ others) = option_map_or waits (command_word name) false
 
 -- what the program's own values for options and commands stand for
 abbrev pub meant_options : AskedOptions → Options
@@ -240,18 +244,30 @@ meant_options o = record { level = o.level; folder = option_map (λ f. f.now) o.
 abbrev pub meant_proving : AskedProving → ProveOptions
 meant_proving o = record { seed = o.seed; version = o.version }
 
-abbrev pub meant : Asked → Command
-meant (asked.Check r1cs wtns) = check r1cs.now wtns.now
-meant (asked.Compile source out options) = compile source.now out.now (meant_options options)
-meant (asked.Prove r1cs wtns out options) =
+abbrev pub meant_plain : PlainCommand → Command
+meant_plain (plain.Check r1cs wtns) = check r1cs.now wtns.now
+meant_plain (plain.Compile source out options) =
+    compile source.now out.now (meant_options options)
+meant_plain (plain.Prove r1cs wtns out options) =
     prove r1cs.now wtns.now out.now (meant_proving options)
-meant (asked.Public r1cs wtns out) = public r1cs.now wtns.now out.now
-meant (asked.Audit r1cs publics proof) = audit r1cs.now publics.now proof.now
+meant_plain (plain.Public r1cs wtns out) = public r1cs.now wtns.now out.now
+meant_plain (plain.Audit r1cs publics proof) = audit r1cs.now publics.now proof.now
+meant_plain (plain.Determine r1cs out) = determine r1cs.now out.now
+meant_plain (plain.Confirm r1cs certificate) = confirm r1cs.now certificate.now
 
-abbrev pub meant_run : AskedRun → Command
-meant_run (asked_run.Witness source input out options running) =
+abbrev pub meant_circuit : CircuitCommand → Command
+meant_circuit (circuit.Witness source input out options running) =
     witness source.now input.now out.now (meant_options options) running
-meant_run (asked_run.Generate seed size running) = generate seed size running
+meant_circuit (circuit.Generate seed size running) = generate seed size running
+
+abbrev pub meant : Asked → Command
+meant (Plain c) = meant_plain c
+meant (Circuit c) = meant_circuit c
+
+-- whether it runs a circuit
+abbrev pub runs_circuit : Asked → Bool
+runs_circuit (Plain c) = false
+runs_circuit (Circuit c) = true
 
 -- what the program's own value for three names stands for
 abbrev pub meant_names : ThreeNames → Names

@@ -13,6 +13,12 @@ pub enum Refusal {
         cause: FileCause,
         offset: u64,
     },
+    /// What is wrong with a text of rules, and its line, counted from 1.
+    BadRules {
+        name: Text,
+        cause: RuleCause,
+        line: u32,
+    },
     /// What is wrong with a source, and where.
     BadSource(cir_ast::Refusal),
     /// What is wrong with inputs or public values.
@@ -39,4 +45,13 @@ pub enum Verdict {
     /// The least constraint that the values don't satisfy, counted from 0.
     ConstraintFails { index: u32 },
     Satisfied,
+}
+
+/// What is wrong with a line of a text of rules.
+#[derive(Clone, Copy)]
+pub enum RuleCause {
+    /// It isn't a rule.
+    BadLine,
+    /// There are more lines than are read.
+    Limit,
 }

@@ -7,6 +7,7 @@ ghost use Rattle.circom_words.specs.Forms.{given, folder, flag, valued, seed, tw
 ghost use Rattle.circom_words.specs.Forms.{with_levels, with_options, with_running, check_form};
 ghost use Rattle.circom_words.specs.Forms.{compile_form, prove_form, public_form, audit_form};
 ghost use Rattle.circom_words.specs.Forms.{witness_form, generate_form};
+ghost use Rattle.circom_words.specs.Forms.{determine_form, confirm_form};
 ghost use Rattle.circom_words.specs.Matches.{IsArg};
 
 use clap::{Arg, ArgAction};
@@ -154,6 +155,24 @@ pub fn audit_form<'w>(alloc: Global) -> Result<clap::Command<'w>, AllocError>
     ensures simple { IfOk result (λ form. is_simple_and_free (app_of form) ≡ true) }
 {
     three_form(alloc, "audit", "R1CS", "PUBLIC", "PROOF")
+}
+
+/// `determine R1CS OUT`
+#[tactic(auto, unfolding(crate::specs::Forms::determine_form))]
+pub fn determine_form<'w>(alloc: Global) -> Result<clap::Command<'w>, AllocError>
+    ensures form { IfOk result (λ form. app_of form ≡ determine_form) }
+    ensures simple { IfOk result (λ form. is_simple_and_free (app_of form) ≡ true) }
+{
+    two_form(alloc, "determine", "R1CS", "OUT")
+}
+
+/// `confirm R1CS CERT`
+#[tactic(auto, unfolding(crate::specs::Forms::confirm_form))]
+pub fn confirm_form<'w>(alloc: Global) -> Result<clap::Command<'w>, AllocError>
+    ensures form { IfOk result (λ form. app_of form ≡ confirm_form) }
+    ensures simple { IfOk result (λ form. is_simple_and_free (app_of form) ≡ true) }
+{
+    two_form(alloc, "confirm", "R1CS", "CERT")
 }
 
 /// `witness SRC INPUT OUT [--O0, --O1 or --O2] [-l DIR] [--workers N] [--fuel N]`

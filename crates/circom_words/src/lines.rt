@@ -1,8 +1,9 @@
 ghost use Rattle.std.specs.Prelude.{◌≡◌, map, IfOk};
 ghost use Rattle.circom_words.specs.Lines.{line, usage_line, fault_line, compiled_line};
 ghost use Rattle.circom_words.specs.Lines.{bad_file_line, cause_text, count_line};
+ghost use Rattle.circom_words.specs.Lines.{bad_rules_line, rules_text};
 
-use crate::answer::{BadInput, Refusal, Verdict};
+use crate::answer::{BadInput, Refusal, RuleCause, Verdict};
 use crate::sources::source_line;
 use iden_files::FileCause;
 use std::alloc::{AllocError, Global};
@@ -25,6 +26,10 @@ impl Refusal {
             } => {
                 let offset = format!(in alloc; "{offset}")?;
                 bad_file_line(alloc, name.as_slice(), cause_text(*cause), offset.as_str())
+            }
+            Refusal::BadRules { name, cause, line } => {
+                let line = format!(in alloc; "{line}")?;
+                bad_rules_line(alloc, name.as_slice(), rules_text(*cause), line.as_str())
             }
             Refusal::BadSource(refusal) => source_line(alloc, refusal),
             Refusal::BadInput(refusal) => refusal.line(alloc),
@@ -151,6 +156,36 @@ fn bad_file_line<'a>(
             offset.as_bytes(),
         ],
     )
+}
+
+fn bad_rules_line<'a>(
+    alloc: Global,
+    name: &'a [u8],
+    cause: &'a str,
+    number: &'a str,
+) -> Result<Vec<u8>, AllocError>
+    ensures { IfOk result (λ v. v.items ≡ bad_rules_line name.now cause.now number.now) }
+{
+    line(
+        alloc,
+        &[
+            b"refused: ",
+            name,
+            b": ",
+            cause.as_bytes(),
+            b" at line ",
+            number.as_bytes(),
+        ],
+    )
+}
+
+fn rules_text(cause: RuleCause) -> &'static str
+    ensures { result.now ≡ rules_text cause }
+{
+    match cause {
+        RuleCause::BadLine => "C1 BadLine",
+        RuleCause::Limit => "C2 Limit",
+    }
 }
 
 fn cause_text(cause: FileCause) -> &'static str

@@ -1,55 +1,52 @@
-ghost use Rattle.std.specs.Prelude.{◌≡◌, true, IfOk, option_map, Some};
+ghost use Rattle.std.specs.Prelude.{◌≡◌, true, IfOk, IfSome, option_map, Some};
 ghost use Rattle.clap.specs.Faults.{is_simple_and_free};
 ghost use Rattle.clap.specs.Simple.{app_of};
-ghost use Rattle.circom_words.specs.Words.{texts, found, plain_command_of, plain_reading};
-ghost use Rattle.circom_words.specs.Words.{plain_in, meant};
-ghost use Rattle.circom_words.specs.Words.{check_in, compile_in, prove_in, public_in, audit_in};
 ghost use Rattle.circom_words.specs.Matches.{rows_in};
+ghost use Rattle.circom_words.specs.Words.{texts, found, command_of, reading_of, command_in};
+ghost use Rattle.circom_words.specs.Words.{first_waits, meant, runs_circuit, waits};
 
-use crate::names::PlainWord;
-use crate::options::{Options, ProveOptions, ThreeNames, options_in, seed_in, version_in};
+use crate::circuit::CircuitCommand;
+use crate::names::CommandWord;
+use crate::plain::PlainCommand;
 use clap::ArgMatches;
 use clap::error::ErrorKind;
 use std::alloc::{AllocError, Global};
 
-/// What the words of a command that waits for nobody ask for.
+/// What the words ask for.
 #[derive(Clone, Copy)]
 pub enum Command<'w> {
-    Check {
-        r1cs: &'w str,
-        wtns: &'w str,
-    },
-    Compile {
-        source: &'w str,
-        out: &'w str,
-        options: Options<'w>,
-    },
-    Prove {
-        r1cs: &'w str,
-        wtns: &'w str,
-        out: &'w str,
-        options: ProveOptions,
-    },
-    Public {
-        r1cs: &'w str,
-        wtns: &'w str,
-        out: &'w str,
-    },
-    Audit {
-        r1cs: &'w str,
-        publics: &'w str,
-        proof: &'w str,
-    },
+    /// A command that waits for nobody.
+    Plain(PlainCommand<'w>),
+    /// A command that runs a circuit, and waits for the threads that do.
+    Circuit(CircuitCommand<'w>),
 }
 
 impl<'w> Command<'w> {
-    /// `None` exactly where the words are no reading of such a command.
-    pub fn of(alloc: Global, words: &'w [String]) -> Result<Option<Command<'w>>, AllocError>
-        ensures { IfOk result (λ command.
-            option_map meant command ≡ plain_command_of (texts words.now)) }
+    ghost use Rattle.circom_words.specs.Ranges.{AreInRange};
+
+    /// Whether the first word names a command that runs a circuit.
+    pub fn waits(words: &[String]) -> bool
+        ensures { result ≡ first_waits (texts words.now) }
     {
         match words {
-            [name, ..] => match PlainWord::of(name.as_str()) {
+            [name, ..] => match CommandWord::of(name.as_str()) {
+                Some(word) => word.waits(),
+                None => false,
+            },
+            [] => false,
+        }
+    }
+
+    /// `None` exactly where the words have no reading.
+    pub fn of(alloc: Global, words: &'w [String]) -> Result<Option<Command<'w>>, AllocError>
+        ensures meant { IfOk result (λ command.
+            option_map meant command ≡ command_of (texts words.now)) }
+        ensures ranges { IfOk result (λ command. IfSome command AreInRange) }
+        ensures kind { IfOk result (λ command.
+            IfSome command (λ c. runs_circuit c ≡ first_waits (texts words.now))) }
+    {
+        match words {
+            [name, ..] => match CommandWord::of(name.as_str()) {
                 Some(word) => Command::reading(alloc, word, words),
                 None => Ok(None),
             },
@@ -59,11 +56,14 @@ impl<'w> Command<'w> {
 
     fn reading(
         alloc: Global,
-        word: PlainWord,
+        word: CommandWord,
         words: &'w [String],
     ) -> Result<Option<Command<'w>>, AllocError>
-        ensures { IfOk result (λ command.
-            option_map meant command ≡ plain_reading (texts words.now) word) }
+        ensures meant { IfOk result (λ command.
+            option_map meant command ≡ reading_of (texts words.now) word) }
+        ensures ranges { IfOk result (λ command. IfSome command AreInRange) }
+        ensures kind { IfOk result (λ command.
+            IfSome command (λ c. runs_circuit c ≡ waits word)) }
     {
         let form = word.form(alloc)?;
         match found(form, words)? {
@@ -72,80 +72,28 @@ impl<'w> Command<'w> {
         }
     }
 
-    fn read(word: PlainWord, matches: &ArgMatches<'w>) -> Option<Command<'w>>
-        ensures { option_map meant result ≡ plain_in word (rows_in matches.now) }
+    fn read(word: CommandWord, matches: &ArgMatches<'w>) -> Option<Command<'w>>
+        ensures meant { option_map meant result ≡ command_in word (rows_in matches.now) }
+        ensures ranges { IfSome result AreInRange }
+        ensures kind { IfSome result (λ c. runs_circuit c ≡ waits word) }
     {
-        match word {
-            PlainWord::Check => Command::check_in(matches),
-            PlainWord::Compile => Command::compile_in(matches),
-            PlainWord::Prove => Command::prove_in(matches),
-            PlainWord::Public => Command::public_in(matches),
-            PlainWord::Audit => Command::audit_in(matches),
-        }
-    }
-
-    #[tactic(auto, using(crate::proofs::Found::first_rows))]
-    fn check_in(matches: &ArgMatches<'w>) -> Option<Command<'w>>
-        ensures { option_map meant result ≡ check_in (rows_in matches.now) }
-    {
-        let r1cs = matches.get_str("R1CS")?;
-        let wtns = matches.get_str("WTNS")?;
-        Some(Command::Check { r1cs, wtns })
-    }
-
-    #[tactic(auto, using(crate::proofs::Found::first_rows))]
-    fn compile_in(matches: &ArgMatches<'w>) -> Option<Command<'w>>
-        ensures { option_map meant result ≡ compile_in (rows_in matches.now) }
-    {
-        let options = options_in(matches)?;
-        let source = matches.get_str("SRC")?;
-        let out = matches.get_str("OUT")?;
-        Some(Command::Compile {
-            source,
-            out,
-            options,
-        })
-    }
-
-    fn prove_in(matches: &ArgMatches<'w>) -> Option<Command<'w>>
-        ensures { option_map meant result ≡ prove_in (rows_in matches.now) }
-    {
-        let names = ThreeNames::of(matches, "R1CS", "WTNS", "OUT")?;
-        let seed = seed_in(matches)?;
-        let version = version_in(matches)?;
-        Some(Command::Prove {
-            r1cs: names.first,
-            wtns: names.second,
-            out: names.third,
-            options: ProveOptions { seed, version },
-        })
-    }
-
-    fn public_in(matches: &ArgMatches<'w>) -> Option<Command<'w>>
-        ensures { option_map meant result ≡ public_in (rows_in matches.now) }
-    {
-        let names = ThreeNames::of(matches, "R1CS", "WTNS", "OUT")?;
-        Some(Command::Public {
-            r1cs: names.first,
-            wtns: names.second,
-            out: names.third,
-        })
-    }
-
-    fn audit_in(matches: &ArgMatches<'w>) -> Option<Command<'w>>
-        ensures { option_map meant result ≡ audit_in (rows_in matches.now) }
-    {
-        let names = ThreeNames::of(matches, "R1CS", "PUBLIC", "PROOF")?;
-        Some(Command::Audit {
-            r1cs: names.first,
-            publics: names.second,
-            proof: names.third,
-        })
+        let command = match word {
+            CommandWord::Check => Command::Plain(PlainCommand::check_in(matches)?),
+            CommandWord::Compile => Command::Plain(PlainCommand::compile_in(matches)?),
+            CommandWord::Witness => Command::Circuit(CircuitCommand::witness_in(matches)?),
+            CommandWord::Prove => Command::Plain(PlainCommand::prove_in(matches)?),
+            CommandWord::Public => Command::Plain(PlainCommand::public_in(matches)?),
+            CommandWord::Audit => Command::Plain(PlainCommand::audit_in(matches)?),
+            CommandWord::Determine => Command::Plain(PlainCommand::determine_in(matches)?),
+            CommandWord::Confirm => Command::Plain(PlainCommand::confirm_in(matches)?),
+            CommandWord::Generate => Command::Circuit(CircuitCommand::generate_in(matches)?),
+        };
+        Some(command)
     }
 }
 
 /// What `clap` finds in the words, `None` where it refuses them.
-pub fn found<'w>(
+fn found<'w>(
     form: clap::Command<'w>,
     words: &'w [String],
 ) -> Result<Option<ArgMatches<'w>>, AllocError>

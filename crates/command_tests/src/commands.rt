@@ -8,6 +8,7 @@ use std::thread::Threads;
 
 mod checks;
 mod compiling;
+mod determining;
 mod proving;
 mod running;
 mod stepping;
@@ -239,7 +240,7 @@ fn is_answered<R: Threads + Wait + AllocGlobal + Sync + Abort>(
 
 // Each command, and words that name one file twice: how many calls of the store they make, whether
 // the last one writes n.out, the status and the line.
-static CALLS: [(&str, u32, bool, u8, &str); 9] = [
+static CALLS: [(&str, u32, bool, u8, &str); 12] = [
     ("check m.r1cs m.wtns", 2, false, 0, "satisfied\n"),
     (
         "check m.r1cs m.r1cs",
@@ -291,6 +292,21 @@ static CALLS: [(&str, u32, bool, u8, &str); 9] = [
         2,
         "rejected: 2 Malformed at byte 0\n",
     ),
+    ("determine m.r1cs n.out", 2, true, 0, "determined\n"),
+    (
+        "confirm m.r1cs m.bytes",
+        2,
+        false,
+        1,
+        "refused: m.bytes: C1 BadLine at line 1\n",
+    ),
+    (
+        "confirm m.r1cs m.r1cs",
+        1,
+        false,
+        1,
+        "refused: m.r1cs: C1 BadLine at line 1\n",
+    ),
     (
         "audit m.r1cs m.r1cs m.bytes",
         1,
@@ -327,7 +343,7 @@ static USAGE: &str =
     "usage: circom_gold check, compile, witness, prove, public, audit, sym, batch, \
     series, determine, confirm or generate\n";
 
-static NO_READING: [&str; 40] = [
+static NO_READING: [&str; 43] = [
     "",
     "check m.r1cs",
     "check a b c",
@@ -356,6 +372,9 @@ static NO_READING: [&str; 40] = [
     "public m.r1cs m.wtns",
     "audit m.r1cs m.wtns",
     "audit a b c --proof 1",
+    "determine a",
+    "determine a b c",
+    "confirm a b --O1",
     "witness a b",
     "witness a b c --workers",
     "witness a b c --workers 0",

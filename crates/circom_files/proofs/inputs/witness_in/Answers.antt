@@ -4,37 +4,49 @@ use Rattle.std.proofs.lemmas.Result.{err_from_is_err_and}
 use Rattle.out_io.specs.Faults.{Rose}
 use Rattle.out_io.proofs.Telling.{rose_on}
 use Rattle.circom_files.specs.Files.{bytes_in}
+use Rattle.circom_files.specs.Proving.{witness_of}
 use Rattle.circom_files.specs.Steps.{WereRead}
 use Rattle.circom_files.specs.declared.outcome.Witness.{Witness}
-use Rattle.circom_files.proofs.Reading.{bad_r1cs, bad_wtns, from_now, unread_r1cs, unread_wtns}
-use Rattle.circom_files.proofs.Reading.{witness_read}
+use Rattle.circom_files.proofs.Reading.{bad_first, bad_second, both_read, from_now, unread_first}
+use Rattle.circom_files.proofs.Reading.{unread_second, values_in, witness_is, witness_with}
 use Rattle.circom_files.proofs.inputs.witness_in.Goals as goal
 
 pub returns-in_err-bytes-clause-step : goal.returns-in_err-bytes-clause-step
 returns-in_err-bytes-clause-step g c =
     let p = err_from_is_err_and c.from_residual.result c.from_residual.ensures.1 in
     rw (p.1, p.2)
-    (unread_r1cs _ c.args.r1cs.now c.args.wtns.now _ c.in_err-bytes.field-0.0
-    c.in_err-bytes.ensures.step)
+    (unread_first (values_in c.args.wtns.now) witness_with
+    (λ files. witness_of files c.args.r1cs.now c.args.wtns.now)
+    (g.S.Store.contents c.args.store.now) c.args.r1cs.now c.args.wtns.now
+    (witness_is c.args.r1cs.now c.args.wtns.now) _
+    c.in_err-bytes.field-0.0 c.in_err-bytes.ensures.step)
 
 pub returns-in_err-file-clause-step : goal.returns-in_err-file-clause-step
 returns-in_err-file-clause-step g c =
     let p = err_from_is_err_and c.from_residual-in_err-file.result
     c.from_residual-in_err-file.ensures.1 in
     rw (p.1, p.2)
-    (bad_r1cs _ c.args.r1cs.now c.args.wtns.now _ c.in_ok-bytes.bytes.items
-    c.in_ok-bytes.ensures.step _ c.as_slice.ensures.value c.in_err-file.field-0.0
-    c.in_err-file.ensures.step)
+    (bad_first (values_in c.args.wtns.now) witness_with
+    (λ files. witness_of files c.args.r1cs.now c.args.wtns.now)
+    (g.S.Store.contents c.args.store.now) c.args.r1cs.now c.args.wtns.now
+    (witness_is c.args.r1cs.now c.args.wtns.now) _
+    c.in_ok-bytes.bytes.items c.in_ok-bytes.ensures.step c.as_slice.result.now
+    c.as_slice.ensures.value
+    c.in_err-file.field-0.0 c.in_err-file.ensures.step)
 
 pub returns-in_err-text-clause-step : goal.returns-in_err-text-clause-step
 returns-in_err-text-clause-step g c =
     let p = err_from_is_err_and c.from_residual-in_err-text.result
     c.from_residual-in_err-text.ensures.1 in
     rw (p.1, p.2)
-    (unread_wtns (g.S.Store.contents c.args.store.now) c.args.r1cs.now c.args.wtns.now
+    (unread_second (values_in c.args.wtns.now) witness_with
+    (λ files. witness_of files c.args.r1cs.now c.args.wtns.now)
+    (g.S.Store.contents c.args.store.now) c.args.r1cs.now c.args.wtns.now
+    (witness_is c.args.r1cs.now c.args.wtns.now)
     (Rose (g.S.Store.faults c.args.store.now) (g.S.Store.faults c.bytes_after.new.store))
     c.in_ok-bytes.bytes.items c.in_ok-bytes.ensures.step c.as_slice.result.now
-    c.as_slice.ensures.value c.in_ok-file.file c.in_ok-file.ensures.step
+    c.as_slice.ensures.value
+    c.in_ok-file.file c.in_ok-file.ensures.step
     record { name = c.args.r1cs; bytes = c.as_slice-2.result } refl c.as_slice-2.ensures.value
     c.in_err-text.field-0.0
     (from_now (λ (v : Vec ℕ Global). v.items) _ (g.S.Store.contents c.bytes_in.new.store)
@@ -49,19 +61,24 @@ returns-in_err-values-clause-step g c =
     let p = err_from_is_err_and c.from_residual-in_err-values.result
     c.from_residual-in_err-values.ensures.1 in
     rw (p.1, p.2)
-    (bad_wtns (g.S.Store.contents c.args.store.now) c.args.r1cs.now c.args.wtns.now
+    (bad_second (values_in c.args.wtns.now) witness_with
+    (λ files. witness_of files c.args.r1cs.now c.args.wtns.now)
+    (g.S.Store.contents c.args.store.now) c.args.r1cs.now c.args.wtns.now
+    (witness_is c.args.r1cs.now c.args.wtns.now)
     (Rose (g.S.Store.faults c.args.store.now) (g.S.Store.faults c.bytes_after.new.store))
     c.in_ok-bytes.bytes.items c.in_ok-bytes.ensures.step c.as_slice.result.now
-    c.as_slice.ensures.value c.in_ok-file.file c.in_ok-file.ensures.step
+    c.as_slice.ensures.value
+    c.in_ok-file.file c.in_ok-file.ensures.step
     record { name = c.args.r1cs; bytes = c.as_slice-2.result } refl c.as_slice-2.ensures.value
-    c.in_ok-text.text c.as_slice-3.result.now c.in_err-values.field-0.0
+    c.in_ok-text.text c.as_slice-3.result.now
     (from_now (λ (v : Vec ℕ Global). v.items) _ (g.S.Store.contents c.bytes_in.new.store)
     (WereRead record { name = c.args.r1cs; bytes = c.as_slice-2.result } None)
     (λ files. bytes_in files c.args.wtns.now) _
     (Rose (g.S.Store.faults c.bytes_in.new.store) (g.S.Store.faults c.bytes_after.new.store))
     (Ok c.in_ok-text.text) c.bytes_in.ensures.store.same
     (λ rose. rose_on _ _ _ c.bytes_in.ensures.store.later rose) c.in_ok-text.ensures.step)
-    c.as_slice-3.ensures.value c.in_err-values.ensures.step)
+    c.as_slice-3.ensures.value (λ (v : Vec ℕ Global). v.items) c.in_err-values.field-0.0
+    c.in_err-values.ensures.step)
 
 pub returns-clause-step : goal.returns-clause-step
 returns-clause-step g c =
@@ -79,16 +96,20 @@ returns-clause-step g c =
       file = c.in_ok-file.file;
       values = c.of-2.ensures i;
     } in
-    witness_read (g.S.Store.contents c.args.store.now) c.args.r1cs.now c.args.wtns.now
+    both_read (values_in c.args.wtns.now) witness_with
+    (λ files. witness_of files c.args.r1cs.now c.args.wtns.now)
+    (g.S.Store.contents c.args.store.now) c.args.r1cs.now c.args.wtns.now
+    (witness_is c.args.r1cs.now c.args.wtns.now)
     (Rose (g.S.Store.faults c.args.store.now) (g.S.Store.faults c.bytes_after.new.store))
     c.in_ok-bytes.bytes.items c.in_ok-bytes.ensures.step c.as_slice.result.now
-    c.as_slice.ensures.value c.in_ok-file.file c.in_ok-file.ensures.step
+    c.as_slice.ensures.value
+    c.in_ok-file.file c.in_ok-file.ensures.step
     record { name = c.args.r1cs; bytes = c.as_slice-2.result } refl c.as_slice-2.ensures.value
-    c.in_ok-text.text c.as_slice-3.result.now c.in_ok-values.values.items _
+    c.in_ok-text.text c.as_slice-3.result.now
     (from_now (λ (v : Vec ℕ Global). v.items) _ (g.S.Store.contents c.bytes_in.new.store)
     (WereRead record { name = c.args.r1cs; bytes = c.as_slice-2.result } None)
     (λ files. bytes_in files c.args.wtns.now) _
     (Rose (g.S.Store.faults c.bytes_in.new.store) (g.S.Store.faults c.bytes_after.new.store))
     (Ok c.in_ok-text.text) c.bytes_in.ensures.store.same
     (λ rose. rose_on _ _ _ c.bytes_in.ensures.store.later rose) c.in_ok-text.ensures.step)
-    c.as_slice-3.ensures.value c.in_ok-values.ensures.step made
+    c.as_slice-3.ensures.value c.in_ok-values.values.items _ c.in_ok-values.ensures.step made

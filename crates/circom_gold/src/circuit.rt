@@ -1,30 +1,29 @@
 //! The commands that run a circuit on many threads.
 
-ghost use Rattle.std.specs.Prelude.{◌≡◌, None, IfOk, IfSome, IsErrOf, OnErr, option_map};
+ghost use Rattle.std.specs.Prelude.{◌≡◌, None, IfOk, IfSome, IsErrOf, true, option_map};
 ghost use Rattle.std.specs.Result.{result_ok};
 ghost use Rattle.out_io.specs.Calls.{Counting, OnlyReads, course};
-ghost use Rattle.out_io.specs.Contents.{Changes};
 ghost use Rattle.out_io.specs.Faults.{Rose};
 ghost use Rattle.out_io.specs.declared.fault.IoFault.TheVariants.{Failed};
-ghost use Rattle.circom_files.specs.Given.{Leaves};
 ghost use Rattle.circom_files.specs.Shown.{shown};
-ghost use Rattle.circom_gold.specs.Answering.{HasMeaning, Writing};
+ghost use Rattle.circom_gold.specs.Answering.{IsAnswered};
 ghost use Rattle.circom_gold.specs.Reply.{Answers};
 ghost use Rattle.circom_gold.specs.Run.{Does};
-ghost use Rattle.circom_words.specs.Ranges.{HasRanges};
-ghost use Rattle.circom_words.specs.Words.{texts, run_command_of, meant_run};
+ghost use Rattle.circom_words.specs.Ranges.{AreInRange, HasRanges};
+ghost use Rattle.circom_words.specs.Words.{command_of, first_waits, meant, meant_circuit, texts};
+ghost use Rattle.circom_words.specs.Words.{runs_circuit};
 
 use crate::generate::generate_reply;
 use crate::giving::give;
 use crate::witness::witness_reply;
 use circom_files::{Reply, write_file};
-use circom_words::RunCommand;
+use circom_words::{CircuitCommand, Command};
 use out_io::{IoFault, Sink, Store};
 use std::alloc::{AllocError, AllocGlobal, Global};
 use std::sync::Wait;
 use std::thread::Threads;
 
-/// Does what the words of such a command ask for.
+/// Does what words ask for whose first names a command that runs a circuit.
 pub fn run_circuit<R: Threads + Wait + AllocGlobal + Sync, S: Store, K: Sink>(
     rt: &R,
     alloc: Global,
@@ -32,7 +31,8 @@ pub fn run_circuit<R: Threads + Wait + AllocGlobal + Sync, S: Store, K: Sink>(
     store: &mut S,
     out: &mut K,
 ) -> Result<u8, AllocError>
-    ensures does { Does (run_command_of (texts words.now))
+    requires { first_waits (texts words.now) ≡ true }
+    ensures does { Does (command_of (texts words.now))
         (course (S.contents store.old) (S.contents store.new)
         (S.faults store.old) (S.faults store.new))
         (course (K.contents out.old) (K.contents out.new) (K.faults out.old) (K.faults out.new))
@@ -42,34 +42,35 @@ pub fn run_circuit<R: Threads + Wait + AllocGlobal + Sync, S: Store, K: Sink>(
     ensures sink { Counting (K.faults out.old) (K.faults out.new)
         (K.never_fails out.old) (K.never_fails out.new) }
 {
-    let command = RunCommand::of(alloc, words)?;
+    let command = circuit(Command::of(alloc, words)?);
     let answer = answered(rt, alloc, command, store);
     give(alloc, answer, out)
+}
+
+// The command, which runs a circuit.
+fn circuit<'w>(command: Option<Command<'w>>) -> Option<CircuitCommand<'w>>
+    requires circuit { IfSome command (λ c. runs_circuit c ≡ true) }
+    requires ranges { IfSome command AreInRange }
+    ensures meant { option_map meant_circuit result ≡ option_map meant command.entry }
+    ensures ranges { IfSome result HasRanges }
+{
+    match command {
+        Some(Command::Circuit(command)) => Some(command),
+        _ => None,
+    }
 }
 
 // The reply to the command, whose file is written.
 fn answered<'w, R: Threads + Wait + AllocGlobal + Sync, S: Store>(
     rt: &R,
     alloc: Global,
-    command: Option<RunCommand<'w>>,
+    command: Option<CircuitCommand<'w>>,
     store: &mut S,
 ) -> Result<Reply<'w>, IoFault>
     requires ranges { IfSome command HasRanges }
-    ensures answers { IfOk result
-        (λ r. Answers (S.contents store.old) (option_map meant_run command.entry) (shown r)) }
-    ensures files { IfOk result
-        (λ r. Changes (Leaves (shown r).file) (S.contents store.old) (S.contents store.new)) }
-    ensures means { IfOk result
-        (λ r. HasMeaning (option_map meant_run command.entry)
-        (S.contents store.old) (S.contents store.new) (shown r)) }
-    ensures kept { OnErr result
-        (Writing (option_map meant_run command.entry)
-        (S.contents store.old) (S.contents store.new)) }
-    ensures unread { option_map meant_run command.entry ≡ None
-        → (S.contents store.new ≡ S.contents store.old)
-        × (S.faults store.new ≡ S.faults store.old) }
-    ensures answered { option_map meant_run command.entry ≡ None → ¬ IsErrOf result Failed }
-    ensures fault { IsErrOf result Failed → Rose (S.faults store.old) (S.faults store.new) }
+    ensures answered { IsAnswered (option_map meant_circuit command.entry)
+        (course (S.contents store.old) (S.contents store.new)
+        (S.faults store.old) (S.faults store.new)) result }
     ensures counting { Counting (S.faults store.old) (S.faults store.new)
         (S.never_fails store.old) (S.never_fails store.new) }
 {
@@ -82,13 +83,13 @@ fn answered<'w, R: Threads + Wait + AllocGlobal + Sync, S: Store>(
 fn reply_to<'w, R: Threads + Wait + AllocGlobal + Sync, S: Store>(
     rt: &R,
     alloc: Global,
-    command: Option<RunCommand<'w>>,
+    command: Option<CircuitCommand<'w>>,
     store: &mut S,
 ) -> Result<Reply<'w>, IoFault>
     requires ranges { IfSome command HasRanges }
     ensures answers { IfOk result
-        (λ r. Answers (S.contents store.old) (option_map meant_run command.entry) (shown r)) }
-    ensures unread { option_map meant_run command.entry ≡ None
+        (λ r. Answers (S.contents store.old) (option_map meant_circuit command.entry) (shown r)) }
+    ensures unread { option_map meant_circuit command.entry ≡ None
         → (S.faults store.new ≡ S.faults store.old) × ¬ IsErrOf result Failed }
     ensures fault { IsErrOf result Failed → Rose (S.faults store.old) (S.faults store.new) }
     ensures store { OnlyReads (S.contents store.old) (S.contents store.new)
@@ -98,7 +99,7 @@ fn reply_to<'w, R: Threads + Wait + AllocGlobal + Sync, S: Store>(
     match command {
         None => Ok(Reply::usage(alloc)?),
         Some(
-            RunCommand::Witness {
+            CircuitCommand::Witness {
                 source,
                 input,
                 out,
@@ -107,7 +108,7 @@ fn reply_to<'w, R: Threads + Wait + AllocGlobal + Sync, S: Store>(
             },
         ) => witness_reply(rt, alloc, source, input, out, options, running, store),
         Some(
-            RunCommand::Generate {
+            CircuitCommand::Generate {
                 seed,
                 size,
                 running,

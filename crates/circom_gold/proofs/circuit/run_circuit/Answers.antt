@@ -1,15 +1,14 @@
-use Rattle.std.proofs.Common.{List, ℕ, option_map}
-use Rattle.std.proofs.Common.{refl}
+use Rattle.std.proofs.Common.{◌∙◌, List, ℕ, option_map, refl}
 use Rattle.std.specs.Result.{result_ok}
 use Rattle.std.proofs.lemmas.Result.{err_from_is_err_and}
 use Rattle.out_io.specs.Calls.{Course, course}
 use Rattle.out_io.specs.Contents.{Contents}
-use Rattle.circom_words.specs.Words.{meant_run, run_command_of, texts}
+use Rattle.circom_words.specs.Words.{command_of, meant_circuit, texts}
 use Rattle.circom_gold.proofs.Doing.{does_nothing, does_so}
-use Rattle.circom_gold.proofs.waiting.run_circuit.Goals as goal
+use Rattle.circom_gold.proofs.circuit.run_circuit.Goals as goal
 
-pub returns-in_err-command-clause-does : goal.returns-in_err-command-clause-does
-returns-in_err-command-clause-does g c =
+pub returns-in_err-of-clause-does : goal.returns-in_err-of-clause-does
+returns-in_err-of-clause-does g c =
     let store : Course Contents =
     course (g.S.Store.contents c.args.store.now) (g.S.Store.contents c.args.store.now)
     (g.S.Store.faults c.args.store.now) (g.S.Store.faults c.args.store.now) in
@@ -18,7 +17,7 @@ returns-in_err-command-clause-does g c =
     (g.K.Sink.faults c.args.out.now) (g.K.Sink.faults c.args.out.now) in
     let p = err_from_is_err_and c.from_residual.result c.from_residual.ensures.1 in
     rw p.1
-    (does_nothing (run_command_of (texts c.args.words.now)) store sink (refl, refl) (refl, refl))
+    (does_nothing (command_of (texts c.args.words.now)) store sink (refl, refl) (refl, refl))
 
 pub returns-clause-does : goal.returns-clause-does
 returns-clause-does g c =
@@ -28,13 +27,6 @@ returns-clause-does g c =
     let sink : Course (List ℕ) =
     course (g.K.Sink.contents c.args.out.now) (g.K.Sink.contents c.give.new.out)
     (g.K.Sink.faults c.args.out.now) (g.K.Sink.faults c.give.new.out) in
-    let answered = c.answered-answer.ensures in
-    does_so c.in_ok-command.ensures.meant store sink (result_ok c.give.result)
-    (c.give.ensures.does (option_map meant_run c.in_ok-command.command) store (record {
-      answers = answered.answers;
-      files = answered.files;
-      means = answered.means;
-      kept = answered.kept;
-      fault = answered.fault;
-      unread = λ none. (answered.unread none, answered.answered none);
-    }))
+    does_so (c.circuit-command.ensures.meant ∙ c.in_ok-of.ensures.meant) store sink (result_ok c.give.result)
+    (c.give.ensures.does (option_map meant_circuit c.circuit-command.result) store
+    c.answered-answer.ensures.answered)
