@@ -1,6 +1,9 @@
 """What each template has to give, by Python's whole numbers and hashlib; see test.py."""
 
+import hashlib
 import random
+
+import constants
 
 P = 2**64 - 2**32 + 1
 LEVELS = ("--O0", "--O1", "--O2")
@@ -238,5 +241,302 @@ def of_arithmetic():
     return group(*cases)
 
 
+def word_bits(data):
+    """The bits of the words in some bytes, the lowest bit of each first."""
+    return [bits(int.from_bytes(data[i:i + 4], "big"), 32) for i in range(0, len(data), 4)]
+
+
+def padded(data):
+    """A message with the padding of FIPS 180-4, section 5.1.1."""
+    zeros = b"\0" * (-(len(data) + 9) % 64)
+    return data + b"\x80" + zeros + (8 * len(data)).to_bytes(8, "big")
+
+
+def schedule(block):
+    """The 64 words of a block's rounds, from its 16 words."""
+    def turned(word, count):
+        return (word >> count | word << (32 - count)) % 2**32
+    words = list(block)
+    for t in range(16, 64):
+        x, y = words[t - 2], words[t - 15]
+        words.append(((turned(x, 17) ^ turned(x, 19) ^ x >> 10) + words[t - 7]
+                      + (turned(y, 7) ^ turned(y, 18) ^ y >> 3) + words[t - 16]) % 2**32)
+    return words
+
+
+def of_sha256():
+    block = some(2**32, 16)
+    cases = [Case("Sha256Schedule", [], [
+        ({"block": [bits(word, 32) for word in block]}, [bits(w, 32) for w in schedule(block)])])]
+    # One block on the state of its definition is the compression.
+    data = bytes(some(256, 50))
+    start = [bits(word, 32) for word in constants.sha256_start()]
+    cases.append(Case("Sha256Compression", [], [
+        ({"before": start, "block": word_bits(padded(data))},
+         word_bits(hashlib.sha256(data).digest()))]))
+    for n, length in ((1, 20), (2, 100)):
+        data = bytes(some(256, length))
+        message = padded(data)
+        blocks = [word_bits(message[64 * i:64 * i + 64]) for i in range(n)]
+        cases.append(Case("Sha256Blocks", [n], [({"in": blocks},
+                                                 word_bits(hashlib.sha256(data).digest()))]))
+    for n in (0, 3, 55, 56, 64):
+        messages = [bytes(some(256, n)), b"\xff" * n] if n != 3 else [b"abc", b"\0\0\0"]
+        good = list(messages[0])
+        cases.append(Case("Sha256", [n], [({"in": list(data)}, list(hashlib.sha256(data).digest()))
+                                          for data in messages],
+                          [{"in": good[:-1] + [v]} for v in (256, P - 1)] if n == 3 else ()))
+    return group(*cases)
+
+
+FULL, PARTIAL, CONSTANTS, MATRIX = constants.poseidon()
+
+
+def permuted(state):
+    return constants.permutation(state, P, 7, FULL, PARTIAL, CONSTANTS, MATRIX)
+
+
+def poseidon_hash(words):
+    words = words + [1] + [0] * (-(len(words) + 1) % 8)
+    state = [0] * 12
+    for i in range(0, len(words), 8):
+        state = permuted([(x + y) % P for x, y in zip(state, words[i:i + 8] + [0] * 4)])
+    return state[:4]
+
+
+def poseidon_node(left, right):
+    return permuted(left + right + [1, 0, 0, 0])[:4]
+
+
+def of_poseidon():
+    states = ([0] * 12, list(range(12)), [P - 1] * 12, some(P, 12))
+    cases = [Case("PoseidonPermutation", [], [({"in": s}, permuted(s)) for s in states])]
+    for n in (0, 1, 7, 8, 20):
+        rows = ([0] * n, some(P, n))
+        cases.append(Case("PoseidonHash", [n], [({"in": row}, poseidon_hash(row)) for row in rows]))
+    pairs_of_digests = [([0] * 4, [0] * 4), (some(P, 4), some(P, 4))]
+    cases.append(Case("PoseidonNode", [], [({"left": a, "right": b}, poseidon_node(a, b))
+                                           for a, b in pairs_of_digests]))
+    return group(*cases)
+
+
+def leaf_of(data):
+    return list(hashlib.sha256(b"\0" + bytes(data)).digest())
+
+
+def node_of(left, right):
+    return list(hashlib.sha256(b"\1" + bytes(left + right)).digest())
+
+
+def path_of(leaves, place, node):
+    """The root above the leaves, and the digests beside the way from one of them up."""
+    path = []
+    while len(leaves) > 1:
+        path.append(leaves[place ^ 1])
+        leaves = [node(a, b) for a, b in zip(leaves[::2], leaves[1::2])]
+        place //= 2
+    return leaves[0], path
+
+
+def wrong(values, by=1):
+    """The values with the first one changed, for each list of them."""
+    return [(values[0] + by) % P, *values[1:]]
+
+
+def members(depth, leaves, digests, node, template, limit):
+    """Inputs of a template that refuses what isn't in a tree, and what it refuses."""
+    inputs = []
+    for place in {0, 2**depth - 1, random.randrange(2**depth)}:
+        root, path = path_of(digests, place, node)
+        inputs.append({"leaf": leaves[place], "place": bits(place, depth), "path": path,
+                       "root": root})
+    one = inputs[0]
+    out = [{**one, "root": wrong(one["root"])}, {**one, "leaf": wrong(one["leaf"])},
+           {**one, "path": [wrong(one["path"][0]), *one["path"][1:]]},
+           {**one, "place": [1 - one["place"][0], *one["place"][1:]]},
+           {**one, "place": [2, *one["place"][1:]]}]
+    if limit:
+        out += [{**one, "leaf": [256, *one["leaf"][1:]]},
+                {**one, "path": [[P - 1, *one["path"][0][1:]], *one["path"][1:]]}]
+    return Case(template, [depth, len(leaves[0])], [(one, []) for one in inputs], out)
+
+
+def of_merkle():
+    data = [some(256, 5) for _ in range(2)]
+    digests = [leaf_of(each) for each in data]
+    cases = [Case("Sha256Leaf", [5], [({"in": data[0]}, digests[0])], [{"in": wrong(data[0], 256)}]),
+             Case("Sha256Node", [], [({"left": digests[0], "right": digests[1]}, node_of(*digests))],
+                  [{"left": wrong(digests[0], 256), "right": digests[1]}])]
+    for k in (1, 3):
+        a, b = some(P, k), some(P, k)
+        cases.append(Case("SwitchRows", [k], [({"sel": 0, "a": a, "b": b}, [a, b]),
+                                              ({"sel": 1, "a": a, "b": b}, [b, a])]))
+    root, path = path_of(digests, 1, node_of)
+    cases.append(Case("Sha256Root", [1], [({"leaf": digests[1], "place": [1], "path": path}, root)],
+                      [{"leaf": digests[1], "place": [2], "path": path}]))
+    cases.append(members(1, data, digests, node_of, "AssertSha256Member", True))
+    for depth in (1, 3):
+        leaves = [some(P, 3) for _ in range(2**depth)]
+        digests = [poseidon_hash(leaf) for leaf in leaves]
+        good = []
+        for place in (0, 2**depth - 1):
+            root, path = path_of(digests, place, poseidon_node)
+            good.append(({"leaf": digests[place], "place": bits(place, depth), "path": path}, root))
+        cases.append(Case("PoseidonRoot", [depth], good,
+                          [{**good[0][0], "place": [v] + [0] * (depth - 1)} for v in (2, P - 1)]))
+        cases.append(members(depth, leaves, digests, poseidon_node, "AssertPoseidonMember", False))
+    return group(*cases)
+
+
+def limbs(number, n, k):
+    return [number >> n * i & 2**n - 1 for i in range(k)]
+
+
+def big(n, k):
+    """Numbers of k limbs: at the borders, and two others."""
+    return [0, 1, 2**(n * k) - 1, *some(2**(n * k), 2)]
+
+
+def of_bigint():
+    cases = []
+    for n, m, w in ((1, 2, 1), (8, 3, 20), (28, 4, 61)):
+        for_all = [some(2**w, m), [2**w - 1] * m, [0] * m]
+        totals = [sum(value << n * i for i, value in enumerate(row)) for row in for_all]
+        cases.append(Case("Carry", [n, m, w],
+                          [({"in": row}, [limbs(total, n, m), total >> n * m])
+                           for row, total in zip(for_all, totals)],
+                          [{"in": [2**(w + 1)] + [0] * (m - 1)}, {"in": [P - 1] + [0] * (m - 1)}]))
+    for n, k in ((8, 1), (28, 3), (61, 2)):
+        many = [(a, b) for a in big(n, k) for b in big(n, k)[1:3]] + [(5, 5), (5, 6)]
+        many.insert(0, tuple(some(2**(n * k), 2)))
+        ins = [({"a": limbs(a, n, k), "b": limbs(b, n, k)}, a, b) for a, b in many]
+        cases.append(Case("BigAdd", [n, k], [(i, limbs(a + b, n, k + 1)) for i, a, b in ins]))
+        cases.append(Case("BigSubtract", [n, k],
+                          [(i, [limbs((a - b) % 2**(n * k), n, k), a < b]) for i, a, b in ins]))
+        cases.append(Case("BigLessThan", [n, k], [(i, [a < b]) for i, a, b in ins]))
+        cases.append(Case("BigIsEqual", [k], [(i, [a == b]) for i, a, b in ins]))
+    for n, k, m in ((8, 1, 1), (28, 3, 2), (24, 2, 4)):
+        cases.append(Case("BigMultiply", [n, k, m],
+                          [({"a": limbs(a, n, k), "b": limbs(b, n, m)}, limbs(a * b, n, k + m))
+                           for a, b in [*zip(big(n, k)[::-1], big(n, m)[::-1]), (7, 0)]]))
+    for n, k, m in ((8, 1, 1), (28, 3, 2), (10, 2, 3)):
+        many = [(a, b) for a in big(n, k)[::-1][:4] for b in big(n, m)[1:4]]
+        cases.append(Case("BigDivide", [n, k, m],
+                          [({"dividend": limbs(a, n, k), "divisor": limbs(b, n, m)},
+                            [limbs(a // b, n, k), limbs(a % b, n, m)]) for a, b in many if b],
+                          [{"dividend": limbs(5, n, k), "divisor": [0] * m}]))
+    for n, k in ((8, 1), (28, 2)):
+        many = [(a, b, c) for a, b, c in zip(big(n, k)[::-1], big(n, k)[1:], big(n, k)[::-1]) if c]
+        cases.append(Case("BigMultiplyModulo", [n, k],
+                          [({"a": limbs(a, n, k), "b": limbs(b, n, k), "modulus": limbs(c, n, k)},
+                            limbs(a * b % c, n, k)) for a, b, c in many],
+                          [{"a": [1] * k, "b": [1] * k, "modulus": [0] * k}]))
+    return group(*cases)
+
+
+def value_at(coefficients, x):
+    return sum(c * pow(x, i, P) for i, c in enumerate(coefficients)) % P
+
+
+def of_polynomial():
+    cases = [Case("Powers", [n], [({"in": v}, [pow(v, i + 1, P) for i in range(n)])
+                                  for v in NUMBERS]) for n in (1, 5)]
+    for n in (1, 2, 6):
+        coefficients = some(P, n)
+        cases.append(Case("Evaluate", [n],
+                          [({"coefficient": coefficients, "x": x}, [value_at(coefficients, x)])
+                           for x in some(P, 2) + [0, 1, P - 1]]))
+        cases.append(Case("EvaluateKnown", [n, coefficients],
+                          [({"x": x}, [value_at(coefficients, x)])
+                           for x in some(P, 2) + [0, 1, P - 1]]))
+    for n, m in ((1, 1), (3, 2)):
+        a, b = some(P, n), some(P, m)
+        due = [sum(a[i] * b[k - i] for i in range(n) if 0 <= k - i < m) for k in range(n + m - 1)]
+        cases.append(Case("MultiplyPolynomials", [n, m], [({"a": a, "b": b}, due)]))
+    for n in (2, 5):
+        coefficients = some(P, n)
+        values = [value_at(coefficients, i) for i in range(n)]
+        cases.append(Case("Interpolate", [n],
+                          [({"value": values, "x": x}, [value_at(coefficients, x)])
+                           for x in some(P, 2) + [0, 1, n - 1, n, P - 1]]))
+    return group(*cases)
+
+
+def of_matrix():
+    cases = []
+    for n in (1, 4):
+        a, b = some(P, n), some(P, n)
+        cases.append(Case("InnerProduct", [n],
+                          [({"a": a, "b": b}, [sum(x * y for x, y in zip(a, b))])]))
+    for n, m, k in ((1, 1, 1), (2, 3, 2)):
+        a, b = [some(P, m) for _ in range(n)], [some(P, k) for _ in range(m)]
+        cases.append(Case("MultiplyMatrices", [n, m, k],
+                          [({"a": a, "b": b}, constants.product(a, b, P))]))
+        column = some(P, m)
+        cases.append(Case("ApplyKnown", [n, m, a],
+                          [({"in": column}, constants.product(a, [[x] for x in column], P))]))
+        cases.append(Case("Transpose", [n, m], [({"in": a}, [list(row) for row in zip(*a)])]))
+    for matrix, inverse in (([[3]], [[pow(3, -1, P)]]), ([[2, 3], [3, 4]], [[-4, 3], [3, -2]])):
+        n = len(matrix)
+        right = some(P, n)
+        inverse = [[x % P for x in row] for row in inverse]
+        given = {"matrix": matrix, "inverse": inverse, "right": right}
+        cases.append(Case("SolveLinear", [n],
+                          [(given, constants.product(inverse, [[x] for x in right], P))],
+                          [{**given, "inverse": [wrong(row) for row in inverse]},
+                           {**given, "matrix": [[0] * n] * n}]))
+    return group(*cases)
+
+
+def of_sort():
+    cases = []
+    for k, n in ((1, 8), (2, 1), (5, 16), (8, 62)):
+        rows = [some(2**n, k), sorted(some(2**n, k)), sorted(some(2**n, k))[::-1],
+                [2**n - 1] * k, [0] * (k - 1) + [1], [1] + [0] * (k - 1)]
+        out = [{"in": row[:-1] + [v]} for row in rows[:1] for v in (2**n, P - 1)]
+        cases.append(Case("Sort", [k, n], [({"in": row}, sorted(row)) for row in rows], out))
+        out = out + [{"in": row} for row in rows if row != sorted(row)]
+        cases.append(Case("AssertSorted", [k, n], [({"in": sorted(row)}, []) for row in rows], out))
+    for k in (1, 2, 5, 8):
+        rows = [some(P, k), [7] * k, [i // 2 for i in range(k)]]
+        good = [(row, random.sample(row, k)) for row in rows for _ in range(3)]
+        cases.append(Case("AssertPermutation", [k], [({"a": a, "b": b}, []) for a, b in good],
+                          [{"a": a, "b": wrong(b)} for a, b in good[::3]]
+                          + [{"a": list(range(k)), "b": [0] * k}] * (k > 1)))
+    return group(*cases)
+
+
+def of_strings():
+    cases = []
+    for m in (1, 7, 8, 15):
+        a = some(256, m)
+        others = [a[:i] + [a[i] ^ 1] + a[i + 1:] for i in range(m)]
+        cases.append(Case("EqualStrings", [m], [({"a": a, "b": b}, [a == b])
+                                                for b in [a, *others, [0] * m]]))
+    cases.append(Case("EqualStrings", [2], [({"a": [97 + 256, 97], "b": [97, 98]}, [1])]))
+    texts = (b"abracadabra abr", b"aaaaaaaaaaaaaaa", b"bracabrabracaba")
+    for n, m, pattern in ((15, 4, b"abra"), (15, 1, b"a"), (15, 9, b"abracadab"), (15, 15, texts[0])):
+        ins = [({"text": list(text), "pattern": list(pattern)},
+                [text[i:i + m] == pattern for i in range(n - m + 1)]) for text in texts]
+        cases.append(Case("Matches", [n, m], ins))
+        cases.append(Case("CountMatches", [n, m], [(i, [sum(due)]) for i, due in ins]))
+        cases.append(Case("Contains", [n, m], [(i, [any(due)]) for i, due in ins]))
+        at = [({**i, "place": place}, [due[place]])
+              for i, due in ins for place in sorted({0, (n - m) // 2, n - m})]
+        cases.append(Case("MatchesAt", [n, m], at,
+                          [{**ins[0][0], "place": v} for v in (n - m + 1, P - 1)]))
+    return group(*cases)
+
+
+# The templates with outputs that `determine` doesn't show: those with a test for 0, a row with a
+# single 1, an inverse, or a quotient, each of which is found by a product.
+NOT_SHOWN = {
+    "Num2Bits64", "IsZero", "IsEqual", "AreZero", "LessThan64", "IsNegative", "MultiAND", "MultiOR",
+    "Decoder", "Select", "SelectRow", "Replace", "DivideWithRemainder", "Inverse", "Divide",
+    "EqualStrings", "Matches", "CountMatches", "Contains", "MatchesAt", "BigIsEqual", "BigDivide",
+    "BigMultiplyModulo"}
+
 FILES = {"bits": of_bits, "comparators": of_comparators, "range": of_range, "gates": of_gates,
-         "select": of_select, "words": of_words, "arithmetic": of_arithmetic}
+         "select": of_select, "words": of_words, "arithmetic": of_arithmetic, "sha256": of_sha256,
+         "poseidon": of_poseidon, "merkle": of_merkle, "bigint": of_bigint,
+         "polynomial": of_polynomial, "matrix": of_matrix, "sort": of_sort, "strings": of_strings}

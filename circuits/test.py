@@ -11,7 +11,9 @@ four workers:
   time: a constraint fails each time, by a reading of the .r1cs file in Python. Of some the changed
   .wtns file is written, and `check` has to name the same constraint.
 
-Where the inputs leave another signal free, which a template then says, a case names how many.
+At --O1 `determine` has to find that the inputs determine the outputs, and `confirm` to confirm what
+it wrote, but for the templates of NOT_SHOWN, whose outputs its rules don't reach. Where the program
+has no such command that isn't tried.
 """
 
 import os
@@ -22,7 +24,7 @@ import sys
 import tempfile
 import time
 
-from cases import FILES, P
+from cases import FILES, NOT_SHOWN, P
 
 HERE = os.path.dirname(os.path.abspath(__file__))
 PROGRAM = os.path.abspath(os.environ.get("PROGRAM", os.path.join(HERE, "..", "circom_gold")))
@@ -30,6 +32,10 @@ PROGRAM = os.path.abspath(os.environ.get("PROGRAM", os.path.join(HERE, "..", "ci
 CHECKED = int(os.environ.get("CHECKED", "6"))
 # Whether only --O1, one size, one number of workers and few inputs of each template are tried.
 QUICK = "QUICK" in os.environ
+
+# Whether the program has the commands determine and confirm: else these words have no reading.
+HAS_DETERMINE = subprocess.run([PROGRAM, "determine", "/dev/null", "/dev/null"],
+                               stdout=subprocess.DEVNULL, check=False).returncode != 64
 
 
 class Wrong(Exception):
@@ -154,6 +160,18 @@ def try_changes(case, folder, file, what):
     return len(changed)
 
 
+def try_certificate(case, folder, what):
+    """Whether `determine` shows the outputs, and `confirm` confirms it."""
+    if not HAS_DETERMINE:
+        return
+    status, text = run(folder, "determine", "f.r1cs", "f.cert")
+    if case.template in NOT_SHOWN:
+        expect((status, text[:19]), (2, "undetermined: wire "), what + ": determine")
+    else:
+        expect((status, text), (0, "determined\n"), what + ": determine")
+        expect(run(folder, "confirm", "f.r1cs", "f.cert"), (0, "confirmed\n"), what + ": confirm")
+
+
 def try_case(case, source, folder):
     """Tries a case, and gives the constraints at --O1 and how much was tried."""
     call = "%s(%s)" % (case.template, ", ".join(as_source(p) for p in case.parameters))
@@ -166,6 +184,8 @@ def try_case(case, source, folder):
         expect((status, text[:9]), (0, "compiled:"), what + ": " + text)
         file = R1cs(os.path.join(folder, "f.r1cs"))
         constraints[level] = len(file.constraints)
+        if level == "--O1":
+            try_certificate(case, folder, what)
         for number, (given, due) in enumerate(case.accepts):
             with open(os.path.join(folder, "i.json"), "w", encoding="utf-8") as out:
                 out.write(as_json(given))
@@ -231,6 +251,8 @@ def main():
             except Wrong as fault:
                 wrong += 1
                 print("WRONG %s: %s" % (template, fault), flush=True)
+    if not HAS_DETERMINE:
+        print("the program has no `determine`: no certificate was tried")
     print("%d templates wrong" % wrong)
     return 1 if wrong else 0
 

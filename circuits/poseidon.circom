@@ -1,0 +1,97 @@
+// Poseidon over this field: a permutation of 12 words by x^7, a hash of any number of words, and a
+// hash of two digests. A digest is 4 words. constants.py says where the numbers come from; they can
+// be computed again, and are compared with no vector of another program.
+pragma circom 2.1.0;
+
+include "poseidon_constants.circom";
+
+// The permutation.
+//
+// Between the rounds no word has a signal of its own: the linear parts are carried along in the
+// variables of `state`.
+//
+// Inputs: any numbers of the field.
+// Constrains: out is the permutation of `in`.
+// The caller must: nothing.
+template PoseidonPermutation() {
+  signal input in[12];
+  signal output out[12];
+  var half = poseidon_full_rounds() \ 2;
+  var partial = poseidon_partial_rounds();
+  var rounds = 2*half + partial;
+  var boxes = 24*half + partial;
+  var constants[12*rounds] = poseidon_constants();
+  var matrix[12][12] = poseidon_matrix();
+  signal second[boxes];
+  signal third[boxes];
+  signal sixth[boxes];
+  signal seventh[boxes];
+  var state[12] = in;
+  var box = 0;
+  for (var r = 0; r < rounds; r++) {
+    var raised[12];
+    for (var i = 0; i < 12; i++) {
+      raised[i] = state[i] + constants[12*r + i];
+      if (i == 0 || r < half || r >= half + partial) {
+        second[box] <== raised[i]*raised[i];
+        third[box] <== second[box]*raised[i];
+        sixth[box] <== third[box]*third[box];
+        seventh[box] <== sixth[box]*raised[i];
+        raised[i] = seventh[box];
+        box++;
+      }
+    }
+    for (var i = 0; i < 12; i++) {
+      state[i] = 0;
+      for (var j = 0; j < 12; j++) { state[i] += matrix[i][j]*raised[j]; }
+    }
+  }
+  for (var i = 0; i < 12; i++) { out[i] <== state[i]; }
+}
+
+// The hash of n words: a sponge with a rate of 8 words and a capacity of 4.
+//
+// The words are followed by a 1 and by as many zeros as fill the last block of 8. Each block is
+// added to the first 8 words of the state, which is 0 at first, and the state is permuted. So
+// messages of different lengths have different blocks.
+//
+// Parameters: n is 0 or more.
+// Inputs: any numbers of the field.
+// Constrains: out is the first 4 words of the state behind the last block.
+// The caller must: nothing.
+template PoseidonHash(n) {
+  signal input in[n];
+  signal output out[4];
+  var blocks = n \ 8 + 1;
+  component permutation[blocks];
+  for (var k = 0; k < blocks; k++) {
+    permutation[k] = PoseidonPermutation();
+    for (var i = 0; i < 12; i++) {
+      var word = k > 0 ? permutation[k - 1].out[i] : 0;
+      if (i < 8 && 8*k + i < n) { word += in[8*k + i]; }
+      if (i < 8 && 8*k + i == n) { word += 1; }
+      permutation[k].in[i] <== word;
+    }
+  }
+  for (var i = 0; i < 4; i++) { out[i] <== permutation[blocks - 1].out[i]; }
+}
+
+// The hash of two digests, as a node of a tree has it: one permutation.
+//
+// The capacity begins with 1, so that no node is the hash of words by PoseidonHash.
+//
+// Inputs: any numbers of the field.
+// Constrains: out is the first 4 words of the permutation of left, right and 1, 0, 0, 0.
+// The caller must: nothing.
+template PoseidonNode() {
+  signal input left[4];
+  signal input right[4];
+  signal output out[4];
+  component permutation = PoseidonPermutation();
+  for (var i = 0; i < 4; i++) {
+    permutation.in[i] <== left[i];
+    permutation.in[i + 4] <== right[i];
+    permutation.in[i + 8] <== i == 0;
+  }
+  for (var i = 0; i < 4; i++) { out[i] <== permutation.out[i]; }
+}
