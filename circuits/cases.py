@@ -528,6 +528,21 @@ def of_strings():
     return group(*cases)
 
 
+# Parameters that are refused as the source is compiled.
+BAD_PARAMETERS = {
+    "bits": {"Num2Bits": ([0], [64], [254]), "Bits2Num": ([0], [64])},
+    "comparators": {"LessThan": ([0], [63], [252]), "LessThanChecked": ([63],), "MinMax": ([63],),
+                    "AreZero": ([0], [65537])},
+    "range": {"AssertRange": ([64],), "AssertBetween": ([5, 4], [0, 2**62]), "AssertDistinct": ([1],)},
+    "select": {"MultiMux": ([0, 1], [17, 1])},
+    "words": {"Num2Bytes": ([8],), "Bytes2Num": ([8],), "Bitwise": ([63],), "RotateLeft": ([8, 8],)},
+    "arithmetic": {"AddWords": ([62, 4],), "DivideWithRemainder": ([32, 32], [0, 8])},
+    "bigint": {"Carry": ([8, 1, 7], [8, 1, 63]), "BigAdd": ([62, 1],), "BigSubtract": ([62, 1],),
+               "BigMultiply": ([31, 1, 1],)},
+    "polynomial": {"Interpolate": ([1],)},
+    "strings": {"Matches": ([3, 4],)},
+}
+
 # The templates with outputs that `determine` doesn't show: those with a test for 0, a row with a
 # single 1, an inverse, or a quotient, each of which is found by a product.
 NOT_SHOWN = {

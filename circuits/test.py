@@ -24,7 +24,7 @@ import sys
 import tempfile
 import time
 
-from cases import FILES, NOT_SHOWN, P
+from cases import BAD_PARAMETERS, FILES, NOT_SHOWN, P
 
 HERE = os.path.dirname(os.path.abspath(__file__))
 PROGRAM = os.path.abspath(os.environ.get("PROGRAM", os.path.join(HERE, "..", "circom_gold")))
@@ -212,6 +212,17 @@ def try_case(case, source, folder):
     return call, constraints, changed
 
 
+def try_parameters(template, rows, source):
+    """Tries that `compile` refuses parameters."""
+    for row in rows:
+        call = "%s(%s)" % (template, ", ".join(as_source(p) for p in row))
+        with tempfile.TemporaryDirectory() as folder:
+            with open(os.path.join(folder, "main.circom"), "w", encoding="utf-8") as file:
+                file.write('include "%s.circom";\ncomponent main = %s;\n' % (source, call))
+            status, text = run(folder, "compile", "main.circom", "f.r1cs", "-l", HERE)
+            expect((status, text[:24]), (1, "refused: E18 AssertFalse"), call + ": " + text)
+
+
 def shortened(cases_of_template):
     """A case of each template, with few inputs, at one level."""
     case = cases_of_template[min(1, len(cases_of_template) - 1)]
@@ -236,7 +247,9 @@ def main():
             if QUICK:
                 of_template = shortened(of_template)
             sizes, accepted, refused, changed = [], 0, 0, 0
+            bad = BAD_PARAMETERS.get(source, {}).get(template, ())
             try:
+                try_parameters(template, bad, source)
                 for case in of_template:
                     with tempfile.TemporaryDirectory() as folder:
                         call, counts, changes = try_case(case, source, folder)
@@ -245,8 +258,9 @@ def main():
                     accepted += len(case.accepts)
                     refused += len(case.refuses)
                     changed += changes
-                print("ok    %s: constraints %s; %d inputs accepted, %d refused, %d changes; %.1f s"
-                      % (template, ", ".join(sizes), accepted, refused, changed,
+                print("ok    %s: constraints %s; %d inputs accepted, %d refused, %d changes, "
+                      "%d bad parameters; %.1f s"
+                      % (template, ", ".join(sizes), accepted, refused, changed, len(bad),
                          time.time() - began), flush=True)
             except Wrong as fault:
                 wrong += 1
