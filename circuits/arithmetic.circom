@@ -30,9 +30,9 @@ template AddWords(n, k) {
 
 // The quotient and the remainder of whole numbers.
 //
-// With a quotient of m bits and a divisor and a remainder of n bits, quotient*divisor + remainder is
-// below 2^(m + n), which is below p. So it is the dividend as a whole number, and not only in the
-// field.
+// With a quotient of m bits and a divisor and a remainder of n bits, quotient*divisor + remainder
+// is below 2^(m + n), which is below p. So it is the dividend as a whole number, and not only in
+// the field.
 //
 // Parameters: m and n are 1 or more, and m + n is at most 63.
 // Inputs: any numbers of the field.
@@ -71,7 +71,8 @@ template Inverse() {
 // The quotient in the field.
 //
 // Inputs: any numbers of the field.
-// Constrains: out is a times the inverse of b, and b isn't 0. So b = 0 is refused, also where a is 0.
+// Constrains: out is a times the inverse of b, and b isn't 0. So b = 0 is refused, also where a is
+//   0.
 // The caller must: nothing.
 template Divide() {
   signal input a;

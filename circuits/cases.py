@@ -127,7 +127,8 @@ def of_range():
     cases.append(Case("AssertNonZero", [], [({"in": v}, []) for v in NUMBERS if v], [{"in": 0}]))
     for n in (2, 4):
         values = some(P, n)
-        cases.append(Case("AssertDistinct", [n], [({"in": values}, []), ({"in": list(range(n))}, [])],
+        good = [({"in": row}, []) for row in (values, list(range(n)))]
+        cases.append(Case("AssertDistinct", [n], good,
                           [{"in": values[:-1] + [values[k]]} for k in range(n - 1)]))
     return group(*cases)
 
@@ -364,8 +365,10 @@ def members(depth, leaves, digests, node, template, limit):
 def of_merkle():
     data = [some(256, 5) for _ in range(2)]
     digests = [leaf_of(each) for each in data]
-    cases = [Case("Sha256Leaf", [5], [({"in": data[0]}, digests[0])], [{"in": wrong(data[0], 256)}]),
-             Case("Sha256Node", [], [({"left": digests[0], "right": digests[1]}, node_of(*digests))],
+    cases = [Case("Sha256Leaf", [5], [({"in": data[0]}, digests[0])],
+                  [{"in": wrong(data[0], 256)}]),
+             Case("Sha256Node", [],
+                  [({"left": digests[0], "right": digests[1]}, node_of(*digests))],
                   [{"left": wrong(digests[0], 256), "right": digests[1]}])]
     for k in (1, 3):
         a, b = some(P, k), some(P, k)
@@ -515,7 +518,8 @@ def of_strings():
                                                 for b in [a, *others, [0] * m]]))
     cases.append(Case("EqualStrings", [2], [({"a": [97 + 256, 97], "b": [97, 98]}, [1])]))
     texts = (b"abracadabra abr", b"aaaaaaaaaaaaaaa", b"bracabrabracaba")
-    for n, m, pattern in ((15, 4, b"abra"), (15, 1, b"a"), (15, 9, b"abracadab"), (15, 15, texts[0])):
+    patterns = ((4, b"abra"), (1, b"a"), (9, b"abracadab"), (15, texts[0]))
+    for n, m, pattern in [(15, *row) for row in patterns]:
         ins = [({"text": list(text), "pattern": list(pattern)},
                 [text[i:i + m] == pattern for i in range(n - m + 1)]) for text in texts]
         cases.append(Case("Matches", [n, m], ins))
@@ -533,9 +537,11 @@ BAD_PARAMETERS = {
     "bits": {"Num2Bits": ([0], [64], [254]), "Bits2Num": ([0], [64])},
     "comparators": {"LessThan": ([0], [63], [252]), "LessThanChecked": ([63],), "MinMax": ([63],),
                     "AreZero": ([0], [65537])},
-    "range": {"AssertRange": ([64],), "AssertBetween": ([5, 4], [0, 2**62]), "AssertDistinct": ([1],)},
+    "range": {"AssertRange": ([64],), "AssertBetween": ([5, 4], [0, 2**62]),
+              "AssertDistinct": ([1],)},
     "select": {"MultiMux": ([0, 1], [17, 1])},
-    "words": {"Num2Bytes": ([8],), "Bytes2Num": ([8],), "Bitwise": ([63],), "RotateLeft": ([8, 8],)},
+    "words": {"Num2Bytes": ([8],), "Bytes2Num": ([8],), "Bitwise": ([63],),
+              "RotateLeft": ([8, 8],)},
     "arithmetic": {"AddWords": ([62, 4],), "DivideWithRemainder": ([32, 32], [0, 8])},
     "bigint": {"Carry": ([8, 1, 7], [8, 1, 63]), "BigAdd": ([62, 1],), "BigSubtract": ([62, 1],),
                "BigMultiply": ([31, 1, 1],)},

@@ -67,7 +67,8 @@ class Grain:
         self.size = prime.bit_length()
         fields = ((1, 2), (0, 4), (self.size, 12), (width, 12), (full, 10), (partial, 10),
                   (2**30 - 1, 30))
-        self.state = [int(bit) for number, count in fields for bit in format(number, "0%db" % count)]
+        self.state = [number >> place & 1 for number, count in fields
+                      for place in reversed(range(count))]
         for _ in range(160):
             self.shift()
 
@@ -226,12 +227,13 @@ function sha256_start(j) {
   ];
   return h[j];
 }
-""" % (rows_of(sha256_constants(), "0x%08x", 8, "    "), rows_of(sha256_start(), "0x%08x", 8, "    "))
+""" % tuple(rows_of(words, "0x%08x", 8, "    ") for words in (sha256_constants(), sha256_start()))
 
 
 def poseidon_text():
     full, partial, constants, matrix = poseidon()
-    return """// The numbers of Poseidon over this field, for %d words and x^%d, as constants.py computes them.
+    return """// The numbers of Poseidon over this field, for %d words and x^%d, as constants.py has
+// them.
 pragma circom 2.1.0;
 
 // The rounds in which each word is raised to its power, half of them before the others.

@@ -1,4 +1,5 @@
-// The numbers of Poseidon over this field, for 12 words and x^7, as constants.py computes them.
+// The numbers of Poseidon over this field, for 12 words and x^7, as constants.py has
+// them.
 pragma circom 2.1.0;
 
 // The rounds in which each word is raised to its power, half of them before the others.

@@ -134,8 +134,8 @@ template Sha256Blocks(n) {
 //
 // Parameters: n is 0 or more.
 // Inputs: any numbers of the field.
-// Constrains: each in[i] is 0 to 255, and out is the SHA-256 digest of these bytes. Other inputs are
-//   refused.
+// Constrains: each in[i] is 0 to 255, and out is the SHA-256 digest of these bytes. Other inputs
+//   are refused.
 // The caller must: nothing.
 template Sha256(n) {
   signal input in[n];

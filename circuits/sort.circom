@@ -1,16 +1,16 @@
-// Sorting, and permutations, by networks. The network is Batcher's merge exchange (Knuth, The Art of
-// Computer Programming, section 5.2.2, algorithm M), which takes any number of places.
+// Sorting, and permutations, by networks. The network is Batcher's merge exchange (Knuth, The Art
+// of Computer Programming, section 5.2.2, algorithm M), which takes any number of places.
 //
-// A product over all numbers at one point would be cheaper, but it shows nothing unless the point is
-// drawn at random after the numbers are fixed, and a circuit has no such point.
+// A product over all numbers at one point would be cheaper, but it shows nothing unless the point
+// is drawn at random after the numbers are fixed, and a circuit has no such point.
 pragma circom 2.1.0;
 
 include "comparators.circom";
 include "range.circom";
 include "select.circom";
 
-// The places that the network's exchanges compare, two by two, in their order: the first 2c numbers,
-// where c is exchanges(k).
+// The places that the network's exchanges compare, two by two, in their order: the first 2c
+// numbers, where c is exchanges(k).
 function network(k) {
   var places[k*k + 2];
   var count = 0;

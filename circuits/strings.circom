@@ -1,8 +1,8 @@
 // Strings of bytes in strings of bytes.
 //
-// Up to seven bytes are compared at once: as digits to the base 256 they are a number below 2^56, so
-// the difference of two such numbers is 0 in the field only where all bytes are equal. That holds
-// for bytes alone; the caller must have checked that each is 0 to 255 (AssertRanges(n, 8) of
+// Up to seven bytes are compared at once: as digits to the base 256 they are a number below 2^56,
+// so the difference of two such numbers is 0 in the field only where all bytes are equal. That
+// holds for bytes alone; the caller must have checked that each is 0 to 255 (AssertRanges(n, 8) of
 // range.circom does it). With unchecked bytes a text of 97 + 256 and 97 matches the pattern 97, 98.
 pragma circom 2.1.0;
 
@@ -79,8 +79,8 @@ template Contains(n, m) {
 //
 // Parameters: as for Matches.
 // Inputs: bytes, checked by the caller; `place` is any number of the field.
-// Constrains: `place` is 0 to n - m, and out is 1 where text[place + j] is pattern[j] for all j, else
-//   0. Other places are refused.
+// Constrains: `place` is 0 to n - m, and out is 1 where text[place + j] is pattern[j] for all j,
+//   else 0. Other places are refused.
 template MatchesAt(n, m) {
   signal input text[n];
   signal input pattern[m];

@@ -1,4 +1,4 @@
-"""Prints the input of member.circom: leaf number 5 of a tree whose leaf i has the words i and i*i."""
+"""Prints the input of member.circom: leaf 5 of a tree whose leaf i has the words i and i*i."""
 
 import json
 import os
@@ -11,4 +11,4 @@ PLACE = 5
 leaves = [[i, i * i] for i in range(8)]
 root, path = path_of([poseidon_hash(leaf) for leaf in leaves], PLACE, poseidon_node)
 values = {"leaf": leaves[PLACE], "place": bits(PLACE, 3), "path": path, "root": root}
-print(json.dumps(values))
+print(json.dumps(values, indent=1))
