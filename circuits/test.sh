@@ -9,4 +9,5 @@
 # It ends with 1 where anything is wrong.
 here=$(dirname "$(readlink -f "$0")")
 . "$here/../allocator.sh"
-exec python3 "$here/test.py" "$@"
+# No folder of compiled Python is left beside the circuits.
+PYTHONDONTWRITEBYTECODE=1 exec python3 "$here/test.py" "$@"
