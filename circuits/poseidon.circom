@@ -41,9 +41,12 @@ template PoseidonPermutation() {
         box++;
       }
     }
+    // One statement a word, and not one a product: each is a step of the run.
     for (var i = 0; i < 12; i++) {
-      state[i] = 0;
-      for (var j = 0; j < 12; j++) { state[i] += matrix[i][j]*raised[j]; }
+      state[i] = matrix[i][0]*raised[0] + matrix[i][1]*raised[1] + matrix[i][2]*raised[2]
+        + matrix[i][3]*raised[3] + matrix[i][4]*raised[4] + matrix[i][5]*raised[5]
+        + matrix[i][6]*raised[6] + matrix[i][7]*raised[7] + matrix[i][8]*raised[8]
+        + matrix[i][9]*raised[9] + matrix[i][10]*raised[10] + matrix[i][11]*raised[11];
     }
   }
   for (var i = 0; i < 12; i++) { out[i] <== state[i]; }
