@@ -8,13 +8,13 @@ use Rattle.out_io.specs.declared.fault.IoFault.{IoFault}
 use Rattle.iden_files.specs.File.{InLimits}
 use Rattle.lig_proof.specs.declared.verdict.Verdict.{Verdict as Audited}
 use Rattle.lig_proof.specs.declared.verdict.Verdict.TheVariants as audits
-use Rattle.circom_words.specs.declared.answer.Verdict.{Verdict}
-use Rattle.circom_words.specs.declared.answer.Verdict.TheVariants.{CountsDiffer, WireZero}
-use Rattle.circom_words.specs.declared.answer.Verdict.TheVariants.{ConstraintFails, Satisfied}
-use Rattle.circom_words.specs.Lines.{verdict_status}
-use Rattle.circom_words.specs.Proving.{audit_status}
+use Rattle.circom_lines.specs.declared.answer.Verdict.{Verdict}
+use Rattle.circom_lines.specs.declared.answer.Verdict.TheVariants.{CountsDiffer, WireZero}
+use Rattle.circom_lines.specs.declared.answer.Verdict.TheVariants.{ConstraintFails, Satisfied}
+use Rattle.circom_lines.specs.Lines.{verdict_status}
+use Rattle.circom_lines.specs.Proving.{audit_status}
 use Rattle.circom_words.specs.Words.{ProveOptions}
-use Rattle.circom_words.specs.declared.answer.Refusal.{Refusal}
+use Rattle.circom_lines.specs.declared.answer.Refusal.{Refusal}
 use Rattle.circom_files.specs.Accepted.{IsAccepted, IsProofOf, WritesProof}
 use Rattle.circom_files.specs.Proving.{Audits, FoundIn, IsAudited, IsProved, Proves, offer_of}
 use Rattle.circom_files.specs.Proving.{witness_of}

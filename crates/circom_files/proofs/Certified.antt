@@ -22,7 +22,7 @@ use Rattle.cir_determined.specs.declared.rule.Answer.TheVariants.{Shown, NotShow
 use Rattle.cir_determined.specs.declared.rule.Confirm.{Confirm}
 use Rattle.cir_determined.specs.declared.rule.Confirm.TheVariants.{Confirmed, BadRule, Short}
 use Rattle.cir_determined.specs.declared.rule.Rule.{Rule}
-use Rattle.circom_words.specs.declared.answer.Refusal.{Refusal}
+use Rattle.circom_lines.specs.declared.answer.Refusal.{Refusal}
 use Rattle.circom_files.specs.Determining.{AreCertificate, Confirms, HoldsCertificate, IsConfirmed}
 use Rattle.circom_files.specs.Determining.{HasDetermined, IsReadBack, IsSearched, Searches}
 use Rattle.circom_files.specs.Determining.{WritesCertificate, WritesRules, circuit_of, claim_of}

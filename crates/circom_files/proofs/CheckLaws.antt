@@ -11,9 +11,9 @@ use Rattle.iden_files.specs.File.{File}
 use Rattle.lig_complete.proofs.Answered.{all_hold}
 use Rattle.circom_files.specs.Check.{verdict, satisfaction}
 use Rattle.circom_files.specs.Satisfaction.{IsAssignment, Satisfies, IsLeastFailing, FailsFirstAt}
-use Rattle.circom_words.specs.declared.answer.Verdict.{Verdict}
-use Rattle.circom_words.specs.declared.answer.Verdict.TheVariants.{CountsDiffer, WireZero}
-use Rattle.circom_words.specs.declared.answer.Verdict.TheVariants.{ConstraintFails, Satisfied}
+use Rattle.circom_lines.specs.declared.answer.Verdict.{Verdict}
+use Rattle.circom_lines.specs.declared.answer.Verdict.TheVariants.{CountsDiffer, WireZero}
+use Rattle.circom_lines.specs.declared.answer.Verdict.TheVariants.{ConstraintFails, Satisfied}
 
 -- the first n constraints hold
 abbrev Pass : List ℕ → List Constraint → ℕ → Type 0

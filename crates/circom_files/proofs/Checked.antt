@@ -5,7 +5,7 @@ use Rattle.out_io.specs.Contents.{Contents}
 use Rattle.iden_files.specs.File.{File}
 use Rattle.iden_files.specs.ReadR1cs.{r1cs_of}
 use Rattle.iden_files.specs.ReadWtns.{wtns_of}
-use Rattle.circom_words.specs.declared.answer.Refusal.{Refusal}
+use Rattle.circom_lines.specs.declared.answer.Refusal.{Refusal}
 use Rattle.circom_files.specs.Check.{check_of, verdict}
 use Rattle.circom_files.specs.Files.{accepted, bytes_in, r1cs_in, wtns_in}
 

@@ -9,7 +9,7 @@ use Rattle.out_io.proofs.Telling.{told_on}
 use Rattle.iden_files.specs.File.{File}
 use Rattle.iden_files.specs.ReadR1cs.{r1cs_of}
 use Rattle.wit_input.specs.Publics.{publics_of}
-use Rattle.circom_words.specs.declared.answer.Refusal.{Refusal}
+use Rattle.circom_lines.specs.declared.answer.Refusal.{Refusal}
 use Rattle.circom_files.specs.Files.{accepted, accepted_publics, bytes_in, publics_in}
 use Rattle.circom_files.specs.Proving.{FoundIn, offer_of}
 use Rattle.circom_files.specs.Steps.{Gets, Steps, StepsFrom, StepsTo, WereRead}

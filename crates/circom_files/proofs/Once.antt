@@ -12,7 +12,7 @@ use Rattle.lig_proof.proofs.MadeOnce.{proofs_are_one}
 use Rattle.lig_proof.proofs.VerdictOnce.{verdicts_are_one}
 use Rattle.lig_proof.specs.declared.verdict.Verdict.{Verdict as Audited}
 use Rattle.circom_words.specs.Words.{ProveOptions}
-use Rattle.circom_words.specs.declared.answer.Refusal.{Refusal}
+use Rattle.circom_lines.specs.declared.answer.Refusal.{Refusal}
 use Rattle.circom_files.specs.Files.{bytes_in, accepted, r1cs_in, wtns_in, publics_in}
 use Rattle.circom_files.specs.Proving.{FoundIn, IsAudited, IsProved, Audits, Proves, offer_of}
 use Rattle.circom_files.specs.Proving.{witness_of}

@@ -13,9 +13,9 @@ use Rattle.iden_files.specs.ReadR1cs.{r1cs_of}
 use Rattle.iden_files.specs.ReadWtns.{wtns_of}
 use Rattle.cir_determined.specs.Text.{rules_of}
 use Rattle.cir_determined.specs.declared.rule.Rule.{Rule}
-use Rattle.circom_words.specs.declared.answer.Refusal.{Refusal}
-use Rattle.circom_words.specs.declared.answer.Refusal.TheVariants.{NoSuchFile}
-use Rattle.circom_words.specs.declared.answer.Verdict.{Verdict}
+use Rattle.circom_lines.specs.declared.answer.Refusal.{Refusal}
+use Rattle.circom_lines.specs.declared.answer.Refusal.TheVariants.{NoSuchFile}
+use Rattle.circom_lines.specs.declared.answer.Verdict.{Verdict}
 use Rattle.circom_files.specs.Check.{check_of, verdict}
 use Rattle.circom_files.specs.Determining.{claim_of}
 use Rattle.circom_files.specs.Files.{accepted, accepted_rules, bytes_in, r1cs_in, rules_in}

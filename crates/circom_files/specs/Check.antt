@@ -6,10 +6,10 @@ use Rattle.out_io.specs.Contents.{Contents}
 use Rattle.iden_files.specs.Failing.{first_failing_from}
 use Rattle.iden_files.specs.File.{File}
 use Rattle.circom_files.specs.Files.{r1cs_in, wtns_in}
-use Rattle.circom_words.specs.declared.answer.Refusal.{Refusal}
-use Rattle.circom_words.specs.declared.answer.Verdict.{Verdict}
-use Rattle.circom_words.specs.declared.answer.Verdict.TheVariants.{CountsDiffer, WireZero}
-use Rattle.circom_words.specs.declared.answer.Verdict.TheVariants.{ConstraintFails, Satisfied}
+use Rattle.circom_lines.specs.declared.answer.Refusal.{Refusal}
+use Rattle.circom_lines.specs.declared.answer.Verdict.{Verdict}
+use Rattle.circom_lines.specs.declared.answer.Verdict.TheVariants.{CountsDiffer, WireZero}
+use Rattle.circom_lines.specs.declared.answer.Verdict.TheVariants.{ConstraintFails, Satisfied}
 
 -- the least constraint that fails, if one does
 abbrev pub satisfaction : Option ℕ → Verdict

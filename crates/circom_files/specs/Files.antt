@@ -9,13 +9,13 @@ use Rattle.iden_files.specs.Refusal.{Refusal as Fault}
 use Rattle.text_lines.specs.Reading.{LineRefusal, bad, over}
 use Rattle.cir_determined.specs.Text.{rules_of}
 use Rattle.cir_determined.specs.declared.rule.Rule.{Rule}
-use Rattle.circom_words.specs.declared.answer.Refusal.{Refusal}
-use Rattle.circom_words.specs.declared.answer.Refusal.TheVariants.{NoSuchFile, BadFile, BadRules}
-use Rattle.circom_words.specs.declared.answer.RuleCause.TheVariants.{BadLine, Limit}
-use Rattle.circom_words.specs.declared.answer.Refusal.TheVariants.{BadInput as BadInputs}
-use Rattle.circom_words.specs.declared.answer.BadInput.{BadInput}
-use Rattle.circom_words.specs.declared.answer.BadInput.TheVariants.{NotJson}
-use Rattle.circom_words.specs.declared.answer.BadInput.TheVariants.{BadNumber as BadNumbers}
+use Rattle.circom_lines.specs.declared.answer.Refusal.{Refusal}
+use Rattle.circom_lines.specs.declared.answer.Refusal.TheVariants.{NoSuchFile, BadFile, BadRules}
+use Rattle.circom_lines.specs.declared.answer.RuleCause.TheVariants.{BadLine, Limit}
+use Rattle.circom_lines.specs.declared.answer.Refusal.TheVariants.{BadInput as BadInputs}
+use Rattle.circom_lines.specs.declared.answer.BadInput.{BadInput}
+use Rattle.circom_lines.specs.declared.answer.BadInput.TheVariants.{NotJson}
+use Rattle.circom_lines.specs.declared.answer.BadInput.TheVariants.{BadNumber as BadNumbers}
 use Rattle.wit_input.specs.Publics.{publics_of}
 use Rattle.wit_input.specs.declared.fault.InputFault.{InputFault}
 use Rattle.wit_input.specs.declared.fault.InputFault.TheVariants.{BadNumber}

@@ -11,9 +11,9 @@ use Rattle.lig_proof.specs.Acceptance.{IsVerdict}
 use Rattle.lig_proof.specs.Proving.{AreMade}
 use Rattle.lig_proof.specs.declared.verdict.Verdict.{Verdict as Audited}
 use Rattle.circom_words.specs.Words.{ProveOptions}
-use Rattle.circom_words.specs.declared.answer.Refusal.{Refusal}
-use Rattle.circom_words.specs.declared.answer.Verdict.TheVariants.{CountsDiffer, WireZero}
-use Rattle.circom_words.specs.declared.answer.Verdict.TheVariants.{Satisfied}
+use Rattle.circom_lines.specs.declared.answer.Refusal.{Refusal}
+use Rattle.circom_lines.specs.declared.answer.Verdict.TheVariants.{CountsDiffer, WireZero}
+use Rattle.circom_lines.specs.declared.answer.Verdict.TheVariants.{Satisfied}
 use Rattle.circom_files.specs.Check.{verdict}
 use Rattle.circom_files.specs.Files.{bytes_in, accepted, r1cs_in, wtns_in, publics_in}
 use Rattle.circom_files.specs.declared.outcome.Witness.{Witness}

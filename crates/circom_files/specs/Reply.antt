@@ -8,13 +8,13 @@ use Rattle.cir_determined.specs.declared.rule.Answer.TheVariants.{Shown, NotShow
 use Rattle.cir_determined.specs.declared.rule.Confirm.{Confirm}
 use Rattle.lig_proof.specs.declared.verdict.Verdict.{Verdict as Audited}
 use Rattle.wit_input.specs.Publics.{publics_text}
-use Rattle.circom_words.specs.Determining.{confirmed_line, confirmed_status, determined_line}
-use Rattle.circom_words.specs.Determining.{undetermined_line}
-use Rattle.circom_words.specs.Lines.{usage_line, fault_line, refusal_line, verdict_status}
-use Rattle.circom_words.specs.Lines.{verdict_line}
-use Rattle.circom_words.specs.Proving.{proved_line, public_line, audit_status, audit_line}
-use Rattle.circom_words.specs.declared.answer.Refusal.{Refusal}
-use Rattle.circom_words.specs.declared.answer.Verdict.{Verdict}
+use Rattle.circom_lines.specs.Determining.{confirmed_line, confirmed_status, determined_line}
+use Rattle.circom_lines.specs.Determining.{undetermined_line}
+use Rattle.circom_lines.specs.Lines.{usage_line, fault_line, refusal_line, verdict_status}
+use Rattle.circom_lines.specs.Lines.{verdict_line}
+use Rattle.circom_lines.specs.Proving.{proved_line, public_line, audit_status, audit_line}
+use Rattle.circom_lines.specs.declared.answer.Refusal.{Refusal}
+use Rattle.circom_lines.specs.declared.answer.Verdict.{Verdict}
 use Rattle.circom_files.specs.declared.outcome.Outcome.{Outcome}
 use Rattle.circom_files.specs.declared.outcome.Outcome.TheVariants.{Made, Unmade}
 use Rattle.circom_files.specs.declared.outcome.Published.{Published}

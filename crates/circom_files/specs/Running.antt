@@ -8,12 +8,12 @@ use Rattle.cir_values.specs.declared.signals.InputShape.{InputShape}
 use Rattle.wit_input.specs.Input.{input_of}
 use Rattle.wit_input.specs.declared.fault.InputFault.{InputFault}
 use Rattle.wit_input.specs.declared.fault.InputFault.TheVariants as input
-use Rattle.circom_words.specs.RunLines.{log_text, stop_line, witness_line, generated_line}
-use Rattle.circom_words.specs.declared.answer.Refusal.{Refusal}
-use Rattle.circom_words.specs.declared.answer.Refusal.TheVariants.{BadInput as BadInputs}
-use Rattle.circom_words.specs.declared.answer.BadInput.{BadInput}
-use Rattle.circom_words.specs.declared.answer.BadInput.TheVariants.{NotJson, Missing, UnknownSignal}
-use Rattle.circom_words.specs.declared.answer.BadInput.TheVariants.{WrongCount, BadNumber}
+use Rattle.circom_lines.specs.RunLines.{log_text, stop_line, witness_line, generated_line}
+use Rattle.circom_lines.specs.declared.answer.Refusal.{Refusal}
+use Rattle.circom_lines.specs.declared.answer.Refusal.TheVariants.{BadInput as BadInputs}
+use Rattle.circom_lines.specs.declared.answer.BadInput.{BadInput}
+use Rattle.circom_lines.specs.declared.answer.BadInput.TheVariants.{NotJson, Missing, UnknownSignal}
+use Rattle.circom_lines.specs.declared.answer.BadInput.TheVariants.{WrongCount, BadNumber}
 use Rattle.circom_files.specs.Files.{bytes_in}
 use Rattle.circom_files.specs.Reply.{Reply, written}
 use Rattle.circom_files.specs.declared.outcome.Halt.{Halt}

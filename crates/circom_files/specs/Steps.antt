@@ -6,9 +6,9 @@ use Rattle.iden_files.specs.declared.fault.FileFault.{FileFault}
 use Rattle.iden_files.specs.declared.fault.FileFault.TheVariants as file
 use Rattle.text_lines.specs.declared.reading.LineFault.{LineFault}
 use Rattle.text_lines.specs.declared.reading.LineFault.TheVariants as lines
-use Rattle.circom_words.specs.declared.answer.Refusal.{Refusal}
-use Rattle.circom_words.specs.declared.answer.Refusal.TheVariants.{BadFile, BadInput, BadRules}
-use Rattle.circom_words.specs.declared.answer.RuleCause.TheVariants.{BadLine, Limit}
+use Rattle.circom_lines.specs.declared.answer.Refusal.{Refusal}
+use Rattle.circom_lines.specs.declared.answer.Refusal.TheVariants.{BadFile, BadInput, BadRules}
+use Rattle.circom_lines.specs.declared.answer.RuleCause.TheVariants.{BadLine, Limit}
 use Rattle.wit_input.specs.declared.fault.InputFault.{InputFault}
 use Rattle.wit_input.specs.declared.fault.InputFault.TheVariants as input
 use Rattle.circom_files.specs.Files.{bad_publics, bytes_in}

@@ -11,7 +11,7 @@ ghost use Rattle.out_io.specs.declared.fault.IoFault.TheVariants.{Failed};
 use crate::inputs::witness_in;
 use crate::reply::Reply;
 use crate::stop::Stop;
-use circom_words::Verdict;
+use circom_lines::Verdict;
 use gold_field::Gold;
 use iden_files::{R1cs, first_failing};
 use out_io::{IoFault, Store};

@@ -16,7 +16,7 @@ use crate::outcome::Witness;
 use crate::stop::Stop;
 use cir_ast::Text;
 use cir_determined::{Rule, RuleFault, read_rules};
-use circom_words::{BadInput, Refusal, RuleCause};
+use circom_lines::{BadInput, Refusal, RuleCause};
 use gold_field::Gold;
 use iden_files::{FileFault, R1cs, read_r1cs, read_wtns};
 use items::Items;

@@ -2,8 +2,8 @@ ghost use Rattle.std.specs.Prelude.{◌≡◌, ◌↔◌, ℕ, List};
 ghost use Rattle.iden_files.specs.File.{File};
 ghost use Rattle.circom_files.specs.Check.{verdict};
 ghost use Rattle.circom_files.specs.Satisfaction.{Satisfies, FailsFirstAt};
-ghost use Rattle.circom_words.specs.declared.answer.Verdict.TheVariants.{Satisfied};
-ghost use Rattle.circom_words.specs.declared.answer.Verdict.TheVariants.{ConstraintFails};
+ghost use Rattle.circom_lines.specs.declared.answer.Verdict.TheVariants.{Satisfied};
+ghost use Rattle.circom_lines.specs.declared.answer.Verdict.TheVariants.{ConstraintFails};
 
 /// What the answers of `check` mean: `satisfied` says that every constraint holds, and
 /// `unsatisfied: constraint K` that K is the least one that doesn't.

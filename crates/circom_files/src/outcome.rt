@@ -1,6 +1,6 @@
 use cir_ast::{Place, Text};
 use cir_determined::Rule;
-use circom_words::Verdict;
+use circom_lines::Verdict;
 use gold_field::Gold;
 use iden_files::R1cs;
 use items::Items;

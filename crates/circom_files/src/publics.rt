@@ -11,7 +11,7 @@ use crate::inputs::witness_in;
 use crate::outcome::Published;
 use crate::reply::Reply;
 use crate::stop::Stop;
-use circom_words::Verdict;
+use circom_lines::Verdict;
 use gold_field::Gold;
 use iden_files::R1cs;
 use items::Items;

@@ -1,12 +1,12 @@
 ghost use Rattle.std.specs.Prelude.{◌≡◌, ◌≤◌, ◌++◌, IfOk, length};
 ghost use Rattle.iden_files.specs.Limits.{most_wires};
-ghost use Rattle.circom_words.specs.RunLines.{log_text};
+ghost use Rattle.circom_lines.specs.RunLines.{log_text};
 ghost use Rattle.circom_files.specs.Shown.{shown};
 
 use crate::outcome::{Generated, Halt, Outcome, Published, Ran};
 use cir_ast::Text;
 use cir_determined::{Answer, Confirm, write_rules};
-use circom_words::{
+use circom_lines::{
     Refusal, Verdict, audit_line, audit_status, confirmed_line, confirmed_status, determined_line,
     fault_line, generated_line, log_text, proved_line, public_line, stop_line, undetermined_line,
     usage_line, witness_line,

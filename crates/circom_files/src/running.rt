@@ -9,7 +9,7 @@ ghost use Rattle.circom_files.specs.Steps.{Gets};
 use crate::stop::Stop;
 use cir_ast::Text;
 use cir_values::{InputShape, Signals};
-use circom_words::{BadInput, Refusal};
+use circom_lines::{BadInput, Refusal};
 use gold_field::Gold;
 use std::alloc::{AllocError, Global};
 use wit_input::{InputFault, read_input};

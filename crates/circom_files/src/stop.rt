@@ -3,7 +3,7 @@ ghost use Rattle.circom_files.specs.Stops.{EndsBy, stop_of};
 ghost use Rattle.circom_files.specs.declared.stop.Stop.TheVariants.{OutOfMemory};
 
 use crate::reply::Reply;
-use circom_words::Refusal;
+use circom_lines::Refusal;
 use out_io::IoFault;
 use std::alloc::{AllocError, Global};
 

@@ -22,13 +22,13 @@ use Rattle.cir_determined.specs.declared.rule.Answer.{Answer}
 use Rattle.cir_determined.specs.declared.rule.Answer.TheVariants.{Shown, NotShown}
 use Rattle.cir_determined.specs.declared.rule.Confirm.TheVariants.{Confirmed}
 use Rattle.cir_determined.specs.declared.rule.Rule.{Rule}
-use Rattle.circom_words.specs.Determining.{confirmed_line}
-use Rattle.circom_words.specs.Lines.{verdict_line}
-use Rattle.circom_words.specs.Proving.{audit_line}
+use Rattle.circom_lines.specs.Determining.{confirmed_line}
+use Rattle.circom_lines.specs.Lines.{verdict_line}
+use Rattle.circom_lines.specs.Proving.{audit_line}
 use Rattle.circom_words.specs.Words.{Options, ProveOptions, audit, check, compile, prove, public}
 use Rattle.circom_words.specs.Words.{confirm, determine, witness}
-use Rattle.circom_words.specs.declared.answer.Refusal.{Refusal}
-use Rattle.circom_words.specs.declared.answer.Verdict.TheVariants.{Satisfied}
+use Rattle.circom_lines.specs.declared.answer.Refusal.{Refusal}
+use Rattle.circom_lines.specs.declared.answer.Verdict.TheVariants.{Satisfied}
 use Rattle.circom_words.specs.declared.options.RunOptions.{RunOptions}
 use Rattle.circom_files.specs.Accepted.{IsAccepted, IsProofOf}
 use Rattle.circom_files.specs.Check.{check_of}

@@ -5,7 +5,7 @@ use Rattle.iden_files.specs.File.{File}
 use Rattle.cir_compile.specs.Compiled.{IsCompiled}
 use Rattle.circom_files.specs.Reply.{Reply, said}
 use Rattle.circom_words.specs.Words.{Options, compile}
-use Rattle.circom_words.specs.declared.answer.Refusal.{Refusal}
+use Rattle.circom_lines.specs.declared.answer.Refusal.{Refusal}
 use Rattle.circom_gold.specs.Compile.{CompilesTo, task_of}
 use Rattle.circom_gold.specs.Reply.{Answers, constraints_written}
 use Rattle.circom_gold.proofs.OneReply.{one_reply}

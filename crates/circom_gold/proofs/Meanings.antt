@@ -17,13 +17,13 @@ use Rattle.cir_determined.specs.declared.rule.Answer.TheVariants.{Shown, NotShow
 use Rattle.cir_determined.specs.declared.rule.Confirm.{Confirm}
 use Rattle.cir_determined.specs.declared.rule.Confirm.TheVariants.{Confirmed, BadRule, Short}
 use Rattle.cir_determined.specs.declared.rule.Rule.{Rule}
-use Rattle.circom_words.specs.Lines.{verdict_status}
+use Rattle.circom_lines.specs.Lines.{verdict_status}
 use Rattle.circom_words.specs.Words.{Command, ProveOptions, check, compile, witness, prove}
 use Rattle.circom_words.specs.Words.{public, audit, confirm, determine, generate}
-use Rattle.circom_words.specs.declared.answer.Refusal.{Refusal}
-use Rattle.circom_words.specs.declared.answer.Verdict.{Verdict}
-use Rattle.circom_words.specs.declared.answer.Verdict.TheVariants.{CountsDiffer, WireZero}
-use Rattle.circom_words.specs.declared.answer.Verdict.TheVariants.{ConstraintFails, Satisfied}
+use Rattle.circom_lines.specs.declared.answer.Refusal.{Refusal}
+use Rattle.circom_lines.specs.declared.answer.Verdict.{Verdict}
+use Rattle.circom_lines.specs.declared.answer.Verdict.TheVariants.{CountsDiffer, WireZero}
+use Rattle.circom_lines.specs.declared.answer.Verdict.TheVariants.{ConstraintFails, Satisfied}
 use Rattle.circom_files.specs.Accepted.{IsAccepted}
 use Rattle.circom_files.specs.Check.{check_of, verdict}
 use Rattle.circom_files.specs.Determining.{AreCertificate, HasCertificate}

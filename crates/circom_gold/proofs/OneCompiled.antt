@@ -7,8 +7,8 @@ use Rattle.cir_compile.specs.Compiled.{IsRefused}
 use Rattle.cir_compile.proofs.OneFile.{compiled_or_refused, one_file, one_refusal}
 use Rattle.cir_compile.proofs.OneFile.{there_or_compiled, there_or_refused}
 use Rattle.circom_words.specs.Words.{Options}
-use Rattle.circom_words.specs.declared.answer.Refusal.{Refusal}
-use Rattle.circom_words.specs.declared.answer.Refusal.TheVariants.{NoSuchFile, BadSource}
+use Rattle.circom_lines.specs.declared.answer.Refusal.{Refusal}
+use Rattle.circom_lines.specs.declared.answer.Refusal.TheVariants.{NoSuchFile, BadSource}
 use Rattle.circom_gold.specs.Compile.{CompilesTo, IsUncompiled, task_of}
 
 module _ (files : Contents) (source : List ℕ) (options : Options) where

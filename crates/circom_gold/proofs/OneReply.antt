@@ -3,7 +3,7 @@ use Rattle.std.proofs.Common.{◌≡◌, ◌∙◌, ℕ, List, Option, Some, Non
 use Rattle.out_io.specs.Contents.{Contents}
 use Rattle.circom_words.specs.Words.{Command, check, compile, witness, prove, public, audit}
 use Rattle.circom_words.specs.Words.{confirm, determine, generate}
-use Rattle.circom_words.specs.declared.answer.Refusal.{Refusal}
+use Rattle.circom_lines.specs.declared.answer.Refusal.{Refusal}
 use Rattle.cir_determined.specs.declared.rule.Answer.{Answer}
 use Rattle.circom_files.proofs.Certified.{one_confirm, one_search, shown_written}
 use Rattle.circom_files.proofs.Once.{one_outcome, one_audit}

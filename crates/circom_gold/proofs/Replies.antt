@@ -21,9 +21,9 @@ use Rattle.cir_determined.specs.declared.rule.Answer.{Answer}
 use Rattle.cir_determined.specs.declared.rule.Answer.TheVariants.{Shown, NotShown}
 use Rattle.cir_determined.specs.declared.rule.Confirm.{Confirm}
 use Rattle.cir_determined.specs.declared.rule.Confirm.TheVariants.{Confirmed, BadRule, Short}
-use Rattle.circom_words.specs.Determining.{confirmed_status}
-use Rattle.circom_words.specs.Lines.{verdict_status}
-use Rattle.circom_words.specs.Proving.{audit_status}
+use Rattle.circom_lines.specs.Determining.{confirmed_status}
+use Rattle.circom_lines.specs.Lines.{verdict_status}
+use Rattle.circom_lines.specs.Proving.{audit_status}
 use Rattle.lig_proof.specs.declared.verdict.Verdict.{Verdict as Audited}
 use Rattle.lig_proof.specs.declared.verdict.Verdict.TheVariants as audits
 use Rattle.circom_files.specs.Given.{Leaves, LeavesInPart, Puts}
@@ -42,10 +42,10 @@ use Rattle.circom_gold.specs.Reply.{Answers, constraints_written}
 use Rattle.circom_gold.specs.Run.{Ends, Gives, Stays}
 use Rattle.circom_words.specs.Words.{Command, Options, check, compile, witness, prove, public}
 use Rattle.circom_words.specs.Words.{audit, confirm, determine, generate}
-use Rattle.circom_words.specs.declared.answer.Refusal.{Refusal}
-use Rattle.circom_words.specs.declared.answer.Verdict.{Verdict}
-use Rattle.circom_words.specs.declared.answer.Verdict.TheVariants.{CountsDiffer, WireZero}
-use Rattle.circom_words.specs.declared.answer.Verdict.TheVariants.{ConstraintFails, Satisfied}
+use Rattle.circom_lines.specs.declared.answer.Refusal.{Refusal}
+use Rattle.circom_lines.specs.declared.answer.Verdict.{Verdict}
+use Rattle.circom_lines.specs.declared.answer.Verdict.TheVariants.{CountsDiffer, WireZero}
+use Rattle.circom_lines.specs.declared.answer.Verdict.TheVariants.{ConstraintFails, Satisfied}
 
 -- the reply of a source that compiles writes a file of its constraints
 pub writes : (contents : Option Contents) (source : List ℕ) (options : Options) (out : List ℕ)

@@ -27,9 +27,9 @@ use Rattle.cir_simplify.specs.declared.types.Level.{Level}
 use Rattle.cir_values.specs.declared.signals.InputShape.{InputShape}
 use Rattle.wit_input.specs.Input.{input_of}
 use Rattle.circom_words.specs.Words.{Options}
-use Rattle.circom_words.specs.declared.answer.Refusal.{Refusal}
-use Rattle.circom_words.specs.declared.answer.Refusal.TheVariants.{NoSuchFile, BadInput}
-use Rattle.circom_words.specs.declared.answer.BadInput.TheVariants.{NotJson}
+use Rattle.circom_lines.specs.declared.answer.Refusal.{Refusal}
+use Rattle.circom_lines.specs.declared.answer.Refusal.TheVariants.{NoSuchFile, BadInput}
+use Rattle.circom_lines.specs.declared.answer.BadInput.TheVariants.{NotJson}
 use Rattle.circom_files.specs.Files.{bytes_in}
 use Rattle.circom_files.specs.Running.{accepted_input, input_in}
 use Rattle.circom_files.specs.Steps.{Gets, Steps, StepsTo}

@@ -23,8 +23,8 @@ use Rattle.out_io.specs.Contents.{Contents}
 use Rattle.iden_files.specs.File.{File}
 use Rattle.cir_ast.specs.Program.{Program}
 use Rattle.circom_words.specs.Words.{Options}
-use Rattle.circom_words.specs.declared.answer.Refusal.{Refusal}
-use Rattle.circom_words.specs.declared.answer.Verdict.TheVariants.{Satisfied}
+use Rattle.circom_lines.specs.declared.answer.Refusal.{Refusal}
+use Rattle.circom_lines.specs.declared.answer.Verdict.TheVariants.{Satisfied}
 use Rattle.circom_files.specs.Check.{check_of}
 use Rattle.circom_files.specs.Reply.{Reply, Says, said}
 use Rattle.circom_files.specs.Files.{bytes_in}

@@ -25,7 +25,7 @@ use Rattle.wit_run.specs.Task.{IsTask}
 use Rattle.wit_run.specs.declared.ending.RunEnd.{RunEnd}
 use Rattle.wit_run.specs.declared.ending.RunEnd.TheVariants as end
 use Rattle.circom_words.specs.Words.{Options}
-use Rattle.circom_words.specs.declared.answer.Refusal.{Refusal}
+use Rattle.circom_lines.specs.declared.answer.Refusal.{Refusal}
 use Rattle.circom_files.specs.Files.{bytes_in}
 use Rattle.circom_files.specs.Satisfaction.{Satisfies}
 use Rattle.circom_files.specs.Steps.{StepsTo}

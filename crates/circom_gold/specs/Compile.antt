@@ -13,8 +13,8 @@ use Rattle.cir_compile.specs.Compiled.{Task, IsCompiled, IsRefused}
 use Rattle.cir_compile.specs.Written.{AreValues}
 use Rattle.circom_words.specs.Words.{Options}
 use Rattle.cir_ast.specs.declared.refusal.Refusal.{Refusal as SourceRefusal}
-use Rattle.circom_words.specs.declared.answer.Refusal.{Refusal}
-use Rattle.circom_words.specs.declared.answer.Refusal.TheVariants.{NoSuchFile, BadSource}
+use Rattle.circom_lines.specs.declared.answer.Refusal.{Refusal}
+use Rattle.circom_lines.specs.declared.answer.Refusal.TheVariants.{NoSuchFile, BadSource}
 
 -- the source is compiled with these options
 abbrev pub task_of : List ℕ → Options → Task

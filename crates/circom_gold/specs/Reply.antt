@@ -3,7 +3,7 @@ use Rattle.std.specs.Prelude.{◌≡◌, ◌⊎◌, ℕ, List, length, Option, S
 use Rattle.out_io.specs.Contents.{Contents}
 use Rattle.iden_files.specs.File.{File}
 use Rattle.iden_files.specs.Spelling.{r1cs_bytes}
-use Rattle.circom_words.specs.Lines.{compiled_line}
+use Rattle.circom_lines.specs.Lines.{compiled_line}
 use Rattle.circom_words.specs.Words.{Command, check, compile, witness, prove, public}
 use Rattle.circom_words.specs.Words.{audit, confirm, determine, generate}
 use Rattle.circom_files.specs.Check.{check_of}

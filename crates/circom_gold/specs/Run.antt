@@ -5,7 +5,7 @@ use Rattle.std.specs.declared.alloc.AllocError.{AllocError}
 use Rattle.out_io.specs.Calls.{Course, HasFailed}
 use Rattle.out_io.specs.Contents.{Contents, Changes}
 use Rattle.out_io.specs.Written.{IsAppended, IsAppendedInPart}
-use Rattle.circom_words.specs.Lines.{fault_line}
+use Rattle.circom_lines.specs.Lines.{fault_line}
 use Rattle.circom_words.specs.Words.{Command}
 use Rattle.circom_files.specs.Given.{Leaves, LeavesInPart}
 use Rattle.circom_files.specs.Reply.{Reply}

@@ -16,8 +16,8 @@ use Rattle.cir_simplify.specs.declared.types.Level.{Level}
 use Rattle.cir_steps.specs.Places.{ArePlacesMeant}
 use Rattle.wit_circuit.specs.Whole.{IsCircuitOf}
 use Rattle.circom_words.specs.Words.{Options}
-use Rattle.circom_words.specs.declared.answer.Refusal.{Refusal}
-use Rattle.circom_words.specs.declared.answer.Refusal.TheVariants.{NoSuchFile, BadSource}
+use Rattle.circom_lines.specs.declared.answer.Refusal.{Refusal}
+use Rattle.circom_lines.specs.declared.answer.Refusal.TheVariants.{NoSuchFile, BadSource}
 use Rattle.circom_files.specs.Running.{input_in}
 use Rattle.circom_files.specs.Steps.{StepsTo}
 use Rattle.circom_files.specs.declared.stop.Stop.{Stop}

@@ -17,9 +17,9 @@ use Rattle.cir_meaning.specs.RunBodies.{ran}
 use Rattle.cir_simplify.specs.declared.types.Level.TheVariants.{O1}
 use Rattle.cir_values.specs.declared.signals.InputShape.{InputShape}
 use Rattle.wit_code.specs.Table.{stop_number}
-use Rattle.circom_words.specs.Generated.{generated_text, generated_input}
+use Rattle.circom_lines.specs.Generated.{generated_text, generated_input}
 use Rattle.circom_words.specs.Words.{Options}
-use Rattle.circom_words.specs.declared.answer.Refusal.{Refusal}
+use Rattle.circom_lines.specs.declared.answer.Refusal.{Refusal}
 use Rattle.circom_files.specs.Running.{input_in}
 use Rattle.circom_files.specs.Satisfaction.{Satisfies}
 use Rattle.circom_files.specs.declared.outcome.Halt.{Halt}

@@ -15,7 +15,8 @@ ghost use Rattle.circom_words.specs.Words.{meant_options};
 
 use crate::source::stop_of;
 use circom_files::{Reply, Stop};
-use circom_words::{Options, compiled_line};
+use circom_lines::compiled_line;
+use circom_words::Options;
 use iden_files::{R1cs, write_r1cs};
 use items::Items;
 use out_io::{IoFault, Store};

@@ -16,13 +16,13 @@ ghost use Rattle.circom_gold.specs.Reply.{Answers, AreOne, constraints_written};
 ghost use Rattle.circom_gold.specs.Run.{IsReplied};
 ghost use Rattle.circom_gold.specs.Witness.{HasWitness, IsWitnessOf, IsWitnessed};
 ghost use Rattle.cir_determined.specs.declared.rule.Confirm.TheVariants.{Confirmed};
-ghost use Rattle.circom_words.specs.Determining.{confirmed_line};
-ghost use Rattle.circom_words.specs.Lines.{verdict_line};
-ghost use Rattle.circom_words.specs.Proving.{audit_line};
+ghost use Rattle.circom_lines.specs.Determining.{confirmed_line};
+ghost use Rattle.circom_lines.specs.Lines.{verdict_line};
+ghost use Rattle.circom_lines.specs.Proving.{audit_line};
 ghost use Rattle.circom_words.specs.Words.{Command, Options, ProveOptions, audit, check, compile};
 ghost use Rattle.circom_words.specs.Words.{confirm, determine, prove, public, witness};
-ghost use Rattle.circom_words.specs.declared.answer.Refusal.{Refusal};
-ghost use Rattle.circom_words.specs.declared.answer.Verdict.TheVariants.{Satisfied};
+ghost use Rattle.circom_lines.specs.declared.answer.Refusal.{Refusal};
+ghost use Rattle.circom_lines.specs.declared.answer.Verdict.TheVariants.{Satisfied};
 ghost use Rattle.circom_words.specs.declared.options.RunOptions.{RunOptions};
 
 /// The reply to a command over given files is one, status, text and file, but for which of the rules

@@ -1,10 +1,5 @@
-pub mod Determining
 pub mod Forms
-pub mod Generated
-pub mod Lines
 pub mod Matches
 pub mod Numbers
-pub mod Proving
 pub mod Ranges
-pub mod RunLines
 pub mod Words

@@ -1,7 +1,7 @@
 use Rattle.std.proofs.Common.{◌∙◌, arith}
 use Rattle.std.proofs.lemmas.Result.{err_from_is_err_and}
 use Rattle.cir_simplify.specs.declared.types.Level.TheVariants.{O1}
-use Rattle.circom_words.specs.Generated.{generated_input}
+use Rattle.circom_lines.specs.Generated.{generated_input}
 use Rattle.circom_gold.proofs.Generating.{made_so, made_task, unmade}
 use Rattle.circom_gold.proofs.generate.generated_in.Goals as goal
 

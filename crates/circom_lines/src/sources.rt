@@ -1,8 +1,8 @@
 //! The lines of refusals at a place of a source.
 
 ghost use Rattle.std.specs.Prelude.{◌≡◌, IfOk, decimal, string_bytes};
-ghost use Rattle.circom_words.specs.Lines.{placed_line, source_line, kind_text, detail_text};
-ghost use Rattle.circom_words.specs.Lines.{count_text, lex_text, which_text, form_text};
+ghost use Rattle.circom_lines.specs.Lines.{placed_line, source_line, kind_text, detail_text};
+ghost use Rattle.circom_lines.specs.Lines.{count_text, lex_text, which_text, form_text};
 
 use crate::lines::line;
 use cir_ast::{Form, Kind, Place, Refusal, Which};

@@ -1,8 +1,8 @@
 //! The lines of the commands that run a circuit.
 
 ghost use Rattle.std.specs.Prelude.{◌≡◌, IfOk};
-ghost use Rattle.circom_words.specs.RunLines.{log_text, stop_text, stop_line, witness_line};
-ghost use Rattle.circom_words.specs.RunLines.{generated_line};
+ghost use Rattle.circom_lines.specs.RunLines.{log_text, stop_text, stop_line, witness_line};
+ghost use Rattle.circom_lines.specs.RunLines.{generated_line};
 
 use crate::lines::line;
 use crate::sources::placed_line;

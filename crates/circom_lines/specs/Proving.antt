@@ -4,7 +4,7 @@ use Rattle.lig_proof.specs.declared.verdict.Verdict.{Verdict}
 use Rattle.lig_proof.specs.declared.verdict.Verdict.TheVariants.{Accepted, PublicCount, Malformed}
 use Rattle.lig_proof.specs.declared.verdict.Verdict.TheVariants.{BadPath, Proximity, LinearSum}
 use Rattle.lig_proof.specs.declared.verdict.Verdict.TheVariants.{LinearColumn, QuadZero, QuadColumn}
-use Rattle.circom_words.specs.Lines.{line}
+use Rattle.circom_lines.specs.Lines.{line}
 
 abbrev pub proved_line : ℕ → List ℕ
 proved_line bytes = line (codes "proved: bytes " ∷ decimal bytes ∷ [])

@@ -2,7 +2,7 @@
 //! number is the output.
 
 ghost use Rattle.std.specs.Prelude.{◌≡◌, ◌+◌, ◌≤◌, ◌∷◌, IfOk};
-ghost use Rattle.circom_words.specs.Generated.{generated_text, generated_input};
+ghost use Rattle.circom_lines.specs.Generated.{generated_text, generated_input};
 
 use crate::lines::line;
 use gold_field::Gold;

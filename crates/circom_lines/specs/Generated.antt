@@ -1,6 +1,6 @@
 -- The circuit that `generate` makes, and its input.
 use Rattle.std.specs.Prelude.{ℕ, ◌+◌, List, [], ◌∷◌, ◌++◌, map, codes, decimal}
-use Rattle.circom_words.specs.Lines.{line}
+use Rattle.circom_lines.specs.Lines.{line}
 
 abbrev pub joined : List (List ℕ) → List ℕ
 joined [] = []

@@ -2,7 +2,7 @@
 use Rattle.std.specs.Prelude.{ℕ, List, [], ◌∷◌, codes, decimal}
 use Rattle.cir_determined.specs.declared.rule.Confirm.{Confirm}
 use Rattle.cir_determined.specs.declared.rule.Confirm.TheVariants.{Confirmed, BadRule, Short}
-use Rattle.circom_words.specs.Lines.{line}
+use Rattle.circom_lines.specs.Lines.{line}
 
 abbrev pub determined_line : List ℕ
 determined_line = line (codes "determined" ∷ [])

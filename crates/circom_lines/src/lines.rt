@@ -1,7 +1,7 @@
 ghost use Rattle.std.specs.Prelude.{◌≡◌, map, IfOk};
-ghost use Rattle.circom_words.specs.Lines.{line, usage_line, fault_line, compiled_line};
-ghost use Rattle.circom_words.specs.Lines.{bad_file_line, cause_text, count_line};
-ghost use Rattle.circom_words.specs.Lines.{bad_rules_line, rules_text};
+ghost use Rattle.circom_lines.specs.Lines.{line, usage_line, fault_line, compiled_line};
+ghost use Rattle.circom_lines.specs.Lines.{bad_file_line, cause_text, count_line};
+ghost use Rattle.circom_lines.specs.Lines.{bad_rules_line, rules_text};
 
 use crate::answer::{BadInput, Refusal, RuleCause, Verdict};
 use crate::sources::source_line;
@@ -9,7 +9,7 @@ use iden_files::FileCause;
 use std::alloc::{AllocError, Global};
 
 impl Refusal {
-    ghost use Rattle.circom_words.specs.Lines.{refusal_line};
+    ghost use Rattle.circom_lines.specs.Lines.{refusal_line};
 
     /// The printed line, with its line feed.
     pub fn line(&self, alloc: Global) -> Result<Vec<u8>, AllocError>
@@ -38,7 +38,7 @@ impl Refusal {
 }
 
 impl BadInput {
-    ghost use Rattle.circom_words.specs.Lines.{input_line};
+    ghost use Rattle.circom_lines.specs.Lines.{input_line};
 
     /// The printed line, with its line feed.
     pub fn line(&self, alloc: Global) -> Result<Vec<u8>, AllocError>
@@ -95,7 +95,7 @@ fn count_line<'a>(
 }
 
 impl Verdict {
-    ghost use Rattle.circom_words.specs.Lines.{verdict_status, verdict_line};
+    ghost use Rattle.circom_lines.specs.Lines.{verdict_status, verdict_line};
 
     /// The exit status.
     pub fn status(&self) -> u8

@@ -4,7 +4,7 @@ use Rattle.cir_ast.specs.declared.refusal.Place.{Place}
 use Rattle.wit_code.specs.declared.code.Stop.{Stop}
 use Rattle.wit_code.specs.declared.code.Stop.TheVariants.{ConstraintFails, AssertFails, ZeroDivisor}
 use Rattle.wit_code.specs.declared.code.Stop.TheVariants.{IndexOut, FuelSpent, TooDeep, OutOfMemory}
-use Rattle.circom_words.specs.Lines.{line, placed_line}
+use Rattle.circom_lines.specs.Lines.{line, placed_line}
 
 -- a line for each of these
 abbrev pub log_text : List (List ℕ) → List ℕ

@@ -16,18 +16,18 @@ use Rattle.cir_ast.specs.declared.refusal.Form.{Form}
 use Rattle.cir_ast.specs.declared.refusal.Form.TheVariants as form
 use Rattle.cir_ast.specs.declared.refusal.Place.{Place}
 use Rattle.cir_ast.specs.declared.refusal.Refusal.{Refusal as SourceRefusal}
-use Rattle.circom_words.specs.declared.answer.Refusal.{Refusal}
-use Rattle.circom_words.specs.declared.answer.Refusal.TheVariants.{NoSuchFile, BadFile, BadRules}
-use Rattle.circom_words.specs.declared.answer.Refusal.TheVariants.{BadSource}
-use Rattle.circom_words.specs.declared.answer.Refusal.TheVariants.{BadInput as BadInputs}
-use Rattle.circom_words.specs.declared.answer.BadInput.{BadInput}
-use Rattle.circom_words.specs.declared.answer.BadInput.TheVariants.{NotJson, Missing, UnknownSignal}
-use Rattle.circom_words.specs.declared.answer.BadInput.TheVariants.{WrongCount, BadNumber}
-use Rattle.circom_words.specs.declared.answer.RuleCause.{RuleCause}
-use Rattle.circom_words.specs.declared.answer.RuleCause.TheVariants as rules
-use Rattle.circom_words.specs.declared.answer.Verdict.{Verdict}
-use Rattle.circom_words.specs.declared.answer.Verdict.TheVariants.{CountsDiffer, WireZero}
-use Rattle.circom_words.specs.declared.answer.Verdict.TheVariants.{ConstraintFails, Satisfied}
+use Rattle.circom_lines.specs.declared.answer.Refusal.{Refusal}
+use Rattle.circom_lines.specs.declared.answer.Refusal.TheVariants.{NoSuchFile, BadFile, BadRules}
+use Rattle.circom_lines.specs.declared.answer.Refusal.TheVariants.{BadSource}
+use Rattle.circom_lines.specs.declared.answer.Refusal.TheVariants.{BadInput as BadInputs}
+use Rattle.circom_lines.specs.declared.answer.BadInput.{BadInput}
+use Rattle.circom_lines.specs.declared.answer.BadInput.TheVariants.{NotJson, Missing, UnknownSignal}
+use Rattle.circom_lines.specs.declared.answer.BadInput.TheVariants.{WrongCount, BadNumber}
+use Rattle.circom_lines.specs.declared.answer.RuleCause.{RuleCause}
+use Rattle.circom_lines.specs.declared.answer.RuleCause.TheVariants as rules
+use Rattle.circom_lines.specs.declared.answer.Verdict.{Verdict}
+use Rattle.circom_lines.specs.declared.answer.Verdict.TheVariants.{CountsDiffer, WireZero}
+use Rattle.circom_lines.specs.declared.answer.Verdict.TheVariants.{ConstraintFails, Satisfied}
 
 -- 0 for success, 1 for a refusal, 2 for values that fail
 abbrev pub verdict_status : Verdict → ℕ

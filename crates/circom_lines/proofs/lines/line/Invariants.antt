@@ -1,6 +1,6 @@
 use Rattle.std.proofs.Common.{◌≡◌, ◌++◌, drop, map}
-use Rattle.circom_words.specs.Lines.{line}
-use Rattle.circom_words.proofs.lines.line.Given as goal
+use Rattle.circom_lines.specs.Lines.{line}
+use Rattle.circom_lines.proofs.lines.line.Given as goal
 
 -- what is made, and the line of the parts that are left, is the line of all parts
 abbrev pub invariant-loop-part : goal.invariant-loop-part

@@ -1,7 +1,7 @@
 //! The lines of `prove`, `public` and `audit`.
 
 ghost use Rattle.std.specs.Prelude.{◌≡◌, IfOk};
-ghost use Rattle.circom_words.specs.Proving.{proved_line, public_line, audit_status, audit_line};
+ghost use Rattle.circom_lines.specs.Proving.{proved_line, public_line, audit_status, audit_line};
 
 use crate::lines::line;
 use lig_proof::Verdict;

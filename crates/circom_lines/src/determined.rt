@@ -1,8 +1,8 @@
 //! The lines of `determine` and `confirm`.
 
 ghost use Rattle.std.specs.Prelude.{◌≡◌, IfOk};
-ghost use Rattle.circom_words.specs.Determining.{determined_line, undetermined_line};
-ghost use Rattle.circom_words.specs.Determining.{confirmed_line, confirmed_status};
+ghost use Rattle.circom_lines.specs.Determining.{determined_line, undetermined_line};
+ghost use Rattle.circom_lines.specs.Determining.{confirmed_line, confirmed_status};
 
 use crate::lines::line;
 use cir_determined::Confirm;

@@ -1,0 +1,5 @@
+pub mod Determining
+pub mod Generated
+pub mod Lines
+pub mod Proving
+pub mod RunLines
