@@ -1,5 +1,6 @@
 -- From code's sources to their program, or to its refusal.
-use Rattle.std.proofs.Common.{◌≡◌, ◌∙◌, ℕ, List, [], ◌∷◌, Ok, Err, Option, Some, None, String}
+use Rattle.std.proofs.Common.{◌≡◌, ◌∙◌, ℕ, List, [], ◌∷◌, Ok, Err, Option, Some}
+use Rattle.std.proofs.Common.{None, String}
 use Rattle.std.proofs.Common.{inl, inr, refl, ap, sym, subst}
 use Rattle.std.specs.Prelude.{map}
 use Rattle.std.specs.declared.alloc.Global.{Global}
@@ -22,6 +23,7 @@ use Rattle.cir_sources.specs.Loading.{AreAll, AreSources, Loads as Reads}
 use Rattle.cir_names.specs.Programs.{tree_of, definitions_from, names_of, AreTrees, name_fault}
 use Rattle.cir_names.specs.Programs.{refusal_of, IsProgramOf}
 use Rattle.cir_names.specs.Loading.{Checks, Loads}
+use Rattle.cir_names.specs.Resting.{IsLoadedWithout}
 use Rattle.cir_checks.proofs.UsedPrograms.{is_used}
 use Rattle.cir_names.proofs.Lows.{low_program}
 
@@ -37,7 +39,8 @@ pub record AreTheirs (sources : List CodeSource) (files : List (List ℕ))
 
 pub loads : (sources : List CodeSource) (files : List (List ℕ))
     (definitions named : List Definition) (p : Program) → AreTheirs sources files definitions
-    → resolved definitions ≡ Ok named → first_fault named ≡ None → p ≡ program_with files named
+    → resolved definitions ≡ Ok named → first_fault named ≡ None
+    → p ≡ program_with files named
     → AreSources (map seen sources) → IsProgramOf (map seen sources) p × IsChecked p
 loads sources files definitions named p are e faultless is known =
     let same : resolved (definitions_from 0 (map tree_of sources)) ≡ Ok named =
@@ -59,7 +62,8 @@ loads sources files definitions named p are e faultless is known =
 -- a refusal of a name
 pub refused : (sources : List CodeSource) (files : List (List ℕ)) (definitions : List Definition)
     (found : Found) (e : LoadFault) → AreTheirs sources files definitions
-    → name_fault (resolved definitions) ≡ Some found → Refuses (λ r. r ≡ refusal_of files found) e
+    → name_fault (resolved definitions) ≡ Some found
+    → Refuses (λ r. r ≡ refusal_of files found) e
     → Checks (map seen sources) (Err e)
 refused sources files definitions found (load.Refused r) are fault is = record {
   trees = map tree_of sources;
@@ -70,6 +74,20 @@ refused sources files definitions found (load.Refused r) are fault is = record {
 }
 refused sources files definitions found load.OutOfMemory are fault is = tt
 refused sources files definitions found _ are fault is = absurd is
+
+-- the sources are loaded, and they are of this program
+pub well_named : (contents : Option Contents) (name : List ℕ) (library : Option (List ℕ))
+    (missing : BTreeSet (String Global)) (sources : List Source) (p : Program)
+    → Told contents (λ files. AreAll files name library sources × AreMissing files missing)
+    → IsProgramOf sources p
+    → Told contents (λ files. IsLoadedWithout files name library missing p)
+well_named contents name library missing sources p all theirs =
+    told_on contents (λ files. AreAll files name library sources × AreMissing files missing)
+    (λ files. IsLoadedWithout files name library missing p)
+    (λ files are. record {
+      loaded = record { sources = sources; all = are.0; theirs = theirs };
+      missing_are = are.1;
+    }) all
 
 module _ (contents : Option Contents) (name : List ℕ) (library : Option (List ℕ))
     (failed : Type 0) where

@@ -1,7 +1,8 @@
 //! From the files of a store to the program.
-ghost use Rattle.std.specs.Prelude.{◌≡◌, map, IfOk};
+ghost use Rattle.std.specs.Prelude.{◌≡◌, map, IfOk, Some};
 ghost use Rattle.std.specs.Option.{option_copied};
 ghost use Rattle.out_io.specs.Calls.{OnlyReads};
+ghost use Rattle.out_io.specs.Contents.{Contents};
 ghost use Rattle.out_io.specs.Faults.{Rose};
 ghost use Rattle.cir_ast.specs.Program.{bare_program};
 ghost use Rattle.cir_checks.specs.Checked.{IsChecked};
@@ -75,6 +76,11 @@ pub fn load<S: Store>(
 ) -> Result<Program, LoadFault>
     ensures loads { Loads (S.contents store.old) name.now (option_copied library.entry)
         (Rose (S.faults store.old) (S.faults store.new)) result }
+    ensures answers { (files : Contents) → S.may_hold store.new files →
+        Loads (Some files) name.now (option_copied library.entry)
+        (Rose (S.faults store.old) (S.faults store.new)) result }
+    ensures still { (files : Contents) → S.may_hold store.new files
+        → S.may_hold store.old files }
     ensures checked { IfOk result (λ p. IsChecked (bare_program p)) }
     ensures theirs { IfOk result (λ p. IsOfSources (bare_program p)) }
     ensures store { OnlyReads (S.contents store.old) (S.contents store.new)
@@ -96,6 +102,11 @@ pub fn load_all<S: Store>(
 ) -> Result<Loaded, LoadFault>
     ensures loads { LoadsAll (S.contents store.old) name.now (option_copied library.entry)
         (Rose (S.faults store.old) (S.faults store.new)) result }
+    ensures answers { (files : Contents) → S.may_hold store.new files →
+        LoadsAll (Some files) name.now (option_copied library.entry)
+        (Rose (S.faults store.old) (S.faults store.new)) result }
+    ensures still { (files : Contents) → S.may_hold store.new files
+        → S.may_hold store.old files }
     ensures checked { IfOk result (λ l. IsChecked (bare_program l.program)) }
     ensures theirs { IfOk result (λ l. IsOfSources (bare_program l.program)) }
     ensures rests { IfOk result (λ l. RestsOn name.now (option_copied library.entry) l.missing

@@ -1,43 +1,49 @@
 -- Which file an include names.
-use Rattle.std.proofs.Common.{◌≡◌, ℕ, true, false, List, sym, ap, refl, ◌∙◌, cond, Option, None}
-use Rattle.std.proofs.Common.{Some, Vec, String, string_bytes}
+use Rattle.std.proofs.Common.{◌≡◌, ℕ, true, false, List, sym, ap, refl, ◌∙◌, cond}
+use Rattle.std.proofs.Common.{Option, None}
+use Rattle.std.proofs.Common.{Some, Vec, String, string_bytes, inl, inr, subst}
 use Rattle.std.specs.Prelude.{All}
 use Rattle.std.specs.Str.{IsUtf8, bytes_eq, is_utf8}
 use Rattle.std.proofs.lemmas.Bool.{cond_both, false_from_ne_true}
 use Rattle.std.proofs.lemmas.List.Elements.{All-weaker}
 use Rattle.std.proofs.lemmas.Slice.Eq.{bytes_eq-Decides}
 use Rattle.std.proofs.lemmas.Str.{is_utf8-from_IsUtf8, IsUtf8-from_is_utf8}
-use Rattle.out_io.specs.Contents.{Finds}
+use Rattle.out_io.specs.Contents.{Finds, bytes_of}
 use Rattle.out_io.proofs.Telling.{answer_here, others_stay, with_answer}
 use Rattle.cir_sources.specs.declared.search.Target.TheVariants.{Loaded, Absent, Found}
 use Rattle.cir_sources.specs.Includes.{Contents, Site, IsSource, Source, included_name, bytes_at}
 use Rattle.cir_sources.specs.Loading.{Global}
 use Rattle.cir_sources.specs.Steps.{BTreeSet, contains_text, Target, AreHeld, AreMissing, Fits}
-use Rattle.cir_sources.specs.Steps.{Learns, Looks, Targets}
+use Rattle.cir_sources.specs.Steps.{Learns, Looks, MayBe, Targets}
 
-pub held_at : (files : Contents) (name : List ℕ) → IsUtf8 name → bytes_at files name ≡ files name
+pub held_at : (files : Contents) (name : List ℕ) → IsUtf8 name
+    → bytes_at files name ≡ files name
 held_at files name text = ap (λ b. cond b (files name) None) (is_utf8-from_IsUtf8 name text)
 
 -- what is held is there
 pub held_there : (files : Contents) (name bytes : List ℕ) → bytes_at files name ≡ Some bytes
     → files name ≡ Some bytes
 held_there files name bytes =
-    cond_both (is_utf8 name) (files name) None (λ o. o ≡ Some bytes → files name ≡ Some bytes)
+    cond_both (is_utf8 name) (files name) None
+    (λ o. o ≡ Some bytes → files name ≡ Some bytes)
     (λ _ e. e) (λ _ e. cc)
 
 -- a name that isn't UTF-8 has no file
-pub no_text : (files : Contents) (name : List ℕ) → ¬ IsUtf8 name → bytes_at files name ≡ None
+pub no_text : (files : Contents) (name : List ℕ) → ¬ IsUtf8 name
+    → bytes_at files name ≡ None
 no_text files name isnt =
     ap (λ b. cond b (files name) None)
     (false_from_ne_true (is_utf8 name) (λ e. isnt (IsUtf8-from_is_utf8 name e)))
 
 -- nor has one that isn't there
-pub none_held : (files : Contents) (name : List ℕ) → files name ≡ None → bytes_at files name ≡ None
+pub none_held : (files : Contents) (name : List ℕ) → files name ≡ None
+    → bytes_at files name ≡ None
 none_held files name none =
     cond_both (is_utf8 name) (files name) None (λ o. o ≡ None) (λ _. none) (λ _. refl)
 
 -- another answer for a name that had no file
-module _ (files : Contents) (name : List ℕ) (answer : Option (List ℕ)) (none : files name ≡ None)
+module _ (files : Contents) (name : List ℕ) (answer : Option (List ℕ))
+    (none : files name ≡ None)
   where
     abbrev more : Contents
     more = with_answer name answer files
@@ -63,18 +69,46 @@ module _ (files : Contents) (name : List ℕ) (answer : Option (List ℕ)) (none
         → AreMissing files missing → AreMissing more missing
     missing_stay missing fresh are q e = held_stays q (λ same. cc) ∙ are q e
 
-module _ (contents : Option Contents) (names old : BTreeSet (String Global)) (text : List ℕ)
+-- what a reading found is what there may be, and there may be no more than before
+pub record Reads (before after : Contents → Type 0) (name : List ℕ)
+    (answer : Option (Vec ℕ Global)) : Type 0 where
+  pub still : (files : Contents) → after files → before files
+  pub found : (files : Contents) → after files → bytes_of answer ≡ files name
+
+-- a reading of the store
+pub reads : (old new : Option Contents) (before after : Contents → Type 0) (name : List ℕ)
+    (answer : Option (Vec ℕ Global)) → new ≡ old → Finds old name answer
+    → ((files : Contents) → after files → before files)
+    → ((files : Contents) → after files → bytes_of answer ≡ files name)
+    → Reads (MayBe old before) (MayBe new after) name answer
+reads old new before after name answer same finds still there =
+    record { still = were; found = are }
+  where
+    were : (files : Contents) → MayBe new after files → MayBe old before files
+    were files (inl told) = inl (sym same ∙ told)
+    were files (inr may) = inr (still files may)
+
+    are : (files : Contents) → MayBe new after files → bytes_of answer ≡ files name
+    are files (inl told) =
+        subst (λ (o : Option Contents). Finds o name answer) (sym same ∙ told) finds
+    are files (inr may) = there files may
+
+module _ (before after : Contents → Type 0) (names old : BTreeSet (String Global))
+    (text : List ℕ)
     (fresh : contains_text names text ≡ false) where
   -- there is no file of the name, which is put among those that are missing
   pub learns_missing : (new : BTreeSet (String Global))
-      → ((q : List ℕ) → contains_text new q ≡ cond (bytes_eq text q) true (contains_text old q))
-      → Finds contents text None → Learns contents names old new Absent
-  learns_missing new now finds = record {
+      → ((q : List ℕ) → contains_text new q ≡ cond (bytes_eq text q) true
+      (contains_text old q))
+      → Reads before after text None → Learns before after names old new Absent
+  learns_missing new now reads = record {
     more = λ files are q e. are q
-        (now q ∙ cond_both (bytes_eq text q) true (contains_text old q) (λ b. b ≡ true) (λ _. refl)
+        (now q ∙ cond_both (bytes_eq text q) true (contains_text old q) (λ b. b ≡ true)
+        (λ _. refl)
         (λ _. e));
     knows = λ all knows. record {
-      so = λ files e. one_more all files (sym (rw e at finds)) (knows.so files e);
+      so = λ files may.
+          one_more all files (sym (reads.found files may)) (knows.so files (reads.still files may));
       files = knows.files;
       can = one_more all knows.files (knows.others text fresh) knows.can;
       others = knows.others;
@@ -87,30 +121,32 @@ module _ (contents : Option Contents) (names old : BTreeSet (String Global)) (te
         sources = fits.sources;
         missing = λ q e. cond_both (bytes_eq text q) true (contains_text old q)
             (λ b. b ≡ true → bytes_at files q ≡ None)
-            (λ same _. none_held files q (ap files (sym ((bytes_eq-Decides text q).0 same)) ∙ none))
+            (λ same _. none_held files q
+            (ap files (sym ((bytes_eq-Decides text q).0 same)) ∙ none))
             (λ _. fits.missing q) (sym (now q) ∙ e);
         there = tt;
       }
 
 -- there is a file of the name
-pub learns_found : (contents : Option Contents) (names missing : BTreeSet (String Global))
+pub learns_found : (before after : Contents → Type 0) (names missing : BTreeSet (String Global))
     (found : String Global) (bytes : Vec ℕ Global) → IsUtf8 (string_bytes found)
     → contains_text names (string_bytes found) ≡ false
     → contains_text missing (string_bytes found) ≡ false
-    → Finds contents (string_bytes found) (Some bytes)
-    → Learns contents names missing missing (Found found bytes)
-learns_found contents names missing found bytes utf8 fresh unasked finds = record {
+    → Reads before after (string_bytes found) (Some bytes)
+    → Learns before after names missing missing (Found found bytes)
+learns_found before after names missing found bytes utf8 fresh unasked reads = record {
   more = λ files are. are;
   knows = λ all knows.
       let text : List ℕ = string_bytes found in
       let none : knows.files text ≡ None = knows.others text fresh in
       let more : Contents = with_answer text (Some bytes.items) knows.files in
       record {
-        so = λ files e. record {
-          sources = (knows.so files e).sources;
-          missing = (knows.so files e).missing;
-          there = held_at files text utf8 ∙ sym (rw e at finds);
-        };
+        so = λ files may.
+            let fits = knows.so files (reads.still files may) in record {
+              sources = fits.sources;
+              missing = fits.missing;
+              there = held_at files text utf8 ∙ sym (reads.found files may);
+            };
         files = more;
         can = record {
           sources = sources_stay knows.files text (Some bytes.items) none all knows.can.sources;
@@ -130,7 +166,8 @@ learns_found contents names missing found bytes utf8 fresh unasked finds = recor
 -- what was looked up is what the include names, where it names that name if it has a file
 pub looked : (files : Contents) (names : BTreeSet (String Global)) (library : Option (List ℕ))
     (site : Site) (name : List ℕ) (target : Target)
-    → ((b : List ℕ) → bytes_at files name ≡ Some b → included_name files library site ≡ Some name)
+    → ((b : List ℕ) → bytes_at files name ≡ Some b
+    → included_name files library site ≡ Some name)
     → (bytes_at files name ≡ None → included_name files library site ≡ None)
     → AreHeld files names → Looks files names name target
     → Targets files names library site target

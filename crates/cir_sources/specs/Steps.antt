@@ -1,6 +1,9 @@
 -- What the steps of the loading do.
-use Rattle.std.specs.Prelude.{◌≡◌, ◌+◌, ◌-◌, ◌*◌, ◌^◌, ◌≤◌, ℕ, Bool, true, false, List, [], ◌∷◌}
-use Rattle.std.specs.Prelude.{◌++◌, length, map, reverse, if◌then◌else◌, ⊤, All, Option, None, Some}
+use Rattle.std.specs.Prelude.{◌≡◌, ◌+◌, ◌-◌, ◌*◌, ◌^◌, ◌≤◌, ℕ, Bool}
+use Rattle.std.specs.Prelude.{true, false, List, [], ◌∷◌}
+use Rattle.std.specs.Prelude.{◌++◌, length, map, reverse, if◌then◌else◌, ⊤, All, Option}
+use Rattle.std.specs.Prelude.{None, Some}
+use Rattle.std.specs.Prelude.{◌⊎◌}
 use Rattle.std.specs.Prelude.{Result, Ok, Err, Vec, String, string_bytes, vec_len}
 use Rattle.std.specs.Borrow.{Bor}
 use Rattle.std.specs.Str.{bytes_eq}
@@ -17,7 +20,8 @@ use Rattle.cir_sources.specs.Includes.{Contents, Site, Source, seen_items, seen,
 use Rattle.cir_sources.specs.Includes.{IsSource, includes_of, other_version, bytes_at, is_among}
 use Rattle.cir_sources.specs.Includes.{included_name, left_after}
 use Rattle.cir_sources.specs.Faults.{Refusal, IsUnfit, IsFault, most_files}
-use Rattle.cir_sources.specs.Loading.{Global, CodeSource, LoadFault, Loads}
+use Rattle.cir_sources.specs.Loading.{Global, CodeSource, LoadFault, IsAnswer, NoFile}
+use Rattle.cir_sources.specs.Loading.{Refused as IsRefused}
 
 -- the segments that are kept, the last one first
 abbrev pub last_first : List (Bor (List ℕ)) → List (List ℕ)
@@ -35,7 +39,8 @@ Lexes name bytes (Ok tokens) = (length bytes ≤ most_bytes) × IsReading bytes 
 Lexes name bytes (Err e) = Refuses (IsFault name bytes) e
 
 -- the file of tokens with these places
-abbrev pub ParsesFile : List ℕ → List Token → List Spot → Result (CodeFile Spot Meant) LoadFault
+abbrev pub ParsesFile : List ℕ → List Token → List Spot
+    → Result (CodeFile Spot Meant) LoadFault
     → Type 0
 ParsesFile name tokens spots (Ok file) =
     IsFile tokens spots (seen_items file.items) × (other_version (seen_items file.items) ≡ None)
@@ -70,22 +75,32 @@ Fits all missing target files = record {
   there : IsThere files target;
 }
 
--- What is known of the files: it is so where the store tells its contents, and of any store it can
--- be so, with no other names.
-pub record Knows (contents : Option Contents) (named : List ℕ → Bool) (fits : Contents → Type 0)
+-- these are the contents that the store tells, or some that agree with its answers
+abbrev pub MayBe : Option Contents → (Contents → Type 0) → Contents → Type 0
+MayBe contents may_hold files = (contents ≡ Some files) ⊎ may_hold files
+
+-- it is so of all these contents, and of some
+pub record IsOf (held : Contents → Type 0) (P : Contents → Type 0) : Type 0 where
+  pub all : (files : Contents) → held files → P files
+  pub some : (files : Contents) × P files
+
+-- What is known of the files: it is so of all contents that there may be, and it can be so, with no
+-- other names.
+pub record Knows (held : Contents → Type 0) (named : List ℕ → Bool)
+    (fits : Contents → Type 0)
     : Type 0 where
-  pub so : (files : Contents) → contents ≡ Some files → fits files
+  pub so : (files : Contents) → held files → fits files
   pub files : Contents
   pub can : fits files
   pub others : (q : List ℕ) → named q ≡ false → files q ≡ None
 
 -- What a search adds to what is known of the files: names that have no file, and perhaps a file
 -- that it found. It asks for no name that is known.
-pub record Learns (contents : Option Contents) (names old new : BTreeSet (String Global))
+pub record Learns (before after : Contents → Type 0) (names old new : BTreeSet (String Global))
     (target : Target) : Type 0 where
   pub more : (files : Contents) → AreMissing files new → AreMissing files old
-  pub knows : (all : List Source) → Knows contents (contains_text names) (Fits all old Loaded)
-      → Knows contents (is_named names target) (Fits all new target)
+  pub knows : (all : List Source) → Knows before (contains_text names) (Fits all old Loaded)
+      → Knows after (is_named names target) (Fits all new target)
 
 -- what is known of the file of this name: it is loaded, there is none, or it was read
 abbrev pub Looks : Contents → BTreeSet (String Global) → List ℕ → Target → Type 0
@@ -96,7 +111,8 @@ Looks files names name (Found found bytes) =
 
 -- the file that the include names: it is one of these names, there is none, or it is another one,
 -- if that is there
-abbrev pub Targets : Contents → BTreeSet (String Global) → Option (List ℕ) → Site → Target → Type 0
+abbrev pub Targets : Contents → BTreeSet (String Global) → Option (List ℕ) → Site → Target
+    → Type 0
 Targets files names library site Loaded =
     (name : List ℕ) × (included_name files library site ≡ Some name)
     × (contains_text names name ≡ true)
@@ -109,7 +125,8 @@ Targets files names library site (Found name bytes) =
 -- each of these names has a file
 abbrev pub AreHeld : Contents → BTreeSet (String Global) → Type 0
 AreHeld files names =
-    (q : List ℕ) → contains_text names q ≡ true → (bytes : List ℕ) × (bytes_at files q ≡ Some bytes)
+    (q : List ℕ) → contains_text names q ≡ true
+    → (bytes : List ℕ) × (bytes_at files q ≡ Some bytes)
 
 -- what the search for an include's file answers, of all files that are as it has learned
 abbrev pub FindsTarget : BTreeSet (String Global) → BTreeSet (String Global) → Option (List ℕ)
@@ -133,7 +150,8 @@ pub record Adds (old : Loading) (s : Source) (new : Loading) : Type 0 where
   pub sources : all_of new ≡ all_of old ++ s ∷ []
   pub left : left_of new ≡ includes_of s ++ left_of old
   pub names : (q : List ℕ)
-      → contains_text new.names q ≡ (if bytes_eq s.name q then true else contains_text old.names q)
+      → contains_text new.names q ≡
+      (if bytes_eq s.name q then true else contains_text old.names q)
   pub missing : new.missing ≡ old.missing
 
 -- how far it still can go: a file more is worth more than all includes that are left
@@ -152,25 +170,35 @@ pub record IsBegun (name : List ℕ) (names : BTreeSet (String Global)) (all : L
 
 -- How far the loading has come: in all files that are as is known, whatever sources follow, what is
 -- loaded and the includes that are left lead to the same as the first file.
-pub record IsLoading (contents : Option Contents) (name : List ℕ) (library : Option (List ℕ))
+pub record IsLoading (held : Contents → Type 0) (name : List ℕ) (library : Option (List ℕ))
     (names missing : BTreeSet (String Global)) (all : List Source) (left : List Site) : Type 0 where
   pub begun : IsBegun name names all
-  pub knows : Knows contents (contains_text names) (Fits all missing Loaded)
+  pub knows : Knows held (contains_text names) (Fits all missing Loaded)
   pub leads : (files : Contents) → All (IsSource files) all → AreMissing files missing
       → (new : List Source)
       → left_after files library (name ∷ []) (includes_of begun.first) (begun.more ++ new)
       ≡ left_after files library (names_of all) left new
 
+-- why the loading ends
+abbrev pub Ends : (Contents → Type 0) → List ℕ → Option (List ℕ) → Type 0 → LoadFault
+    → Type 0
+Ends held name library failed fault.Missing = IsOf held
+    (λ files. IsAnswer files name library NoFile)
+Ends held name library failed (fault.Refused r) =
+    IsOf held (λ files. IsAnswer files name library (IsRefused r))
+Ends held name library failed fault.Fault = failed
+Ends held name library failed fault.OutOfMemory = ⊤
+
 -- the loading went on, or why it ends
-abbrev pub GoesOn : Option Contents → List ℕ → Option (List ℕ) → Loading → Type 0
+abbrev pub GoesOn : (Contents → Type 0) → List ℕ → Option (List ℕ) → Loading → Type 0
     → Result Unit LoadFault → Type 0
-GoesOn contents name library new failed (Ok u) =
-    IsLoading contents name library new.names new.missing (all_of new) (left_of new)
-GoesOn contents name library new failed (Err e) = Loads contents name library failed (Err e)
+GoesOn held name library new failed (Ok u) =
+    IsLoading held name library new.names new.missing (all_of new) (left_of new)
+GoesOn held name library new failed (Err e) = Ends held name library failed e
 
 -- what following an include answers, where the loading has come to it
-abbrev pub Follows : Option Contents → Option (List ℕ) → Loading → Site → Loading → Type 0
-    → Result Unit LoadFault → Type 0
-Follows contents library old site new failed result = (name : List ℕ)
-    → IsLoading contents name library old.names old.missing (all_of old) (site ∷ left_of old)
-    → GoesOn contents name library new failed result
+abbrev pub Follows : (before after : Contents → Type 0) → Option (List ℕ) → Loading → Site
+    → Loading → Type 0 → Result Unit LoadFault → Type 0
+Follows before after library old site new failed result = (name : List ℕ)
+    → IsLoading before name library old.names old.missing (all_of old) (site ∷ left_of old)
+    → GoesOn after name library new failed result

@@ -3,7 +3,7 @@ ghost use Rattle.std.specs.Prelude.{◌≡◌, IfOk};
 ghost use Rattle.std.specs.Option.{option_copied};
 ghost use Rattle.out_io.specs.Contents.{Contents};
 ghost use Rattle.out_io.specs.Faults.{CountsFaults};
-ghost use Rattle.cir_sources.specs.Steps.{AreMissing, FindsTarget, Learns, Looks};
+ghost use Rattle.cir_sources.specs.Steps.{AreMissing, FindsTarget, Learns, Looks, MayBe};
 
 use crate::path::{beside, in_library};
 use crate::source::Site;
@@ -31,11 +31,15 @@ fn look<S: Store>(
     missing: &mut BTreeSet<String>,
     name: &[u8],
 ) -> Result<Target, IoFault>
-    ensures learns { IfOk result
-        (λ target. Learns (S.contents store.old) names.now missing.old missing.new target) }
+    ensures learns { IfOk result (λ target.
+        Learns (MayBe (S.contents store.old) (S.may_hold store.old))
+        (MayBe (S.contents store.new) (S.may_hold store.new))
+        names.now missing.old missing.new target) }
     ensures looks { IfOk result (λ target. (files : Contents) →
         AreMissing files missing.new → Looks files names.now name.now target) }
     ensures same { S.contents store.new ≡ S.contents store.old }
+    ensures still { (files : Contents) → S.may_hold store.new files
+        → S.may_hold store.old files }
     ensures cause { CountsFaults (S.faults store.old) (S.faults store.new) result }
     ensures steady { S.never_fails store.old
         → S.never_fails store.new × (S.faults store.new ≡ S.faults store.old) }
@@ -72,11 +76,15 @@ pub(crate) fn search<S: Store>(
     library: Option<&str>,
     site: &Site,
 ) -> Result<Target, IoFault>
-    ensures learns { IfOk result
-        (λ target. Learns (S.contents store.old) names.now missing.old missing.new target) }
+    ensures learns { IfOk result (λ target.
+        Learns (MayBe (S.contents store.old) (S.may_hold store.old))
+        (MayBe (S.contents store.new) (S.may_hold store.new))
+        names.now missing.old missing.new target) }
     ensures targets { IfOk result (λ target.
         FindsTarget names.now missing.new (option_copied library.entry) site.now target) }
     ensures same { S.contents store.new ≡ S.contents store.old }
+    ensures still { (files : Contents) → S.may_hold store.new files
+        → S.may_hold store.old files }
     ensures cause { CountsFaults (S.faults store.old) (S.faults store.new) result }
     ensures steady { S.never_fails store.old
         → S.never_fails store.new × (S.faults store.new ≡ S.faults store.old) }

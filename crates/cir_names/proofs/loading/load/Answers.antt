@@ -9,3 +9,9 @@ returns-in-Ok-clause-loads g c =
     told_on _ _ _ (λ files (all : IsLoadedWithout files c.args.name.now
     (option_copied c.args.library) c.in-Ok.loaded.missing (bare_program c.in-Ok.loaded.program)).
     all.loaded) c.in-Ok.ensures.loads
+
+pub returns-in-Ok-clause-answers : goal.returns-in-Ok-clause-answers
+returns-in-Ok-clause-answers g c = λ files held.
+    let all : IsLoadedWithout files c.args.name.now (option_copied c.args.library)
+    c.in-Ok.loaded.missing (bare_program c.in-Ok.loaded.program) =
+    c.in-Ok.ensures.answers files held in all.loaded

@@ -7,7 +7,7 @@ use Rattle.cir_sources.proofs.search.search.Goals as goal
 pub returns-in-Absent-Some-clause-learns : goal.returns-in-Absent-Some-clause-learns
 returns-in-Absent-Some-clause-learns g c =
     let first = rw c.in-Absent-Some.is-0 at c.in_ok-target.ensures.learns in
-    let second = rw c.look.ensures.same at c.in_ok-target-in-Absent-Some.ensures.learns in
+    let second = c.in_ok-target-in-Absent-Some.ensures.learns in
     record {
       more = λ files are. first.more files (second.more files are);
       knows = λ all knows. second.knows all (first.knows all knows);
@@ -18,7 +18,8 @@ returns-in-Absent-Some-clause-targets g c =
     let near = rw (c.in-Absent-Some.is-0, c.as_slice.ensures.value ∙ c.in_ok-name.ensures)
     at c.in_ok-target.ensures.looks in
     let far = rw (c.as_slice-in-Absent-Some.ensures.value ∙ c.in_ok-name-in-Absent-Some.ensures
-    ∙ ap (λ (f : List ℕ). resolved (in_folder f c.args.site.now.name)) c.as_bytes.ensures.value)
+    ∙ ap (λ (f : List ℕ). resolved
+    (in_folder f c.args.site.now.name)) c.as_bytes.ensures.value)
     at c.in_ok-target-in-Absent-Some.ensures.looks in
     rw c.in-Absent-Some.is-1 (λ files are missing.
     let absent : bytes_at files (beside c.args.site.now) ≡ None =
