@@ -1,6 +1,6 @@
 -- A list of rules has one verdict, and a circuit has one answer but for the rules.
-use Rattle.std.proofs.Common.{◌≡◌, ℕ, zero, suc, ◌<◌, ◌⊎◌, inl, inr, List, []}
-use Rattle.std.proofs.Common.{◌∷◌, take, Some, refl, ap, ◌∙◌, subst, arith}
+use Rattle.std.proofs.Common.{◌≡◌, ℕ, zero, suc, ◌<◌, ◌⊎◌, inl, inr, List, [], ◌∷◌, take, Some}
+use Rattle.std.proofs.Common.{refl, ap, ◌∙◌, subst, arith}
 use Rattle.std.specs.Prelude.{slice_get}
 use Rattle.std.proofs.lemmas.Bool.{both_ways, cases_order}
 use Rattle.std.proofs.lemmas.List.{take-take}
@@ -41,22 +41,20 @@ none_bad c rs i a bad =
 none_before : (c : Circuit) (rs : List Rule) (i j : ℕ) → i < j → IsFirstBad c rs i
     → IsFirstBad c rs j → ⊥
 none_before c rs i j low first second =
-    let there : slice_get (take j rs) i ≡ Some first.rule =
-    get_front rs i j low ∙ first.there in
+    let there : slice_get (take j rs) i ≡ Some first.rule = get_front rs i j low ∙ first.there in
     let applies = applies_there c.constraints (opening c) (take j rs) i first.rule second.before
     there in
     first.not_here (subst
     (λ (qs : List Rule). Applies c.constraints (shown_by c.constraints (opening c) qs) first.rule)
     (take-take i j rs (omega arith)) applies)
 
-none_shorter : (c : Circuit) (rs : List Rule) (v w : ℕ) → v < w → IsShort c rs v
-    → IsShort c rs w → ⊥
+none_shorter : (c : Circuit) (rs : List Rule) (v w : ℕ) → v < w → IsShort c rs v → IsShort c rs w
+    → ⊥
 none_shorter c rs v w low first second =
     both_ways ((shown_by c.constraints (opening c) rs).known v) first.not_known
     (second.least v first.output low)
 
-none_short : (c : Circuit) (rs : List Rule) (w : ℕ) → IsCertificate c rs
-    → IsShort c rs w → ⊥
+none_short : (c : Circuit) (rs : List Rule) (w : ℕ) → IsCertificate c rs → IsShort c rs w → ⊥
 none_short c rs w certificate short =
     both_ways ((shown_by c.constraints (opening c) rs).known w) short.not_known
     (certificate.outputs w short.output)
@@ -86,8 +84,7 @@ verdicts_are_one c rs (Short v) (Short w) x y =
     ap Short (same_number v w (λ low. none_shorter c rs v w low x y)
     (λ high. none_shorter c rs w v high y x))
 
-pub never_both : (c : Circuit) (rs : List Rule) (w : ℕ) → IsCertificate c rs
-    → IsLeastUnshown c w → ⊥
+pub never_both : (c : Circuit) (rs : List Rule) (w : ℕ) → IsCertificate c rs → IsLeastUnshown c w → ⊥
 never_both c rs w certificate unshown =
     unshown.never (record {
       rules = rs;
@@ -95,12 +92,10 @@ never_both c rs w certificate unshown =
       known = certificate.outputs w unshown.output;
     })
 
-none_less : (c : Circuit) (v w : ℕ) → v < w → IsLeastUnshown c v
-    → IsLeastUnshown c w → ⊥
+none_less : (c : Circuit) (v w : ℕ) → v < w → IsLeastUnshown c v → IsLeastUnshown c w → ⊥
 none_less c v w low first second = first.never (second.least v first.output low)
 
-pub least_is_one : (c : Circuit) (v w : ℕ) → IsLeastUnshown c v → IsLeastUnshown c w
-    → v ≡ w
+pub least_is_one : (c : Circuit) (v w : ℕ) → IsLeastUnshown c v → IsLeastUnshown c w → v ≡ w
 least_is_one c v w x y =
     same_number v w (λ low. none_less c v w low x y) (λ high. none_less c w v high y x)
 

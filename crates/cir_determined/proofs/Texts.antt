@@ -1,8 +1,7 @@
 -- Texts of rules: what is written reads back, and a line that is read is the one that is written.
-use Rattle.std.proofs.Common.{◌≡◌, ◌≢◌, ℕ, ◌<◌, ◌≤◌, ◌^◌, Bool, true}
-use Rattle.std.proofs.Common.{false, not, eqb, cond, List, [], ◌∷◌, ◌++◌, length, map}
-use Rattle.std.proofs.Common.{Option, Some, None, Ok, refl, ap, ◌∙◌, subst, arith, decimal}
-use Rattle.std.proofs.Common.{◌+◌, ◌↔◌, take, get_or}
+use Rattle.std.proofs.Common.{◌≡◌, ◌≢◌, ℕ, ◌<◌, ◌≤◌, ◌^◌, Bool, true, false, not, eqb, cond, List, []}
+use Rattle.std.proofs.Common.{◌∷◌, ◌++◌, length, map, Option, Some, None, Ok, refl, ap, ◌∙◌, subst}
+use Rattle.std.proofs.Common.{arith, decimal, ◌+◌, ◌↔◌, take, get_or}
 use Rattle.std.specs.Prelude.{codes, bytes_eq, option_map}
 use Rattle.std.specs.Int.{IsInRange}
 use Rattle.std.specs.List.{All, list_all, flat_map}
@@ -25,13 +24,11 @@ use Rattle.cir_determined.specs.Text.{both_numbers, pair_of, rule_named, rule_in
 use Rattle.cir_determined.specs.Text.{IsNarrow}
 
 -- by a test that computes
-lacks : (byte : ℕ) (xs : List ℕ) → list_all (λ b. not (eqb b byte)) xs ≡ true
-    → HasNo byte xs
+lacks : (byte : ℕ) (xs : List ℕ) → list_all (λ b. not (eqb b byte)) xs ≡ true → HasNo byte xs
 lacks byte [] h = All-nil (λ b. b ≢ byte)
 lacks byte (x ∷ xs) h =
     let p = and_parts (not (eqb x byte)) (list_all (λ b. not (eqb b byte)) xs) h in
-    All-cons (λ b. b ≢ byte) x xs (eqb-false x byte (not-true (eqb x byte) p.0))
-    (lacks byte xs p.1)
+    All-cons (λ b. b ≢ byte) x xs (eqb-false x byte (not-true (eqb x byte) p.0)) (lacks byte xs p.1)
 
 no_space : (n : ℕ) → n < 2 ^ 32 → HasNo 32 (decimal n)
 no_space n small =
@@ -45,8 +42,7 @@ pair_again : (m n : ℕ) → m < 2 ^ 32 → n < 2 ^ 32 → pair_of (pair_text m 
 pair_again m n low high =
     let split = split_again 32 (decimal m) (decimal n) (no_space m low) in
     ap both_numbers split
-    ∙ (ap (λ (o : Option ℕ). with_second o (number_of (decimal n)))
-    (numerals.written_again m low)
+    ∙ (ap (λ (o : Option ℕ). with_second o (number_of (decimal n))) (numerals.written_again m low)
     ∙ ap (with_second (Some m)) (numerals.written_again n high))
 
 line_again : (r : Rule) → IsNarrow r → rule_of (line_of r) ≡ Some r
@@ -101,9 +97,8 @@ pub record IsPair (text : List ℕ) (m n : ℕ) : Type 0 where
   pub first : m < 2 ^ 32
   pub second : n < 2 ^ 32
 
-numbers_are : (text a b : List ℕ) (m n : ℕ) (x y : Option ℕ)
-    → number_of a ≡ x → number_of b ≡ y → text ≡ a ++ 32 ∷ b
-    → with_second x y ≡ Some (m, n) → IsPair text m n
+numbers_are : (text a b : List ℕ) (m n : ℕ) (x y : Option ℕ) → number_of a ≡ x → number_of b ≡ y
+    → text ≡ a ++ 32 ∷ b → with_second x y ≡ Some (m, n) → IsPair text m n
 numbers_are text a b m n None y p q e h = cc
 numbers_are text a b m n (Some i) None p q e h = cc
 numbers_are text a b m n (Some i) (Some j) p q e h =
@@ -122,8 +117,8 @@ numbers_are text a b m n (Some i) (Some j) p q e h =
       second = omega (arith, w.1, jn);
     }
 
-parts_are : (text : List ℕ) (m n : ℕ) (o : Option (List ℕ × List ℕ))
-    → split_once 32 text ≡ o → both_numbers o ≡ Some (m, n) → IsPair text m n
+parts_are : (text : List ℕ) (m n : ℕ) (o : Option (List ℕ × List ℕ)) → split_once 32 text ≡ o
+    → both_numbers o ≡ Some (m, n) → IsPair text m n
 parts_are text m n None e h = cc
 parts_are text m n (Some parts) e h =
     numbers_are text parts.0 parts.1 m n (number_of parts.0) (number_of parts.1) refl refl
@@ -143,14 +138,12 @@ mapped f None b h = cc
 mapped f (Some a) b h = (a, refl, cc)
 
 by_test : (Goal : Type 0) (t : Bool) (x y : Option Rule) (rule : Rule)
-    → (t ≡ true → x ≡ Some rule → Goal) → (y ≡ Some rule → Goal)
-    → cond t x y ≡ Some rule → Goal
+    → (t ≡ true → x ≡ Some rule → Goal) → (y ≡ Some rule → Goal) → cond t x y ≡ Some rule → Goal
 by_test Goal true x y rule f g h = f refl h
 by_test Goal false x y rule f g h = g h
 
-along : (line name text numbers : List ℕ) → line ≡ name ++ 32 ∷ numbers
-    → (word : List ℕ) → bytes_eq name word ≡ true → numbers ≡ text
-    → line ≡ word ++ 32 ∷ text
+along : (line name text numbers : List ℕ) → line ≡ name ++ 32 ∷ numbers → (word : List ℕ)
+    → bytes_eq name word ≡ true → numbers ≡ text → line ≡ word ++ 32 ∷ text
 along line name text numbers e word same is =
     e ∙ (ap (λ (l : List ℕ). l ++ 32 ∷ numbers) ((bytes_eq-Decides name word).0 same)
     ∙ ap (λ (l : List ℕ). word ++ 32 ∷ l) is)
@@ -184,8 +177,8 @@ named line name numbers rule e h =
           narrow = (p.first, p.second);
         })
 
-    bits : bytes_eq name (codes "bits") ≡ true
-        → option_map Bits (number_of numbers) ≡ Some rule → IsLine line rule
+    bits : bytes_eq name (codes "bits") ≡ true → option_map Bits (number_of numbers) ≡ Some rule
+        → IsLine line rule
     bits same k =
         let w = mapped Bits (number_of numbers) rule k in
         let p = is_written w.0 numbers w.1 in
@@ -194,8 +187,8 @@ named line name numbers rule e h =
           narrow = p.1;
         })
 
-in_parts : (line : List ℕ) (rule : Rule) (o : Option (List ℕ × List ℕ))
-    → split_once 32 line ≡ o → rule_in o ≡ Some rule → IsLine line rule
+in_parts : (line : List ℕ) (rule : Rule) (o : Option (List ℕ × List ℕ)) → split_once 32 line ≡ o
+    → rule_in o ≡ Some rule → IsLine line rule
 in_parts line rule None e h = cc
 in_parts line rule (Some parts) e h =
     named line parts.0 parts.1 rule (split_parts 32 line parts.0 parts.1 e) h
@@ -213,8 +206,7 @@ text_more rules i d low =
     let line : List ℕ → List ℕ = λ l. l ++ 10 ∷ [] in
     let front : List (List ℕ) = map line_of (take i rules) in
     let last : List ℕ = line_of (get_or rules i d) in
-    let both : flat_map line (front ++ last ∷ [])
-    ≡ flat_map line front ++ flat_map line (last ∷ []) =
+    let both : flat_map line (front ++ last ∷ []) ≡ flat_map line front ++ flat_map line (last ∷ []) =
     flat_map-append line front (last ∷ []) in
     let one : flat_map line (last ∷ []) ≡ line last = append-nil (line last) in
     ap rules_text (take_more rules i d low)

@@ -1,6 +1,7 @@
 -- Texts of rules: a line for each.
-use Rattle.std.specs.Prelude.{ℕ, ◌<◌, ◌^◌, List, ◌∷◌, ◌++◌, map, codes, decimal}
-use Rattle.std.specs.Prelude.{bytes_eq, Option, Some, None, option_map, Result, if◌then◌else◌}
+use Rattle.std.specs.Prelude.{ℕ, ◌<◌, ◌^◌, List, ◌∷◌, ◌++◌, map, codes, decimal, bytes_eq}
+use Rattle.std.specs.Prelude.{Option, Some, None, option_map, Result}
+use Rattle.std.specs.Prelude.{if◌then◌else◌}
 use Rattle.text_lines.specs.Lines.{split_once, text_of}
 use Rattle.text_lines.specs.Number.{plain_below}
 use Rattle.text_lines.specs.Reading.{LineRefusal, reading}

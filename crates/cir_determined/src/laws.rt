@@ -1,6 +1,5 @@
 //! Laws of certificates, as functions that do nothing: the law is what each ensures.
-ghost use Rattle.std.specs.Prelude.{◌≡◌, ◌⊎◌, ◌↔◌, ℕ, ◌*◌, ◌≤◌, true};
-ghost use Rattle.std.specs.Prelude.{List, All, length, Some, Ok};
+ghost use Rattle.std.specs.Prelude.{◌≡◌, ◌⊎◌, ◌↔◌, ℕ, ◌*◌, ◌≤◌, true, List, All, length, Some, Ok};
 ghost use Rattle.gold_field.specs.Form.{ConstraintBelow};
 ghost use Rattle.cir_determined.specs.declared.rule.Rule.{Rule as ARule};
 ghost use Rattle.cir_determined.specs.declared.rule.Confirm.{Confirm as AConfirm};

@@ -1,5 +1,4 @@
-ghost use Rattle.std.specs.Prelude.{◌≡◌, ◌≤◌, [], ◌∷◌, ◌++◌, length, decimal};
-ghost use Rattle.std.specs.Prelude.{IfOk, OnOk, Ok};
+ghost use Rattle.std.specs.Prelude.{◌≡◌, ◌≤◌, [], ◌∷◌, ◌++◌, length, decimal, IfOk, OnOk, Ok};
 ghost use Rattle.binary_format.specs.Reading.{Gives};
 ghost use Rattle.text_lines.specs.Reading.{refused};
 ghost use Rattle.cir_determined.specs.Text.{line_of, pair_of, pair_text, rule_of, rule_named};

@@ -1,5 +1,4 @@
-ghost use Rattle.std.specs.Prelude.{◌≡◌, ◌+◌, ◌<◌, ◌≤◌, ◌^◌, length, All};
-ghost use Rattle.std.specs.Prelude.{IfOk, IsTrue};
+ghost use Rattle.std.specs.Prelude.{◌≡◌, ◌+◌, ◌<◌, ◌≤◌, ◌^◌, length, All, IfOk, IsTrue};
 ghost use Rattle.gold_field.specs.Form.{ConstraintBelow, SignalsBelow};
 
 use cir_determined::{Answer, Confirm, Rule, confirm, determine, read_rules};

@@ -1,7 +1,7 @@
 -- Values of the polynomial of a row, from the row's values: the sums of products are the same
 -- before a transform and behind it.
-use Rattle.std.proofs.Common.{◌≡◌, ℕ, ◌*◌, ◌%◌, ◌^◌, ◌<◌, List, length}
-use Rattle.std.proofs.Common.{get_or, sym, ap, ◌∙◌, arith, mul_comm}
+use Rattle.std.proofs.Common.{◌≡◌, ℕ, ◌*◌, ◌%◌, ◌^◌, ◌<◌, List, length, get_or, sym, ap, ◌∙◌, arith}
+use Rattle.std.proofs.Common.{mul_comm}
 use Rattle.std.proofs.lemmas.Nat.{mul-mod_first, mul-mod_second}
 use Rattle.gold_field.specs.declared.gold.TheConstants.{P}
 use Rattle.gold_field.proofs.PowerSteps.{pow_pow}
@@ -16,8 +16,7 @@ use Rattle.lig_proof.specs.Points.{width_log}
 use Rattle.lig_proof.proofs.Interpolants.{width_is}
 
 -- the values of c at the powers of w, each times a number
-expanded : (n w : ℕ) (v c row : ℕ → ℕ)
-    → ((i : ℕ) → i < n → row i ≡ poly n c (w ^ i) % P)
+expanded : (n w : ℕ) (v c row : ℕ → ℕ) → ((i : ℕ) → i < n → row i ≡ poly n c (w ^ i) % P)
     → sum_to n (λ i. row i * v i) % P
     ≡ sum_to n (λ i. sum_to n (λ j. v i * (c j * (w ^ i) ^ j))) % P
 expanded n w v c row is =
@@ -48,8 +47,7 @@ turned e a b at_a at_b long_a long_b first second =
     (λ j low. sum_same n (λ i. term i j) (λ i. back j i) (λ i l. same i j)))
     ∙ sym (expanded n w x y (λ i. get_or at_b i 0)
     (λ i low. value_at_root e b at_b i long_b second low))
-    ∙ ap (λ (z : ℕ). z % P) (sum_same n (λ i. get_or at_b i 0 * x i)
-    (λ i. x i * get_or at_b i 0)
+    ∙ ap (λ (z : ℕ). z % P) (sum_same n (λ i. get_or at_b i 0 * x i) (λ i. x i * get_or at_b i 0)
     (λ i low. mul_comm (get_or at_b i 0) (x i)))
   where
     order : (v c p q : ℕ) → p ≡ q → v * (c * p) ≡ c * (v * q)
@@ -60,16 +58,14 @@ turned e a b at_a at_b long_a long_b first second =
 -- what the inverse transform of the powers of x is for
 pub weighed : (p : Params) (x : ℕ) (row polynomial weights powers : List ℕ) → IsParams p
     → length weights ≡ p.l → IsTransform (width_log p) weights powers
-    → ((i : ℕ) → i < p.l → get_or powers i 0 ≡ x ^ i % P)
-    → Interpolates p row polynomial
+    → ((i : ℕ) → i < p.l → get_or powers i 0 ≡ x ^ i % P) → Interpolates p row polynomial
     → sum_to p.l (λ i. get_or row i 0 * get_or weights i 0) % P ≡ eval_at polynomial x
 weighed p x row polynomial weights powers h long transform are row_is =
     let e = width_log p in
     let power = (width_is p h).power in
     let count = row_is.degree.count in
     ap (λ n. sum_to n (λ i. get_or row i 0 * get_or weights i 0) % P) power
-    ∙ turned e polynomial weights row powers (count ∙ power)
-    (long ∙ power) row_is.values transform
+    ∙ turned e polynomial weights row powers (count ∙ power) (long ∙ power) row_is.values transform
     ∙ ap (λ n. sum_to n (λ i. get_or polynomial i 0 * get_or powers i 0) % P)
     (sym power ∙ sym count)
     ∙ sum_mod P (length polynomial) (λ i. get_or polynomial i 0 * get_or powers i 0)

@@ -1,7 +1,6 @@
 //! The test that the values of the columns fit the linear system.
 
-ghost use Rattle.std.specs.Prelude.{◌≡◌, ◌<◌, ◌*◌, ◌↔◌, [], ℕ, List, IfOk};
-ghost use Rattle.std.specs.Prelude.{IsTrue, length};
+ghost use Rattle.std.specs.Prelude.{◌≡◌, ◌<◌, ◌*◌, ◌↔◌, [], ℕ, List, IfOk, IsTrue, length};
 ghost use Rattle.iden_files.specs.File.{InLimits};
 ghost use Rattle.lig_layout.specs.Sizes.{IsParams, params_of};
 ghost use Rattle.lig_layout.specs.System.{equation_count};

@@ -1,6 +1,5 @@
 -- What a column of a matrix says, and what is audited where columns of a matrix are opened.
-use Rattle.std.proofs.Common.{◌≡◌, ℕ, ◌+◌, ◌-◌, ◌*◌, ◌%◌, ◌<◌, List}
-use Rattle.std.proofs.Common.{map, ap, ◌∙◌, arith}
+use Rattle.std.proofs.Common.{◌≡◌, ℕ, ◌+◌, ◌-◌, ◌*◌, ◌%◌, ◌<◌, List, map, ap, ◌∙◌, arith}
 use Rattle.gold_field.specs.declared.gold.TheConstants.{P}
 use Rattle.gold_ntt.specs.Polynomial.{sum_to, eval_at}
 use Rattle.gold_ntt.proofs.Sums.{sum_same}
@@ -18,8 +17,8 @@ use Rattle.lig_complete.specs.Offers.{AreSent}
 use Rattle.lig_complete.proofs.Columns.{row_is, proximity_is, linear_is, product_is}
 
 -- what an auditor tests, where these are sent and these columns are opened
-abbrev pub audit : Params → Challenges → Encoded → Polynomials → (ℕ → ℕ → List ℕ)
-    → List ℕ → List ℕ → Audit
+abbrev pub audit : Params → Challenges → Encoded → Polynomials → (ℕ → ℕ → List ℕ) → List ℕ
+    → List ℕ → Audit
 audit p c e sent system rights opened = record {
   params = p;
   challenges = c;

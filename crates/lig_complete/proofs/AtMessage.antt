@@ -1,6 +1,5 @@
 -- The values of what is sent at the message points.
-use Rattle.std.proofs.Common.{◌≡◌, ℕ, ◌+◌, ◌-◌, ◌*◌, ◌%◌, ◌<◌, List}
-use Rattle.std.proofs.Common.{get_or, ap, ◌∙◌, arith}
+use Rattle.std.proofs.Common.{◌≡◌, ℕ, ◌+◌, ◌-◌, ◌*◌, ◌%◌, ◌<◌, List, get_or, ap, ◌∙◌, arith}
 use Rattle.std.proofs.Math.Nat.{mod-mod}
 use Rattle.gold_field.specs.declared.gold.TheConstants.{P}
 use Rattle.gold_field.proofs.Euclid.{plus_zero}
@@ -19,8 +18,8 @@ use Rattle.lig_complete.proofs.Folding.{sum_grid}
 
 -- the values at the message points: of the rows those of the matrix, of the system those of the
 -- combined one; the masks don't count
-pub record AreMessages (p : Params) (e : Encoded) (system : ℕ → ℕ → List ℕ)
-    (values : List ℕ) (combination : ℕ → List ℕ) : Type 0 where
+pub record AreMessages (p : Params) (e : Encoded) (system : ℕ → ℕ → List ℕ) (values : List ℕ)
+    (combination : ℕ → List ℕ) : Type 0 where
   pub row : (k j : ℕ) → k < p.rows → j < p.l → eval_at (e.row k) (message_point p j)
       ≡ get_or values (k * p.l + j) 0
   pub combined : (t k j : ℕ) → t < 2 → k < p.rows → j < p.l

@@ -1,6 +1,6 @@
 -- The tests of an audit, where what is sent and opened is a prover's, in terms of the matrix.
-use Rattle.std.proofs.Common.{◌≡◌, ◌↔◌, ℕ, zero, suc, ◌%◌, ◌<◌, List, []}
-use Rattle.std.proofs.Common.{length, get_or, map, sym, ap, subst, ◌∙◌, arith}
+use Rattle.std.proofs.Common.{◌≡◌, ◌↔◌, ℕ, zero, suc, ◌%◌, ◌<◌, List, [], length, get_or}
+use Rattle.std.proofs.Common.{map, sym, ap, subst, ◌∙◌, arith}
 use Rattle.std.proofs.lemmas.List.{length-map, get_or-map}
 use Rattle.gold_field.specs.declared.gold.TheConstants.{P}
 use Rattle.gold_ntt.specs.Polynomial.{sum_to, eval_at}
@@ -35,8 +35,7 @@ Covers xs ys = (q : ℕ) → q < length xs
     → (k : ℕ) × (k < length ys) × (get_or ys k 0 ≡ get_or xs q 0)
 
 moved : (G : ℕ → Type 0) (xs ys : List ℕ) → Covers xs ys
-    → ((k : ℕ) → k < length ys → G (get_or ys k 0)) → (q : ℕ) → q < length xs
-    → G (get_or xs q 0)
+    → ((k : ℕ) → k < length ys → G (get_or ys k 0)) → (q : ℕ) → q < length xs → G (get_or xs q 0)
 moved G xs ys covers all q inside = let at = covers q inside in subst G at.2 (all at.0 at.1)
 
 pub twice_at : (F : ℕ → Type 0) → Twice F → (t : ℕ) → t < 2 → F t
@@ -72,8 +71,7 @@ module _ (p : Params) (e : Encoded) (drawn opened A B : List ℕ) (same : A ≡ 
       ∙ holds k (omega (arith, length-map opened (column_at p e)))
       ∙ ap (value (code_point p i)) (column_of k inside) ∙ says i)
 
-  to_opened : Covers opened drawn → ((q : ℕ) → q < length drawn
-      → Agreeing (get_or drawn q 0))
+  to_opened : Covers opened drawn → ((q : ℕ) → q < length drawn → Agreeing (get_or drawn q 0))
       → AtOpened
   to_opened covers agrees q within =
       let inside : q < length opened = omega (arith, length-map opened (column_at p e)) in
@@ -84,8 +82,7 @@ module _ (p : Params) (e : Encoded) (drawn opened A B : List ℕ) (same : A ≡ 
 
 -- ---- the five tests
 
-module _ (p : Params) (c : Challenges) (e : Encoded) (s : Polynomials)
-    (system : ℕ → ℕ → List ℕ)
+module _ (p : Params) (c : Challenges) (e : Encoded) (s : Polynomials) (system : ℕ → ℕ → List ℕ)
     (rights drawn opened : List ℕ) (h : IsParams p) (sent : AreSent p s)
     (down : Covers drawn opened) (up : Covers opened drawn) where
   abbrev pub offer : Offer
@@ -178,8 +175,8 @@ module _ (p : Params) (c : Challenges) (e : Encoded) (s : Polynomials)
 
 -- ---- the first that fails
 
-first_moves : (A B C D E F G H I J : Type 0) → A ↔ F → B ↔ G → C ↔ H → D ↔ I
-    → E ↔ J → (v : Verdict) → FirstOf A B C D E v → FirstOf F G H I J v
+first_moves : (A B C D E F G H I J : Type 0) → A ↔ F → B ↔ G → C ↔ H → D ↔ I → E ↔ J
+    → (v : Verdict) → FirstOf A B C D E v → FirstOf F G H I J v
 first_moves A B C D E F G H I J a b c d e Accepted k = (a.0 k.0, b.0 k.1, c.0 k.2, d.0 k.3, e.0 k.4)
 first_moves A B C D E F G H I J a b c d e NotNear k = λ x. k (a.1 x)
 first_moves A B C D E F G H I J a b c d e NotSum k = (a.0 k.0, λ x. k.1 (b.1 x))
@@ -221,8 +218,7 @@ is_tested a _ k = absurd k
 turned : (A B : Type 0) → A ↔ B → B ↔ A
 turned A B both = (both.1, both.0)
 
-module _ (p : Params) (c : Challenges) (e : Encoded) (s : Polynomials)
-    (system : ℕ → ℕ → List ℕ)
+module _ (p : Params) (c : Challenges) (e : Encoded) (s : Polynomials) (system : ℕ → ℕ → List ℕ)
     (rights drawn opened : List ℕ) (h : IsParams p) (sent : AreSent p s)
     (down : Covers drawn opened) (up : Covers opened drawn) where
   abbrev o : Offer

@@ -1,7 +1,6 @@
 -- The verdict on what is made of any vectors.
-use Rattle.std.proofs.Common.{◌≡◌, ◌↔◌, ℕ, ◌+◌, ◌-◌, ◌*◌, ◌%◌}
-use Rattle.std.proofs.Common.{◌<◌, List, length, get_or, sym, ap, slice_index, subst, ◌∙◌}
-use Rattle.std.proofs.Common.{arith}
+use Rattle.std.proofs.Common.{◌≡◌, ◌↔◌, ℕ, ◌+◌, ◌-◌, ◌*◌, ◌%◌, ◌<◌, List, length, get_or, sym, ap}
+use Rattle.std.proofs.Common.{slice_index, subst, ◌∙◌, arith}
 use Rattle.std.proofs.Math.Nat.{zero-mod}
 use Rattle.gold_field.specs.declared.gold.TheConstants.{P}
 use Rattle.gold_field.proofs.Euclid.{times_zero}
@@ -102,8 +101,7 @@ module _ (r1cs_bytes : List ℕ) (f : File) (v : Vectors) (seed : List ℕ) (e :
   count = length-publics f v.w file are.w.count
 
   module _ (systems : AreSystems f c system) where
-    sizes : (t k : ℕ) → t < 2 → k < (params_of f).rows
-        → AreValues (params_of f).l (system t k)
+    sizes : (t k : ℕ) → t < 2 → k < (params_of f).rows → AreValues (params_of f).l (system t k)
     sizes t k low inside = (systems t low k inside).degree
 
     near : ProximityAgrees o
@@ -249,10 +247,9 @@ module _ (r1cs_bytes : List ℕ) (f : File) (v : Vectors) (seed : List ℕ) (e :
     }
 
 -- what is made, as what is offered
-module _ (version : Version) (r1cs_bytes : List ℕ) (f : File) (v : Vectors)
-    (seed bytes : List ℕ) (file : IsFile f) (limits : InLimits f) (are : AreVectors f v)
-    (made : AreMade version r1cs_bytes f v seed bytes)
-    (Says : Challenges → List ℕ → Type 0) where
+module _ (version : Version) (r1cs_bytes : List ℕ) (f : File) (v : Vectors) (seed bytes : List ℕ)
+    (file : IsFile f) (limits : InLimits f) (are : AreVectors f v)
+    (made : AreMade version r1cs_bytes f v seed bytes) (Says : Challenges → List ℕ → Type 0) where
   abbrev drawn_for : Challenges
   drawn_for =
       challenges_for r1cs_bytes f (publics_of f v.w) (commitment (params_of f) made.encoded)
@@ -290,8 +287,7 @@ no_excess x y z e = rest (x * y) z e
     rest a z e = omega arith
 
 -- the combined products of vectors that are products are 0
-pub products_pass : (f : File) (v : Vectors) (c : Challenges) → AreProducts v
-    → ProductsPass f v c
+pub products_pass : (f : File) (v : Vectors) (c : Challenges) → AreProducts v → ProductsPass f v c
 products_pass f v c are = (λ j inside. none 0 j, λ j inside. none 1 j)
   where
     none : (t j : ℕ) → (let p = params_of f in

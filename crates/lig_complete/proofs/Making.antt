@@ -1,8 +1,7 @@
 -- Any vectors have a proof; and without the sum over the message points, so have all public values.
-use Rattle.std.proofs.Common.{◌≡◌, ℕ, suc, ◌+◌, ◌-◌, ◌*◌, ◌%◌, ◌<◌}
-use Rattle.std.proofs.Common.{◌≤◌, ◌⊎◌, inl, inr, List, [], ◌∷◌, ◌++◌, All}
-use Rattle.std.proofs.Common.{length, get_or, replicate, take, drop, refl, sym, ap, subst}
-use Rattle.std.proofs.Common.{◌∙◌, arith, ⊎_elim}
+use Rattle.std.proofs.Common.{◌≡◌, ℕ, suc, ◌+◌, ◌-◌, ◌*◌, ◌%◌, ◌<◌, ◌≤◌, ◌⊎◌, inl, inr, List}
+use Rattle.std.proofs.Common.{[], ◌∷◌, ◌++◌, All, length, get_or, replicate, take, drop}
+use Rattle.std.proofs.Common.{refl, sym, ap, subst, ◌∙◌, arith, ⊎_elim}
 use Rattle.std.proofs.Math.Nat.{mul-le-mul_left}
 use Rattle.std.proofs.Math.Seq.{take-append_seam}
 use Rattle.std.proofs.lemmas.Bool.{cases_lt}
@@ -82,8 +81,7 @@ zeros_low n k d inside =
 padded_low : (n : ℕ) (xs : List ℕ) → All (λ value. value < P) xs
     → All (λ value. value < P) (padded n xs)
 padded_low n xs low =
-    All-append (λ value. value < P) xs (replicate (n - length xs) 0) low
-    (zeros_low (n - length xs))
+    All-append (λ value. value < P) xs (replicate (n - length xs) 0) low (zeros_low (n - length xs))
 
 message_low : (p : Params) (f : File) (v : Vectors) → AreVectors f v
     → All (λ value. value < P) (message p v)
@@ -105,8 +103,7 @@ combination_values f c t =
     made_values (p.rows * p.l)
     (λ place. combined_at place (r_numbers (equation_count f) c t) (left_sides p f))
 
-values_low : (n : ℕ) (values : List ℕ) → AreValues n values → (i : ℕ)
-    → get_or values i 0 < P
+values_low : (n : ℕ) (values : List ℕ) → AreValues n values → (i : ℕ) → get_or values i 0 < P
 values_low n values are i = ⊎_elim
     (λ inside. value_below n values are i inside)
     (λ past. let none = get_or_past values i 0 past in omega arith)
@@ -200,8 +197,8 @@ none_but f publics =
       z = zeros;
     }
 
-module _ (f : File) (publics : List ℕ) (file : IsFile f)
-    (count : length publics ≡ public_count f) (numbers : All (λ value. value < P) publics) where
+module _ (f : File) (publics : List ℕ) (file : IsFile f) (count : length publics ≡ public_count f)
+    (numbers : All (λ value. value < P) publics) where
   abbrev v : Vectors
   v = none_but f publics
 

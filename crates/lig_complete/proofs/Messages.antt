@@ -1,7 +1,6 @@
 -- What an encoded matrix of vectors has at the message points.
-use Rattle.std.proofs.Common.{◌≡◌, ℕ, zero, suc, ◌+◌, ◌-◌, ◌*◌, ◌%◌}
-use Rattle.std.proofs.Common.{◌^◌, ◌<◌, List, ◌∷◌, length, get_or, drop, sym, ap}
-use Rattle.std.proofs.Common.{subst, ◌∙◌, arith}
+use Rattle.std.proofs.Common.{◌≡◌, ℕ, zero, suc, ◌+◌, ◌-◌, ◌*◌, ◌%◌, ◌^◌, ◌<◌, List, ◌∷◌}
+use Rattle.std.proofs.Common.{length, get_or, drop, sym, ap, subst, ◌∙◌, arith}
 use Rattle.std.proofs.lemmas.Nat.{pow_pos}
 use Rattle.std.proofs.lemmas.List.{length-take-le, length-drop}
 use Rattle.gold_field.specs.declared.gold.TheConstants.{P}
@@ -83,8 +82,7 @@ combination f c t =
     combined (p.rows * p.l) (r_numbers (equation_count f) c t) (left_sides p f)
 
 module _ (f : File) (v : Vectors) (seed : List ℕ) (c : Challenges) (e : Encoded)
-    (system : ℕ → ℕ → List ℕ) (h : IsParams (params_of f))
-    (degrees : HasDegrees (params_of f) e)
+    (system : ℕ → ℕ → List ℕ) (h : IsParams (params_of f)) (degrees : HasDegrees (params_of f) e)
     (encoded : IsEncoded (params_of f) v seed e) (systems : AreSystems f c system) where
   abbrev values : List ℕ
   values = message (params_of f) v

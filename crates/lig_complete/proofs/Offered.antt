@@ -1,7 +1,7 @@
 -- The verdict on a matrix and polynomials that are offered.
-use Rattle.std.proofs.Common.{◌≡◌, ℕ, zero, suc, ◌+◌, ◌*◌, ◌%◌, ◌<◌}
-use Rattle.std.proofs.Common.{◌≤◌, List, ◌∷◌, Bool, true, cond, All, Result, Ok, length}
-use Rattle.std.proofs.Common.{get_or, filter, refl, sym, ap, subst, ◌∙◌, arith, ⊎_elim}
+use Rattle.std.proofs.Common.{◌≡◌, ℕ, zero, suc, ◌+◌, ◌*◌, ◌%◌, ◌<◌, ◌≤◌, List, ◌∷◌, Bool}
+use Rattle.std.proofs.Common.{true, cond, All, Result, Ok, length, get_or, filter, refl, sym}
+use Rattle.std.proofs.Common.{ap, subst, ◌∙◌, arith, ⊎_elim}
 use Rattle.std.specs.List.{range_with_len}
 use Rattle.std.proofs.lemmas.Bool.{cases_lt, cases_Bool, both_ways}
 use Rattle.std.proofs.lemmas.List.{length-map}
@@ -102,9 +102,9 @@ once_covered p drawn = λ q inside.
 
 -- ---- systems are one
 
-systems_same : (f : File) (c : Challenges) (first second : ℕ → ℕ → List ℕ)
-    → IsParams (params_of f) → AreSystems f c first → AreSystems f c second
-    → (t k : ℕ) → t < 2 → k < (params_of f).rows → first t k ≡ second t k
+systems_same : (f : File) (c : Challenges) (first second : ℕ → ℕ → List ℕ) → IsParams (params_of f)
+    → AreSystems f c first → AreSystems f c second → (t k : ℕ) → t < 2 → k < (params_of f).rows
+    → first t k ≡ second t k
 systems_same f c first second h one two t k low inside =
     let p = params_of f in
     polynomials_are_one p
@@ -159,8 +159,7 @@ module _ (r1cs_bytes : List ℕ) (f : File) (publics bytes : List ℕ) (proof : 
 
   module _ (leads : (q : ℕ) → q < ways_in proof → Leads (params_of f) indices proof q) where
     passed : (v : Verdict)
-        → IsFirstFailure (ways_in proof) (Leads (params_of f) indices proof) (Tested v) v
-        → Tested v
+        → IsFirstFailure (ways_in proof) (Leads (params_of f) indices proof) (Tested v) v → Tested v
     passed (BadPath opened) failure = absurd (failure.2 (leads opened failure.0))
     passed _ failure = failure.1
 
@@ -247,8 +246,7 @@ module _ (r1cs_bytes : List ℕ) (f : File) (publics : List ℕ) (e : Encoded)
       (ProductsAgree a) v
 
   -- the system of the verdict is this one
-  claims_moved : (other : ℕ → ℕ → List ℕ) (v : Verdict)
-      → AreSystems f o.challenges other
+  claims_moved : (other : ℕ → ℕ → List ℕ) (v : Verdict) → AreSystems f o.challenges other
       → AreSystems f o.challenges system → Claims other v → Claims system v
   claims_moved other v others systems claims =
       let p = params_of f in

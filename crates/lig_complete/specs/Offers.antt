@@ -1,8 +1,7 @@
 -- The verdict on a proof of a prover who commits to any matrix and sends any six polynomials. All
 -- else is as every prover has it: challenges, drawn columns, their values and their ways to the
 -- root.
-use Rattle.std.specs.Prelude.{◌≡◌, ◌↔◌, ℕ, ◌*◌, ◌%◌, ◌<◌, List, length}
-use Rattle.std.specs.Prelude.{slice_index}
+use Rattle.std.specs.Prelude.{◌≡◌, ◌↔◌, ℕ, ◌*◌, ◌%◌, ◌<◌, List, length, slice_index}
 use Rattle.gold_field.specs.declared.gold.TheConstants.{P}
 use Rattle.gold_ntt.specs.Polynomial.{sum_to, eval_at}
 use Rattle.iden_files.specs.File.{File, InLimits}
@@ -34,8 +33,7 @@ pub record Offer : Type 0 where
   pub sent : Polynomials
   pub drawn : List ℕ
 
-abbrev pub offer_of : List ℕ → File → List ℕ → Encoded → (ℕ → ℕ → List ℕ)
-    → Polynomials → Offer
+abbrev pub offer_of : List ℕ → File → List ℕ → Encoded → (ℕ → ℕ → List ℕ) → Polynomials → Offer
 offer_of r1cs_bytes f publics e system sent =
     let p = params_of f in
     let c = challenges_for r1cs_bytes f publics (commitment p e) in
@@ -106,8 +104,8 @@ FirstOf A B C D E _ = ⊥
 -- the verdict on what is offered
 abbrev pub OffersHaveVerdicts : Type 0
 OffersHaveVerdicts = (version : Version) (r1cs_bytes : List ℕ) (f : File) (publics : List ℕ)
-    (e : Encoded) (system : ℕ → ℕ → List ℕ) (sent : Polynomials) (verdict : Verdict)
-    → InLimits f → length publics ≡ public_count f → AreSent (params_of f) sent
+    (e : Encoded) (system : ℕ → ℕ → List ℕ) (sent : Polynomials) (verdict : Verdict) → InLimits f
+    → length publics ≡ public_count f → AreSent (params_of f) sent
     → (let o = offer_of r1cs_bytes f publics e system sent in
     AreSystems f o.challenges system
     → (IsVerdict r1cs_bytes f publics (offered_bytes version o) verdict

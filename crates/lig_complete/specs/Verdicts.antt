@@ -1,6 +1,6 @@
 -- The verdict on a proof that is made, honestly, of any vectors.
-use Rattle.std.specs.Prelude.{◌≡◌, ◌↔◌, ℕ, ◌+◌, ◌-◌, ◌*◌, ◌%◌}
-use Rattle.std.specs.Prelude.{◌<◌, List, All, length, Ok, slice_index}
+use Rattle.std.specs.Prelude.{◌≡◌, ◌↔◌, ℕ, ◌+◌, ◌-◌, ◌*◌, ◌%◌, ◌<◌, List, All, length, Ok}
+use Rattle.std.specs.Prelude.{slice_index}
 use Rattle.gold_field.specs.declared.gold.TheConstants.{P}
 use Rattle.gold_ntt.specs.Polynomial.{sum_to}
 use Rattle.iden_files.specs.File.{File, IsFile, InLimits}
@@ -59,22 +59,22 @@ AnyVectorsHaveVerdicts = (version : Version) (r1cs_bytes : List ℕ) (f : File) 
     ↔ Outcome (SystemPasses f v made.challenges) (ProductsPass f v made.challenges) verdict)
 
 -- what is accepted by an auditor who makes all tests but that of the sum over the message points
-pub record IsAcceptedWithoutSum (r1cs_bytes : List ℕ) (f : File)
-    (publics bytes : List ℕ) : Type 0 where
-  pub count : length publics ≡ public_count f
-  pub proof : AnyProof
-  pub read : any_proof_of (params_of f) r1cs_bytes publics bytes ≡ Ok proof
-  pub system : ℕ → ℕ → List ℕ
-  pub systems : AreSystems f (challenges_for r1cs_bytes f publics (root_in proof)) system
-  pub leads : (let p = params_of f in
-      let c = challenges_for r1cs_bytes f publics (root_in proof) in
-      let indices = indices_in p (queries p c.first (polys_in proof)) proof in
-      (q : ℕ) → q < ways_in proof → Leads p indices proof q)
-  pub tests : (let p = params_of f in
-      let c = challenges_for r1cs_bytes f publics (root_in proof) in
-      let indices = indices_in p (queries p c.first (polys_in proof)) proof in
-      let a = audit_of f publics c system indices proof in
-      Proximity a × LinearColumn a × QuadZero a × QuadColumn a)
+pub record IsAcceptedWithoutSum (r1cs_bytes : List ℕ) (f : File) (publics bytes : List ℕ) : Type 0
+  where
+    pub count : length publics ≡ public_count f
+    pub proof : AnyProof
+    pub read : any_proof_of (params_of f) r1cs_bytes publics bytes ≡ Ok proof
+    pub system : ℕ → ℕ → List ℕ
+    pub systems : AreSystems f (challenges_for r1cs_bytes f publics (root_in proof)) system
+    pub leads : (let p = params_of f in
+        let c = challenges_for r1cs_bytes f publics (root_in proof) in
+        let indices = indices_in p (queries p c.first (polys_in proof)) proof in
+        (q : ℕ) → q < ways_in proof → Leads p indices proof q)
+    pub tests : (let p = params_of f in
+        let c = challenges_for r1cs_bytes f publics (root_in proof) in
+        let indices = indices_in p (queries p c.first (polys_in proof)) proof in
+        let a = audit_of f publics c system indices proof in
+        Proximity a × LinearColumn a × QuadZero a × QuadColumn a)
 
 -- such an auditor accepts what is made of any vectors that are products, whether they solve the
 -- linear system or not. By the law above it has to be refused wherever the sums differ, which is
@@ -93,8 +93,8 @@ AnyVectorsHaveProofs = (version : Version) (r1cs_bytes : List ℕ) (f : File) (v
 
 -- a proof of vectors that don't solve the linear system with these public values, which an auditor
 -- who skips the sum accepts
-pub record IsFalseProof (version : Version) (r1cs_bytes : List ℕ) (f : File)
-    (publics seed : List ℕ) (v : Vectors) (bytes : List ℕ) : Type 0 where
+pub record IsFalseProof (version : Version) (r1cs_bytes : List ℕ) (f : File) (publics seed : List ℕ)
+    (v : Vectors) (bytes : List ℕ) : Type 0 where
   pub vectors : AreVectors f v
   pub unsolved : ¬ SolvesSystem f publics v
   pub made : AreMade version r1cs_bytes f v seed bytes
@@ -103,7 +103,5 @@ pub record IsFalseProof (version : Version) (r1cs_bytes : List ℕ) (f : File)
 -- there is one for every file and all public values, also where no values satisfy the file
 abbrev pub FalseProofsExist : Type 0
 FalseProofsExist = (version : Version) (r1cs_bytes : List ℕ) (f : File) (publics seed : List ℕ)
-    → IsFile f → InLimits f → length publics ≡ public_count f
-    → All (λ value. value < P) publics
-    → (v : Vectors) × (bytes : List ℕ)
-    × IsFalseProof version r1cs_bytes f publics seed v bytes
+    → IsFile f → InLimits f → length publics ≡ public_count f → All (λ value. value < P) publics
+    → (v : Vectors) × (bytes : List ℕ) × IsFalseProof version r1cs_bytes f publics seed v bytes

@@ -1,7 +1,7 @@
 -- What solves the system, with right products, is made of values that satisfy the file.
-use Rattle.std.proofs.Common.{◌≡◌, ℕ, zero, suc, ◌+◌, ◌-◌, ◌*◌, ◌%◌}
-use Rattle.std.proofs.Common.{◌<◌, List, [], ◌∷◌, ◌++◌, All, length, map, replicate}
-use Rattle.std.proofs.Common.{take, drop, slice_index, refl, sym, ap, ◌∙◌, arith, ⊎_elim}
+use Rattle.std.proofs.Common.{◌≡◌, ℕ, zero, suc, ◌+◌, ◌-◌, ◌*◌, ◌%◌, ◌<◌, List, [], ◌∷◌, ◌++◌}
+use Rattle.std.proofs.Common.{All, length, map, replicate, take, drop, slice_index, refl, sym, ap}
+use Rattle.std.proofs.Common.{◌∙◌, arith, ⊎_elim}
 use Rattle.std.proofs.Math.Seq.{take-append_seam, drop-append_seam}
 use Rattle.std.proofs.lemmas.Bool.{cases_lt}
 use Rattle.std.proofs.lemmas.List.{length-map, length-replicate, get_or_past}
@@ -28,10 +28,8 @@ use Rattle.lig_layout.proofs.Forms.{length-differences}
 use Rattle.lig_layout.proofs.Solving.{exact-same, wires_known, known_taken, zeros, three_maps}
 use Rattle.lig_layout.proofs.Solving.{regroup, wires_at, x_at, y_at, z_at, solves}
 
-pub numbers_at : (w : List ℕ) → All (λ value. value < P) w → (i : ℕ)
-    → slice_index w i < P
-numbers_at w low i = ⊎_elim (λ inside. low i 0 inside)
-    (λ past. let none = get_or_past w i 0 past
+pub numbers_at : (w : List ℕ) → All (λ value. value < P) w → (i : ℕ) → slice_index w i < P
+numbers_at w low i = ⊎_elim (λ inside. low i 0 inside) (λ past. let none = get_or_past w i 0 past
     in omega arith) (cases_lt i (length w))
 
 front_same : (a b x y : List ℕ) → length a ≡ length b → a ++ x ≡ b ++ y → a ≡ b
@@ -61,8 +59,7 @@ side_made n st m w (x ∷ xs) side (k ∷ ks) same below count low there met =
     let Low : ℕ → Type 0 = λ value. value < P in
     let form = form_of side k in
     let unknown : Term = record { signal = st; coef = P - 1 } in
-    let sum = sum_by-append (λ (u : Term). u.coef * slice_index m u.signal) form
-    (unknown ∷ []) in
+    let sum = sum_by-append (λ (u : Term). u.coef * slice_index m u.signal) form (unknown ∷ []) in
     let agree = exact-same n m w form same (side_below n side k (below 0 k (omega arith))) in
     let place : st ≡ st + 0 = omega arith in
     let own : slice_index m st ≡ x = ap (slice_index m) place ∙ there 0 (omega arith) in
@@ -107,8 +104,7 @@ record Parts (q : ℕ) (a b c d known : List ℕ) : Type 0 where
   pub z : c ≡ replicate q 0
   pub wires : d ≡ known
 
-parts : (q : ℕ) (a b c d known : List ℕ) → length a ≡ q → length b ≡ q
-    → length c ≡ q
+parts : (q : ℕ) (a b c d known : List ℕ) → length a ≡ q → length b ≡ q → length c ≡ q
     → a ++ (b ++ (c ++ d)) ≡ replicate (3 * q) 0 ++ known → Parts q a b c d known
 parts q a b c d known a_count b_count c_count e =
     let none = replicate {A = ℕ} q 0 in
@@ -125,8 +121,7 @@ parts q a b c d known a_count b_count c_count e =
       wires = back_same c none d known (c_count ∙ sym size) behind_b;
     }
 
-module _ (f : File) (publics : List ℕ) (v : Vectors) (file : IsFile f)
-    (are : AreVectors f v) where
+module _ (f : File) (publics : List ℕ) (v : Vectors) (file : IsFile f) (are : AreVectors f v) where
   abbrev m : List ℕ
   m = message (params_of f) v
 
@@ -142,8 +137,7 @@ module _ (f : File) (publics : List ℕ) (v : Vectors) (file : IsFile f)
       ∙ length-differences start side f.constraints
 
   split : SolvesSystem f publics v
-      → Parts (length f.constraints) (part (x_start (params_of f)) A)
-      (part (y_start (params_of f)) B)
+      → Parts (length f.constraints) (part (x_start (params_of f)) A) (part (y_start (params_of f)) B)
       (part (z_start (params_of f)) C) (values_of (wire_forms 0 (known_wires f))) (1 ∷ publics)
   split solved =
       let p = params_of f in
@@ -206,8 +200,7 @@ system_is_file f publics v file limits are = (
       let is = witness.2 in (
         ap (λ (u : Vectors).
             map (value_at (slice_index (message (params_of f) u))) (left_sides (params_of f) f)) is
-            ∙ solves f v.w file limits satisfied.count
-            (numbers_at v.w satisfied.numbers) satisfied.one
+            ∙ solves f v.w file limits satisfied.count (numbers_at v.w satisfied.numbers) satisfied.one
             ∙ ap (λ (ps : List ℕ). right_sides f ps) (sym witness.1),
         λ place.
             ap (λ (u : Vectors). (slice_index u.x place * slice_index u.y place) % P) is

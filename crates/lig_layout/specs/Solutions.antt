@@ -1,6 +1,5 @@
 -- What it is to solve the linear system, with right products, and what that says of a file.
-use Rattle.std.specs.Prelude.{◌≡◌, ◌↔◌, ℕ, ◌*◌, ◌%◌, ◌<◌, List, All}
-use Rattle.std.specs.Prelude.{length, map, slice_index}
+use Rattle.std.specs.Prelude.{◌≡◌, ◌↔◌, ℕ, ◌*◌, ◌%◌, ◌<◌, List, All, length, map, slice_index}
 use Rattle.gold_field.specs.declared.gold.TheConstants.{P}
 use Rattle.gold_field.specs.Form.{Holds, value_at}
 use Rattle.iden_files.specs.File.{File, IsFile, InLimits}
@@ -44,6 +43,6 @@ AreProducts v = (place : ℕ)
 -- vectors solve the system and are products exactly where their w satisfies the file with these
 -- public values, and x, y and z are made of it
 abbrev pub SystemIsFile : Type 0
-SystemIsFile = (f : File) (publics : List ℕ) (v : Vectors) → IsFile f → InLimits f
-    → AreVectors f v → (SolvesSystem f publics v × AreProducts v)
+SystemIsFile = (f : File) (publics : List ℕ) (v : Vectors) → IsFile f → InLimits f → AreVectors f v
+    → (SolvesSystem f publics v × AreProducts v)
     ↔ (IsWitness f v.w × (publics ≡ publics_of f v.w) × (v ≡ vectors_of f v.w))

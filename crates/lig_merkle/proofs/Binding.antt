@@ -1,8 +1,7 @@
 -- Openings bind.
-use Rattle.std.proofs.Common.{◌≡◌, ◌≢◌, ℕ, zero, suc, ◌*◌, ◌/◌, ◌%◌}
-use Rattle.std.proofs.Common.{◌^◌, ◌<◌, ◌≤◌, List, [], ◌∷◌, ◌++◌, Bool}
-use Rattle.std.proofs.Common.{true, false, cond, eqb, All, length, take, drop, get_or, slice_index}
-use Rattle.std.proofs.Common.{refl, sym, ap, ◌∙◌, arith, ⊎_elim, ◌⊎◌, inl, inr}
+use Rattle.std.proofs.Common.{◌≡◌, ◌≢◌, ℕ, zero, suc, ◌*◌, ◌/◌, ◌%◌, ◌^◌, ◌<◌, ◌≤◌, List, []}
+use Rattle.std.proofs.Common.{◌∷◌, ◌++◌, Bool, true, false, cond, eqb, All, length, take, drop}
+use Rattle.std.proofs.Common.{get_or, slice_index, refl, sym, ap, ◌∙◌, arith, ⊎_elim, ◌⊎◌, inl, inr}
 use Rattle.std.specs.Int.{w32, w64, to_le_bytes, from_le_bytes, to_be_bytes}
 use Rattle.std.specs.Str.{bytes_eq}
 use Rattle.std.proofs.Math.Seq.{take-append_seam, drop-append_seam}
@@ -48,8 +47,7 @@ back_same a b x y count e =
 
 -- ---- columns of words have bytes of their own
 
-word_same : (x y : ℕ) → x < 2 ^ 64 → y < 2 ^ 64 → to_le_bytes w64 x ≡ to_le_bytes w64 y
-    → x ≡ y
+word_same : (x y : ℕ) → x < 2 ^ 64 → y < 2 ^ 64 → to_le_bytes w64 x ≡ to_le_bytes w64 y → x ≡ y
 word_same x y low_x low_y e =
     sym (from_le_bytes-to_le_bytes_8 x low_x) ∙ ap (λ (bs : List ℕ). from_le_bytes w64 bs) e
     ∙ from_le_bytes-to_le_bytes_8 y low_y
@@ -57,8 +55,8 @@ word_same x y low_x low_y e =
 word_count : (x : ℕ) → length (to_le_bytes w64 x) ≡ 8
 word_count x = refl
 
-pub column_same : (a b : List ℕ) → All (λ value. value < 2 ^ 64) a
-    → All (λ value. value < 2 ^ 64) b → column_bytes a ≡ column_bytes b → a ≡ b
+pub column_same : (a b : List ℕ) → All (λ value. value < 2 ^ 64) a → All (λ value. value < 2 ^ 64) b
+    → column_bytes a ≡ column_bytes b → a ≡ b
 column_same [] [] low_a low_b e = refl
 column_same [] (y ∷ b) low_a low_b e =
     absurd (omega (
@@ -81,8 +79,7 @@ column_same (x ∷ a) (y ∷ b) low_a low_b e =
     front_same (to_le_bytes w64 x) (to_le_bytes w64 y) (column_bytes a) (column_bytes b) count e in
     let others =
     back_same (to_le_bytes w64 x) (to_le_bytes w64 y) (column_bytes a) (column_bytes b) count e in
-    ap (λ (z : ℕ). z ∷ a) (word_same x y (All-head Low x a low_a)
-    (All-head Low y b low_b) first)
+    ap (λ (z : ℕ). z ∷ a) (word_same x y (All-head Low x a low_a) (All-head Low y b low_b) first)
     ∙ ap (λ (zs : List ℕ). y ∷ zs)
     (column_same a b (All-tail Low x a low_a) (All-tail Low y b low_b) others)
 

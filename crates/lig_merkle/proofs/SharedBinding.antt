@@ -1,8 +1,7 @@
 -- Openings of several leaves with shared nodes bind.
-use Rattle.std.proofs.Common.{◌≡◌, ◌≢◌, ℕ, zero, suc, ◌+◌, ◌-◌, ◌*◌}
-use Rattle.std.proofs.Common.{◌/◌, ◌%◌, ◌<◌, ◌≤◌, List, [], ◌∷◌, ◌++◌}
-use Rattle.std.proofs.Common.{Bool, true, false, cond, eqb, length, map, take, drop, get_or, sym}
-use Rattle.std.proofs.Common.{ap, subst, ◌∙◌, arith, ⊎_elim}
+use Rattle.std.proofs.Common.{◌≡◌, ◌≢◌, ℕ, zero, suc, ◌+◌, ◌-◌, ◌*◌, ◌/◌, ◌%◌, ◌<◌, ◌≤◌, List}
+use Rattle.std.proofs.Common.{[], ◌∷◌, ◌++◌, Bool, true, false, cond, eqb, length, map, take}
+use Rattle.std.proofs.Common.{drop, get_or, sym, ap, subst, ◌∙◌, arith, ⊎_elim}
 use Rattle.std.specs.List.{dedup_from}
 use Rattle.std.proofs.lemmas.Bool.{cases_Bool, cases_lt, eqb-true}
 use Rattle.std.proofs.lemmas.List.{length-map, get_or-map}
@@ -68,8 +67,7 @@ module _ (known : List ℕ) (depth : ℕ) (are : AreOpened depth known) (m n s t
       ∙ get_or-map sha256 messages q [] [] (omega arith)
 
   even_case : get_or known q 0 ≡ 2 * get_or (parents known) k 0
-      → message_at m s (get_or (parents known) k 0)
-      ≡ message_at n t (get_or (parents known) k 0)
+      → message_at m s (get_or (parents known) k 0) ≡ message_at n t (get_or (parents known) k 0)
       → sha256 (get_or m q []) ≡ sha256 (get_or n q [])
   even_case at same =
       let r = get_or (parents known) k 0 in
@@ -82,8 +80,7 @@ module _ (known : List ℕ) (depth : ℕ) (are : AreOpened depth known) (m n s t
       ∙ ap (λ (h : List ℕ). node_message h (level n t (2 * r + 1))) right)
 
   odd_case : get_or known q 0 ≡ 2 * get_or (parents known) k 0 + 1
-      → message_at m s (get_or (parents known) k 0)
-      ≡ message_at n t (get_or (parents known) k 0)
+      → message_at m s (get_or (parents known) k 0) ≡ message_at n t (get_or (parents known) k 0)
       → sha256 (get_or m q []) ≡ sha256 (get_or n q [])
   odd_case at same =
       let r = get_or (parents known) k 0 in

@@ -1,7 +1,6 @@
 -- Openings of one root at one place bind: where they differ, they show a collision of SHA-256.
-use Rattle.std.specs.Prelude.{◌≡◌, ◌≢◌, ℕ, zero, suc, ◌+◌, ◌*◌, ◌/◌}
-use Rattle.std.specs.Prelude.{◌%◌, ◌^◌, ◌<◌, ◌≤◌, ◌==◌, if◌then◌else◌}
-use Rattle.std.specs.Prelude.{List, [], ◌∷◌, ◌++◌, All, length, map, take, drop}
+use Rattle.std.specs.Prelude.{◌≡◌, ◌≢◌, ℕ, zero, suc, ◌+◌, ◌*◌, ◌/◌, ◌%◌, ◌^◌, ◌<◌, ◌≤◌, ◌==◌}
+use Rattle.std.specs.Prelude.{if◌then◌else◌, List, [], ◌∷◌, ◌++◌, All, length, map, take, drop}
 use Rattle.std.specs.Prelude.{slice_index_or}
 use Rattle.sha2.specs.Sha256.{sha256}
 use Rattle.lig_merkle.specs.Merkle.{leaf_message, node_message, leaf_hash, root_of}
@@ -46,8 +45,7 @@ messages_above known messages nodes =
 
 -- those that are hashed on the way from several leaves with the nodes that they share, level by
 -- level, from the leaves' own on
-abbrev pub levels_up : ℕ → List ℕ → List (List ℕ) → List (List ℕ)
-    → List (List (List ℕ))
+abbrev pub levels_up : ℕ → List ℕ → List (List ℕ) → List (List ℕ) → List (List (List ℕ))
 levels_up zero known messages nodes = messages ∷ []
 levels_up (suc depth) known messages nodes =
     let count = length (missing known) in
@@ -62,9 +60,8 @@ pub record AreColumns (opened : List ℕ) (columns : List (List ℕ)) : Type 0 w
 -- where columns at the same places, each time with shared nodes, lead to one root and those at one
 -- place differ, there is a place on some level at which the messages that are hashed collide
 abbrev pub SharedOpeningsBind : Type 0
-SharedOpeningsBind = (depth : ℕ) (opened : List ℕ) (a b from_a from_b : List (List ℕ))
-    (q : ℕ) → AreOpened depth opened → AreColumns opened a → AreColumns opened b
-    → q < length opened
+SharedOpeningsBind = (depth : ℕ) (opened : List ℕ) (a b from_a from_b : List (List ℕ)) (q : ℕ)
+    → AreOpened depth opened → AreColumns opened a → AreColumns opened b → q < length opened
     → slice_index_or a q [] ≢ slice_index_or b q []
     → root_of_many depth opened (map leaf_hash a) from_a
     ≡ root_of_many depth opened (map leaf_hash b) from_b

@@ -1,8 +1,7 @@
 -- Lists that are made in blocks of places, and sums over rows.
-use Rattle.std.proofs.Common.{◌≡◌, ℕ, zero, suc, ◌+◌, ◌-◌, ◌*◌, ◌/◌}
-use Rattle.std.proofs.Common.{◌%◌, ◌^◌, ◌<◌, ◌≤◌, List, [], ◌∷◌, ◌++◌}
-use Rattle.std.proofs.Common.{length, map, take, drop, replicate, get_or, refl, sym, ap, ◌∙◌}
-use Rattle.std.proofs.Common.{arith, ⊎_elim}
+use Rattle.std.proofs.Common.{◌≡◌, ℕ, zero, suc, ◌+◌, ◌-◌, ◌*◌, ◌/◌, ◌%◌, ◌^◌, ◌<◌, ◌≤◌, List, []}
+use Rattle.std.proofs.Common.{◌∷◌, ◌++◌, length, map, take, drop, replicate, get_or, refl, sym, ap}
+use Rattle.std.proofs.Common.{◌∙◌, arith, ⊎_elim}
 use Rattle.std.specs.List.{flat_map, range_with_len}
 use Rattle.std.proofs.Math.Nat.{mod-mod, mul-le-mul_left, pow-le-pow_right}
 use Rattle.std.proofs.lemmas.Bool.{cases_lt}
@@ -49,13 +48,11 @@ blocks_after f size a (suc n) (x ∷ parts) count each =
     let place : a + suc b ≡ a + 1 + b = omega arith in
     each (suc b) (omega arith) ∙ ap (λ k. map f (range_with_len (k * size) size)) place) in
     (λ i. first i ++ others i)
-    ∙ ap (λ k. map f (range_with_len (a * size) size)
-    ++ map f (range_with_len k (n * size))) next
+    ∙ ap (λ k. map f (range_with_len (a * size) size) ++ map f (range_with_len k (n * size))) next
     ∙ range_append f (a * size) size (n * size)
     ∙ ap (λ k. map f (range_with_len (a * size) k)) whole
 
-pub blocks_joined : (f : ℕ → ℕ) (size n : ℕ) (parts : List (List ℕ))
-    → length parts ≡ n
+pub blocks_joined : (f : ℕ → ℕ) (size n : ℕ) (parts : List (List ℕ)) → length parts ≡ n
     → ((b : ℕ) → b < n → get_or parts b [] ≡ map f (range_with_len (b * size) size))
     → flat_map (λ part. part) parts ≡ map f (range_with_len 0 (n * size))
 blocks_joined f size n parts count each =
@@ -80,8 +77,8 @@ from_places f a (suc n) (x ∷ xs) count each =
     each (suc i) (omega arith) ∙ ap f place) in
     λ i. first i ∷ others i
 
-pub block_made : (f : ℕ → ℕ) (b size count : ℕ) (new old : List ℕ)
-    → count ≡ length old → length new ≡ length old → length old ≡ size
+pub block_made : (f : ℕ → ℕ) (b size count : ℕ) (new old : List ℕ) → count ≡ length old
+    → length new ≡ length old → length old ≡ size
     → ((i : ℕ) → i < length old → get_or new i 0 ≡ f (b * size + i))
     → take count (new ++ drop (length new) old) ≡ map f (range_with_len (b * size) size)
 block_made f b size count new old long same whole each =
@@ -124,8 +121,7 @@ one_more k sum x next f so_far is adds =
     (adds ∙ plus_same P sum sum x (f k % P) refl (ap (λ y. y % P) is ∙ sym (mod-mod (f k) P)))
 
 -- the sum of all rows, and a number
-pub with_start : (start sum k count next : ℕ) (f : ℕ → ℕ) → sum ≡ sum_to k f % P
-    → k ≤ count
+pub with_start : (start sum k count next : ℕ) (f : ℕ → ℕ) → sum ≡ sum_to k f % P → k ≤ count
     → count ≤ k → next ≡ (sum + start) % P → next ≡ (start + sum_to count f) % P
 with_start start sum k count next f so_far low high adds =
     let turned : sum + start ≡ start + sum = omega arith in

@@ -1,8 +1,8 @@
 //! Numbers at many places, which are sums over the rows of a matrix. They are made in blocks of
 //! neighbouring places, so that each row is read from one end to the other.
 
-ghost use Rattle.std.specs.Prelude.{◌≡◌, ℕ, ◌+◌, ◌*◌, ◌%◌, ◌^◌, ◌<◌};
-ghost use Rattle.std.specs.Prelude.{List, [], Ok, IfOk, length, map, slice_index, slice_index_or};
+ghost use Rattle.std.specs.Prelude.{◌≡◌, ℕ, ◌+◌, ◌*◌, ◌%◌, ◌^◌, ◌<◌, List, [], Ok, IfOk, length};
+ghost use Rattle.std.specs.Prelude.{map, slice_index, slice_index_or};
 ghost use Rattle.std.specs.List.{flat_map, range_with_len};
 ghost use Rattle.gold_field.specs.declared.gold.TheConstants.{P};
 ghost use Rattle.lig_prover.specs.Matrix.{IsBlock};
@@ -20,8 +20,7 @@ pub fn in_blocks<
 >(rt: &R, alloc: Global, blocks: usize, f: F) -> Result<Vec<Gold>, AllocError>
     requires { (b : ℕ) → b < blocks → F.pre f b }
     ensures { IfOk result (λ v. (size : ℕ) (g : ℕ → ℕ)
-        → ((b : ℕ) (xs : List ℕ) → b < blocks → F.post f b (Ok xs)
-        → IsBlock g size b xs)
+        → ((b : ℕ) (xs : List ℕ) → b < blocks → F.post f b (Ok xs) → IsBlock g size b xs)
         → v.items ≡ map g (range_with_len 0 (blocks * size))) }
 {
     let parts = each_place(rt, alloc, blocks, f)?;

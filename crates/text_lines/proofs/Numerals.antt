@@ -1,8 +1,7 @@
 -- Numbers in decimal digits.
-use Rattle.std.proofs.Common.{◌≡◌, ◌≢◌, ℕ, ◌+◌, ◌<◌, ◌≤◌, ◌^◌, []}
-use Rattle.std.proofs.Common.{◌∷◌, true, false, ltb, List, length, ◌&&◌, Some, None}
-use Rattle.std.proofs.Common.{Result, Ok, Err, sym, ap, ◌∙◌, get_or, arith, decimal}
-use Rattle.std.proofs.Common.{◌⊎◌, inl, inr, eqb}
+use Rattle.std.proofs.Common.{◌≡◌, ◌≢◌, ℕ, ◌+◌, ◌<◌, ◌≤◌, ◌^◌, [], ◌∷◌, true, false, ltb, List, length, ◌&&◌}
+use Rattle.std.proofs.Common.{Some, None, Result, Ok, Err, sym, ap, ◌∙◌, get_or, arith}
+use Rattle.std.proofs.Common.{decimal, ◌⊎◌, inl, inr, eqb}
 use Rattle.std.specs.Result.{OkIff, result_ok}
 use Rattle.std.specs.Int.{IsInRange}
 use Rattle.std.specs.Str.{all_ascii_digits, IsUtf8}
@@ -14,8 +13,7 @@ use Rattle.std.proofs.lemmas.Str.{IsUtf8-from_ascii}
 use Rattle.std.proofs.lemmas.Str.Parse.{IsNumeralModel, numerals_by_value, tells_all_ascii_digits}
 use Rattle.std.proofs.lemmas.Str.Parse.{parse_plain, not_in_digits}
 use Rattle.std.proofs.lemmas.Fmt.{IsAscii-from_digits, digits_decimal, digits_value-decimal}
-use Rattle.std.proofs.lemmas.Fmt.{decimal_nonempty, first_decimal, decimal-digits_value}
-use Rattle.std.proofs.lemmas.Fmt.{decimal_digit}
+use Rattle.std.proofs.lemmas.Fmt.{decimal_nonempty, first_decimal, decimal-digits_value, decimal_digit}
 use Rattle.std.proofs.lemmas.List.Elements.{All-from_get_or}
 use Rattle.text_lines.specs.Lines.{HasNo}
 use Rattle.text_lines.specs.Number.{is_numeral, number_below, has_leading_zero, plain_below}
@@ -47,8 +45,7 @@ spelled bound ds h =
     (and_from (ltb 0 (length ds)) (all_ascii_digits ds) (lt-ltb 0 (length ds) h.some) h.digits)
     (lt-ltb (digits_value 10 ds) bound h.below))
 
-pub not_spelled : (bound : ℕ) (ds : List ℕ) → (Spells bound ds → ⊥)
-    → number_below bound ds ≡ None
+pub not_spelled : (bound : ℕ) (ds : List ℕ) → (Spells bound ds → ⊥) → number_below bound ds ≡ None
 not_spelled bound ds none =
     cond-false _ _ _ (false_from_ne_true (is_numeral ds && ltb (digits_value 10 ds) bound)
     (λ holds. none (spells bound ds holds)))
@@ -69,14 +66,12 @@ spells_from bound n ds h = cases (cases_Bool (is_numeral ds && ltb (digits_value
         let f : Some n ≡ None = sym h ∙ e in
         cc
 
-pub none_from_plus : (bound : ℕ) (ds : List ℕ) → get_or ds 0 0 ≡ 43
-    → number_below bound ds ≡ None
+pub none_from_plus : (bound : ℕ) (ds : List ℕ) → get_or ds 0 0 ≡ 43 → number_below bound ds ≡ None
 none_from_plus bound ds plus =
     not_spelled bound ds (λ (h : Spells bound ds). not_in_digits own ds 43 h.digits
     (λ (r : IsInRange 48 57 43). omega (arith, r.0)) 0 h.some plus)
 
-pub none_from_bytes : (bound : ℕ) (ds : List ℕ) → (IsUtf8 ds → ⊥)
-    → number_below bound ds ≡ None
+pub none_from_bytes : (bound : ℕ) (ds : List ℕ) → (IsUtf8 ds → ⊥) → number_below bound ds ≡ None
 none_from_bytes bound ds fails =
     not_spelled bound ds (λ (h : Spells bound ds). fails (IsUtf8-from_ascii ds
     (IsAscii-from_digits ds (own.to ds h.digits))))
@@ -106,8 +101,8 @@ small_again ds n h small =
     } in
     sym (spelled (2 ^ 32) ds t ∙ ap Some s.1)
 
-pub none_from_large : (ds : List ℕ) (n : ℕ) → number_below (2 ^ 64) ds ≡ Some n
-    → 2 ^ 32 ≤ n → None ≡ number_below (2 ^ 32) ds
+pub none_from_large : (ds : List ℕ) (n : ℕ) → number_below (2 ^ 64) ds ≡ Some n → 2 ^ 32 ≤ n
+    → None ≡ number_below (2 ^ 32) ds
 none_from_large ds n h large =
     let s = spells_from (2 ^ 64) n ds h in
     sym (not_spelled (2 ^ 32) ds (λ (t : Spells (2 ^ 32) ds). omega (arith, t.below, s.1)))
@@ -176,8 +171,7 @@ is_written n ds h = cases (cases_Bool (has_leading_zero ds))
         (sym text ∙ ap decimal s.1, omega (arith, s.0.below, s.1))
 
 -- no digit is such a byte
-pub digits_have_no : (byte n : ℕ) → (IsInRange 48 57 byte → ⊥) → n < 2 ^ 64
-    → HasNo byte (decimal n)
+pub digits_have_no : (byte n : ℕ) → (IsInRange 48 57 byte → ⊥) → n < 2 ^ 64 → HasNo byte (decimal n)
 digits_have_no byte n outside small =
     All-from_get_or (λ b. b ≢ byte) (decimal n) 0
     (λ i low. not_in_digits own (decimal n) byte (digits_decimal own n small) outside i low)

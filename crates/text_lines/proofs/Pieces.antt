@@ -1,18 +1,15 @@
 -- The lines of a text, by the first of them.
-use Rattle.std.proofs.Common.{◌≡◌, ◌≢◌, ℕ, suc, ◌<◌, ◌+◌, Bool, true, false}
-use Rattle.std.proofs.Common.{ltb, eqb, List, [], ◌∷◌, ◌++◌, length, take, drop, get_or}
-use Rattle.std.proofs.Common.{cond, Option, Some, None, refl, ap, ◌∙◌, arith, All}
-use Rattle.std.proofs.Common.{append_assoc}
+use Rattle.std.proofs.Common.{◌≡◌, ◌≢◌, ℕ, suc, ◌<◌, ◌+◌, Bool, true, false, ltb, eqb, List, [], ◌∷◌}
+use Rattle.std.proofs.Common.{◌++◌, length, take, drop, get_or, cond, Option, Some, None, refl, ap}
+use Rattle.std.proofs.Common.{◌∙◌, arith, All, append_assoc}
 use Rattle.std.specs.Option.{MatchOption, is_some}
 use Rattle.std.specs.List.{slice_split, position_or_len, before_first, after_first}
 use Rattle.std.proofs.lemmas.Bool.{ltb-true, ltb-false, lt-ltb, ne_eqb, eq-eqb, eqb-true, cond-true}
 use Rattle.std.proofs.lemmas.Bool.{cond-false}
 use Rattle.std.proofs.lemmas.List.{length-append, take_at, get_or_at, get_or_append_left}
 use Rattle.std.proofs.Math.Seq.{drop-append-add}
-use Rattle.std.proofs.lemmas.List.Elements.{All-from_get_or, All-head, All-tail, All-weaker}
-use Rattle.std.proofs.lemmas.List.Elements.{All-get_or}
-use Rattle.std.proofs.lemmas.List.Sums.{fails_before_first, passes_at_first, split_at_first}
-use Rattle.std.proofs.lemmas.List.Sums.{position_or_len_is}
+use Rattle.std.proofs.lemmas.List.Elements.{All-from_get_or, All-head, All-tail, All-weaker, All-get_or}
+use Rattle.std.proofs.lemmas.List.Sums.{fails_before_first, passes_at_first, split_at_first, position_or_len_is}
 use Rattle.std.proofs.lemmas.List.Splits.{slice_split_none, slice_split_at, slice_split_first}
 use Rattle.std.proofs.lemmas.List.Splits.{length-slice_split}
 use Rattle.text_lines.specs.Lines.{split_once, without_empty_last, lines_of, text_of, HasNo}
@@ -59,12 +56,10 @@ first_of_lines text line rest h =
     let split = slice_split_first p text 0 (ltb-true _ _ w.0) in
     let first : before_first p text ≡ line = ap (λ (r : List ℕ × List ℕ). r.0) w.1 in
     let behind : after_first p text ≡ rest = ap (λ (r : List ℕ × List ℕ). r.1) w.1 in
-    behind_first text line rest (split
-    ∙ (ap (λ (l : List ℕ). l ∷ slice_split p (after_first p text))
+    behind_first text line rest (split ∙ (ap (λ (l : List ℕ). l ∷ slice_split p (after_first p text))
     first ∙ ap (λ (r : List ℕ). line ∷ slice_split p r) behind))
 
-last_line : (line : List ℕ) → 0 < length line
-    → without_empty_last (line ∷ []) ≡ line ∷ []
+last_line : (line : List ℕ) → 0 < length line → without_empty_last (line ∷ []) ≡ line ∷ []
 last_line [] some = absurd (omega arith)
 last_line (x ∷ xs) some =
     cond-false _ _ _ (ne_eqb (length (x ∷ xs)) 0 (λ e. omega (arith, e, some)))
@@ -79,8 +74,7 @@ only_line text some h =
     (λ i low. fails_before_first p text i 0 (omega (arith, late, low))) in
     ap without_empty_last (slice_split_none p text none) ∙ last_line text some
 
-pub written_again : (lines : List (List ℕ)) → All (HasNo 10) lines
-    → lines_of (text_of lines) ≡ lines
+pub written_again : (lines : List (List ℕ)) → All (HasNo 10) lines → lines_of (text_of lines) ≡ lines
 written_again [] h = refl
 written_again (line ∷ lines) h =
     let p : ℕ → Bool = λ b. eqb b 10 in
@@ -96,17 +90,15 @@ written_again (line ∷ lines) h =
 
 -- a line feed was found
 pub first_found : {B : Type 0} (line rest : B → List ℕ) (text : List ℕ) (o : Option B)
-    → MatchOption o (split_once 10 text ≡ None)
-    (λ r. split_once 10 text ≡ Some (line r, rest r))
+    → MatchOption o (split_once 10 text ≡ None) (λ r. split_once 10 text ≡ Some (line r, rest r))
     → is_some o ≡ true
     → MatchOption o (lines_of text ≡ []) (λ r. lines_of text ≡ line r ∷ lines_of (rest r))
 first_found line rest text None h found = cc
 first_found line rest text (Some r) h found = first_of_lines text (line r) (rest r) h
 
 -- none was found
-pub only_found : {B : Type 0} (line rest : B → List ℕ) (text first behind : List ℕ)
-    (o : Option B) → MatchOption o (split_once 10 text ≡ None)
-    (λ r. split_once 10 text ≡ Some (line r, rest r))
+pub only_found : {B : Type 0} (line rest : B → List ℕ) (text first behind : List ℕ) (o : Option B)
+    → MatchOption o (split_once 10 text ≡ None) (λ r. split_once 10 text ≡ Some (line r, rest r))
     → is_some o ≡ false → 0 < length text → first ≡ text → behind ≡ []
     → lines_of text ≡ first ∷ lines_of behind
 only_found line rest text first behind None h found some same nothing =
@@ -128,8 +120,7 @@ split_again byte front rest none =
     (Some (take n all, drop (n + 1) all)) None in
     let found : P (length front) ≡ Some (take (length front) all, drop (length front + 1) all) =
     cond-true _ _ _ (lt-ltb (length front) (length all) (omega (arith, long))) in
-    let first : take (length front) all ≡ front =
-    take_at front (byte ∷ rest) (length front) refl in
+    let first : take (length front) all ≡ front = take_at front (byte ∷ rest) (length front) refl in
     let behind : drop (length front + 1) all ≡ rest = drop-append-add front (byte ∷ rest) 1 in
     ap P place ∙ (found ∙ (ap (λ (l : List ℕ). Some (l, drop (length front + 1) all)) first
     ∙ ap (λ (l : List ℕ). Some (front, l)) behind))
@@ -144,8 +135,8 @@ split_again byte front rest none =
     here = eq-eqb _ _ (get_or_at front byte rest 0 (length front) refl)
 
 -- the parts are those of the list
-pub split_parts : (byte : ℕ) (bytes front rest : List ℕ)
-    → split_once byte bytes ≡ Some (front, rest) → bytes ≡ front ++ byte ∷ rest
+pub split_parts : (byte : ℕ) (bytes front rest : List ℕ) → split_once byte bytes ≡ Some (front, rest)
+    → bytes ≡ front ++ byte ∷ rest
 split_parts byte bytes front rest h =
     let p : ℕ → Bool = λ b. eqb b byte in
     let w = when_made (ltb (position_or_len p bytes) (length bytes))
@@ -156,7 +147,7 @@ split_parts byte bytes front rest h =
     let here : get_or bytes (position_or_len p bytes) 0 ≡ byte =
     eqb-true _ _ (passes_at_first p bytes 0 low) in
     split_at_first p bytes 0 low
-    ∙ (ap (λ (l : List ℕ). l ++ (get_or bytes (position_or_len p bytes) 0
-    ∷ after_first p bytes)) first
+    ∙ (ap (λ (l : List ℕ). l ++ (get_or bytes (position_or_len p bytes) 0 ∷ after_first p bytes))
+    first
     ∙ (ap (λ (b : ℕ). front ++ (b ∷ after_first p bytes)) here
     ∙ ap (λ (l : List ℕ). front ++ (byte ∷ l)) behind))

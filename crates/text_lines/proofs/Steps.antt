@@ -1,7 +1,6 @@
 -- Reading a text line by line, as a loop does.
-use Rattle.std.proofs.Common.{◌≡◌, ℕ, ◌+◌, ◌<◌, ◌≤◌, Bool, true, false, ltb}
-use Rattle.std.proofs.Common.{List, [], ◌∷◌, ◌++◌, length, map, cond, ◌&&◌, Option}
-use Rattle.std.proofs.Common.{Some, None, Result, Ok, Err, refl, sym, ap, ◌∙◌, arith}
+use Rattle.std.proofs.Common.{◌≡◌, ℕ, ◌+◌, ◌<◌, ◌≤◌, Bool, true, false, ltb, List, [], ◌∷◌, ◌++◌, length, map}
+use Rattle.std.proofs.Common.{cond, ◌&&◌, Option, Some, None, Result, Ok, Err, refl, sym, ap, ◌∙◌, arith}
 use Rattle.std.proofs.Common.{append_assoc, ◌⊎◌, inl, inr}
 use Rattle.std.specs.Option.{is_some}
 use Rattle.std.specs.List.{filter_map, cons_option}
@@ -52,8 +51,7 @@ module _ {A : Type 0} (form : List ℕ → Option A) (limit : ℕ) where
       → filter_map form (line ∷ lines) ≡ value ∷ filter_map form lines
   same_values line lines value h = ap (λ (o : Option A). cons_option o (filter_map form lines)) h
 
-  more : (n : ℕ) (line : List ℕ) (lines : List (List ℕ)) (value : A)
-      → form line ≡ Some value
+  more : (n : ℕ) (line : List ℕ) (lines : List (List ℕ)) (value : A) → form line ≡ Some value
       → said_behind n (line ∷ lines) ≡ put value (said_behind (n + 1) lines)
   more n line lines value h = cases (cases_lt limit (n + 1 + length lines))
       (cases_lt (n + 1 + good_lines form lines) limit)
@@ -65,8 +63,7 @@ module _ {A : Type 0} (form : List ℕ → Option A) (limit : ℕ) where
       at_bad : n + 1 + good_lines form lines < limit → good_lines form lines < length lines
           → said_behind n (line ∷ lines) ≡ put value (said_behind (n + 1) lines)
       at_bad early there =
-          let number : n + good_lines form (line ∷ lines) + 1
-          ≡ n + 1 + good_lines form lines + 1 =
+          let number : n + good_lines form (line ∷ lines) + 1 ≡ n + 1 + good_lines form lines + 1 =
           omega (arith, e) in
           is_bad n (line ∷ lines) (omega (arith, e)) (omega (arith, e))
           ∙ (ap (λ (k : ℕ). Err (bad k)) number
@@ -95,8 +92,7 @@ module _ {A : Type 0} (form : List ℕ → Option A) (limit : ℕ) where
   regroup front value (Ok values) = ap Ok (simp append_assoc)
   regroup front value (Err e) = refl
 
-  pub begins : (lines : List (List ℕ))
-      → behind [] (said_behind 0 lines) ≡ said form limit lines
+  pub begins : (lines : List (List ℕ)) → behind [] (said_behind 0 lines) ≡ said form limit lines
   begins lines = alone (said_behind 0 lines) ∙ from_zero
     where
       alone : (r : Result (List A) LineRefusal) → behind [] r ≡ r
@@ -118,9 +114,8 @@ module _ {A : Type 0} (form : List ℕ → Option A) (limit : ℕ) where
           && ltb (good_lines form lines) (length lines)) (Err (bad (good_lines form lines + 1)))
           (cond (ltb limit k) (Err (over (limit + 1))) (Ok (filter_map form lines)))) m
 
-  pub goes_on : (front : List A) (n : ℕ) (lines rest : List (List ℕ)) (line : List ℕ)
-      (value : A) (total : Result (List A) LineRefusal)
-      → lines ≡ line ∷ rest → form line ≡ Some value
+  pub goes_on : (front : List A) (n : ℕ) (lines rest : List (List ℕ)) (line : List ℕ) (value : A)
+      (total : Result (List A) LineRefusal) → lines ≡ line ∷ rest → form line ≡ Some value
       → behind front (said_behind n lines) ≡ total
       → behind (front ++ value ∷ []) (said_behind (n + 1) rest) ≡ total
   goes_on front n lines rest line value total is h so_far =
@@ -128,8 +123,7 @@ module _ {A : Type 0} (form : List ℕ → Option A) (limit : ℕ) where
       ∙ (sym (ap (behind front) (ap (said_behind n) is ∙ more n line rest value h)) ∙ so_far)
 
   pub fails : (front : List A) (n : ℕ) (lines rest : List (List ℕ)) (line : List ℕ)
-      (total : Result (List A) LineRefusal) → n < limit → lines ≡ line ∷ rest
-      → form line ≡ None
+      (total : Result (List A) LineRefusal) → n < limit → lines ≡ line ∷ rest → form line ≡ None
       → behind front (said_behind n lines) ≡ total → total ≡ Err (bad (n + 1))
   fails front n lines rest line total early is h so_far =
       let zero : good_lines form (line ∷ rest) ≡ 0 =
@@ -172,9 +166,8 @@ all_good {A} form line_of (x ∷ xs) back =
     ap (λ (o : Option A). cond (is_some o) (1 + good_lines form (map line_of xs)) 0) first in
     omega (arith, one, others)
 
-all_values : {A : Type 0} (form : List ℕ → Option A) (line_of : A → List ℕ)
-    (values : List A) → ReadsBack form line_of values
-    → filter_map form (map line_of values) ≡ values
+all_values : {A : Type 0} (form : List ℕ → Option A) (line_of : A → List ℕ) (values : List A)
+    → ReadsBack form line_of values → filter_map form (map line_of values) ≡ values
 all_values form line_of [] back = refl
 all_values {A} form line_of (x ∷ xs) back =
     let P : A → Type 0 = λ value. form (line_of value) ≡ Some value in

@@ -1,5 +1,5 @@
-ghost use Rattle.std.specs.Prelude.{◌≡◌, ◌+◌, ◌<◌, ◌≤◌, ◌^◌, ℕ, List};
-ghost use Rattle.std.specs.Prelude.{length, Option, IfOk};
+ghost use Rattle.std.specs.Prelude.{◌≡◌, ◌+◌, ◌<◌, ◌≤◌, ◌^◌, ℕ, List, length};
+ghost use Rattle.std.specs.Prelude.{Option, IfOk};
 ghost use Rattle.binary_format.specs.Reading.{Gives};
 ghost use Rattle.text_lines.specs.Reading.{reading, refused};
 ghost use Rattle.text_lines.specs.declared.reading.LineFault.TheVariants.{OutOfMemory};

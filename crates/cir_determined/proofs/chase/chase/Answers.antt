@@ -15,8 +15,8 @@ loop-turn-init c = (
 
 pub look-requires : goal.look-requires
 look-requires c =
-    subst (λ (n : ℕ). All (ConstraintBelow n) c.args.constraints.now)
-    (sym c.loop-turn.invariant.1) c.requires
+    subst (λ (n : ℕ). All (ConstraintBelow n) c.args.constraints.now) (sym c.loop-turn.invariant.1)
+    c.requires
 
 pub loop-turn-preserved : goal.loop-turn-preserved
 loop-turn-preserved c =

@@ -1,5 +1,4 @@
-use Rattle.std.proofs.Common.{◌≡◌, ℕ, ◌<◌, List, [], ◌∷◌, ◌++◌, get_or}
-use Rattle.std.proofs.Common.{length, take, All, subst, sym, ap, ◌∙◌, arith}
+use Rattle.std.proofs.Common.{◌≡◌, ℕ, ◌<◌, List, [], ◌∷◌, ◌++◌, get_or, length, take, All, subst, sym, ap, ◌∙◌, arith}
 use Rattle.std.proofs.lemmas.List.{take_all}
 use Rattle.std.proofs.lemmas.List.Elements.{All-more}
 use Rattle.cir_determined.specs.declared.rule.Rule.{Rule}
@@ -14,8 +13,8 @@ loop-rule-preserved c =
     let d : Rule = Solve 0 0 in
     let low : c.loop-rule.rule-index < length rules = omega arith in record {
       text = c.in_ok-put_rule.ensures.text
-          ∙ (ap (λ (l : List ℕ). l ++ (line_of (get_or rules c.loop-rule.rule-index d)
-          ++ 10 ∷ [])) c.loop-rule.invariant.text
+          ∙ (ap (λ (l : List ℕ). l ++ (line_of (get_or rules c.loop-rule.rule-index d) ++ 10 ∷ []))
+          c.loop-rule.invariant.text
           ∙ sym (text_more rules c.loop-rule.rule-index d low));
       narrow = All-more IsNarrow rules c.loop-rule.rule-index d low c.loop-rule.invariant.narrow
           c.put_rule.ensures.narrow;

@@ -1,5 +1,5 @@
-use Rattle.std.proofs.Common.{◌+◌, ◌*◌, ◌%◌, ◌<◌, ◌≡◌, ℕ, [], length}
-use Rattle.std.proofs.Common.{get_or, ap, ◌∙◌, sym, arith}
+use Rattle.std.proofs.Common.{◌+◌, ◌*◌, ◌%◌, ◌<◌, ◌≡◌, ℕ, [], length, get_or}
+use Rattle.std.proofs.Common.{ap, ◌∙◌, sym, arith}
 use Rattle.gold_field.specs.declared.gold.TheConstants.{P}
 use Rattle.gold_ntt.specs.Polynomial.{sum_to, eval_at}
 use Rattle.lig_proof.specs.Columns.{row_value, linear_mask_value}

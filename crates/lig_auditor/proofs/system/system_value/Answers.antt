@@ -1,5 +1,4 @@
-use Rattle.std.proofs.Common.{◌<◌, ◌≡◌, ℕ, List, length, refl, sym, ap, subst}
-use Rattle.std.proofs.Common.{◌∙◌, arith}
+use Rattle.std.proofs.Common.{◌<◌, ◌≡◌, ℕ, List, length, refl, sym, ap, subst, ◌∙◌, arith}
 use Rattle.lig_auditor.specs.Opened.{Weighs, point_of}
 use Rattle.lig_auditor.proofs.Adding.{read}
 use Rattle.lig_auditor.proofs.system.system_value.Goals as goal

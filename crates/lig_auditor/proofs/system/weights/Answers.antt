@@ -37,8 +37,7 @@ returns-clause-weighs c =
     let new = c.intt.new.a in
     let lent = c.deref_mut.ensures.value in
     let count = c.in_ok-weights.ensures.count in
-    let long : length new ≡ length c.in_ok-weights.weights.items =
-    c.intt.auto.a ∙ ap length lent in
+    let long : length new ≡ length c.in_ok-weights.weights.items = c.intt.auto.a ∙ ap length lent in
     let back : IsTransform e new old =
     c.intt.ensures.undone e (ap length lent ∙ count ∙ width.power) in
     let ok = c.in_ok-weights.weights.ok.0 in

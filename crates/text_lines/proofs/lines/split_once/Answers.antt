@@ -1,5 +1,5 @@
-use Rattle.std.proofs.Common.{◌≡◌, ℕ, ◌+◌, Bool, take, drop, length, eqb, ltb, cond}
-use Rattle.std.proofs.Common.{Some, None, sym, ◌∙◌, subst, rules, tests}
+use Rattle.std.proofs.Common.{◌≡◌, ℕ, ◌+◌, Bool, take, drop, length, eqb, ltb, cond, Some, None}
+use Rattle.std.proofs.Common.{sym, ◌∙◌, subst, rules, tests}
 use Rattle.std.specs.List.{position_or_len, before_first, after_first}
 use Rattle.std.proofs.lemmas.List.{take_rest}
 use Rattle.std.proofs.lemmas.Iterator.{YieldsList-from_slice}
