@@ -1,9 +1,11 @@
-ghost use Rattle.std.specs.Prelude.{◌≡◌, ◌+◌, ◌≤◌, ◌↔◌, All, IfOk, Ok, length, map};
+ghost use Rattle.std.specs.Prelude.{◌≡◌, ◌+◌, ◌≤◌, ◌↔◌, All, IfOk, Ok, Some};
+ghost use Rattle.std.specs.Prelude.{length, map};
 ghost use Rattle.std.specs.Option.{option_copied};
 ghost use Rattle.out_io.specs.Faults.{Rose};
 ghost use Rattle.gold_field.specs.Form.{Holds};
 ghost use Rattle.iden_files.specs.File.{InLimits};
 ghost use Rattle.out_io.specs.Calls.{OnlyReads};
+ghost use Rattle.out_io.specs.Contents.{Contents};
 ghost use Rattle.cir_ast.specs.Program.{bare_main, bare_program};
 ghost use Rattle.cir_checks.specs.Checked.{IsChecked};
 ghost use Rattle.cir_lc.specs.Number.{Assignment};
@@ -41,6 +43,12 @@ pub fn compile<S: Store>(
     ensures compiles { Compiles (S.contents store.old)
         record { name = name.now; library = option_copied library.entry; level = level }
         (Rose (S.faults store.old) (S.faults store.new)) result }
+    // The same over all contents that agree with what the store answered.
+    ensures answers { (files : Contents) → S.may_hold store.new files → Compiles (Some files)
+        record { name = name.now; library = option_copied library.entry; level = level }
+        (Rose (S.faults store.old) (S.faults store.new)) result }
+    ensures still { (files : Contents) → S.may_hold store.new files
+        → S.may_hold store.old files }
     ensures limits { IfOk result InLimits }
     ensures store { OnlyReads (S.contents store.old) (S.contents store.new)
         (S.faults store.old) (S.faults store.new)

@@ -9,5 +9,6 @@ pub mod Homing
 pub mod Knowing
 pub mod Leading
 pub mod LogSteps
+pub mod Offering
 pub mod Placing
 pub mod PortCells

@@ -20,7 +20,8 @@ use Rattle.cir_emit.specs.Sourced.{AreSized, IsThere}
 use Rattle.wit_lower.specs.Homes.{Name, Variable, Signal, Port, same_name, slots_of}
 use Rattle.wit_lower.specs.Sources.{Input, Shape}
 use Rattle.wit_lower.specs.Steps.{IsBelow}
-use Rattle.wit_sourced.specs.Shown.{sought_name}
+use Rattle.wit_sourced.specs.declared.names.Key.{Key}
+use Rattle.wit_sourced.specs.Named.{key_of, sought_name}
 use Rattle.cir_make.specs.declared.arrays.Stands.{Stands}
 use Rattle.cir_make.specs.declared.arrays.Stands.TheVariants as stands
 use Rattle.cir_make.specs.declared.arrays.StepArray.{StepArray}
@@ -103,6 +104,10 @@ pub record IsPortOf (n element : ℕ) (name : List ℕ) (p : Part) (wires : Wire
   pub found : found_port wires
       (find_signal (λ e. not (is_inner e.direction)) name 0 p.signals) ≡ Ok wired
   pub stands : IsArray (shaped_map cell_input wired) a
+
+-- what its name is looked up by
+abbrev pub array_key : StepArray → Key
+array_key a = key_of (sought_name a.name)
 
 -- the array of a name; the last of several counts
 abbrev pub last_named : Name → List StepArray → Option StepArray → Option StepArray

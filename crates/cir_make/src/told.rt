@@ -1,7 +1,7 @@
 //! The code of a task over what is told of the names in it.
 ghost use Rattle.std.specs.Prelude.{◌≡◌, true, map, IfOk, OnOk};
 ghost use Rattle.cir_emit.specs.Tasks.{step_task};
-ghost use Rattle.cir_make.specs.Arrays.{AreArraysOf, input_in, is_there, shape_by};
+ghost use Rattle.cir_make.specs.Arrays.{AreArraysOf, is_there, shape_by};
 ghost use Rattle.cir_rules.specs.Shown.{made_of};
 ghost use Rattle.cir_steps.specs.Step as S;
 ghost use Rattle.wit_circuit.specs.Coded.{IsCodeOfStep};
@@ -11,17 +11,17 @@ ghost use Rattle.wit_sourced.specs.Loads.{shape_of};
 ghost use Rattle.wit_statements.specs.Asked.{task_of};
 
 use crate::arrays::StepArray;
-use crate::finding::find;
+use crate::offered::Offered;
 use crate::ports::has_port;
 use cir_frame::Frame;
 use cir_has::{Arrays, add_keys};
 use cir_rules::CallTable;
 use items::Items;
-use numbers::{Numbers, TooLarge};
+use numbers::Numbers;
 use std::alloc::{AllocError, Global};
 use wit_code::Step;
-use wit_sourced::{Input, Named, Shape, Sought};
-use wit_sources::{Collected, Inputs, sources_of};
+use wit_sourced::{Named, Shape, Sought};
+use wit_sources::{Collected, sources_of};
 use wit_statements::{StepTask, emit_step};
 
 /// What is known of the names of a step: the body that it stands in, and its arrays.
@@ -29,17 +29,6 @@ use wit_statements::{StepTask, emit_step};
 pub struct Told<'a> {
     pub frame: &'a Frame,
     pub arrays: &'a [StepArray<'a>],
-}
-
-impl Inputs for Told<'_> {
-    ghost offer = { λ t. input_in t.arrays.now };
-
-    fn input(&self, name: Sought, element: u64) -> Result<Option<Input>, TooLarge> {
-        match find(self.arrays, name) {
-            Some(array) => array.stands.input(element),
-            None => Ok(None),
-        }
-    }
 }
 
 impl Arrays for Told<'_> {
@@ -84,7 +73,8 @@ fn code_named<'x>(
         → step_task of ≡ task_of step.now.task → of.targets ≡ targets
         → IfOk result (IsCodeOfStep (map made_of keys.new.calls.items) of) }
 {
-    let found = sources_of(alloc, &*named, &*step, told)?;
+    let offered = Offered::of(alloc, told.arrays)?;
+    let found = sources_of(alloc, &*named, &*step, &offered)?;
     let Collected { sources, is_whole } = found;
     if !is_whole || !add_keys(alloc, keys, &*step, &sources, told)? {
         return Err(AllocError);

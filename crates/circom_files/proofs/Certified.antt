@@ -1,11 +1,9 @@
 -- What `determine` and `confirm` find in given files.
 use Rattle.std.proofs.Common.{◌≡◌, ◌∙◌, ◌⊎◌, ℕ, List, All, Result, Ok, Err, IfOk, ap, inl, inr}
-use Rattle.std.proofs.Common.{◌+◌, Option, Vec, refl, subst, sym, arith}
+use Rattle.std.proofs.Common.{◌+◌, Vec, refl, subst, sym, arith}
 use Rattle.std.specs.declared.alloc.AllocError.{AllocError}
 use Rattle.std.specs.declared.alloc.Global.{Global}
 use Rattle.binary_format.specs.Reading.{◌>>=◌}
-use Rattle.out_io.proofs.Telling.{told_on}
-use Rattle.out_io.specs.Calls.{Told}
 use Rattle.out_io.specs.Contents.{Contents}
 use Rattle.gold_field.specs.Form.{ConstraintBelow}
 use Rattle.gold_field.specs.declared.form.Constraint.{Constraint}
@@ -92,14 +90,10 @@ shown_written files r1cs out rules r is e =
     }
 
 -- the reply that writes rules writes what is read as rules that show it
-pub writes_certificate : (contents : Option Contents) (r1cs out : List ℕ) (found : Answer)
-    (r : Reply) → Told contents (λ files. Searches files r1cs (Ok found)) → IsReadBack found
-    → r ≡ determined out found → r.status ≡ 0
-    → Told contents (λ files. WritesCertificate files r1cs out r)
-writes_certificate contents r1cs out (Shown rules) r told back e zero =
-    told_on contents (λ files. Searches files r1cs (Ok (Shown rules)))
-    (λ files. WritesCertificate files r1cs out r)
-    (λ files is.
+pub writes_certificate : (files : Contents) (r1cs out : List ℕ) (found : Answer) (r : Reply)
+    → Searches files r1cs (Ok found) → IsReadBack found → r ≡ determined out found
+    → r.status ≡ 0 → WritesCertificate files r1cs out r
+writes_certificate files r1cs out (Shown rules) r is back e zero =
     let f = shown_in (r1cs_in files r1cs) rules is in
     let limits = read_in_limits files r1cs f.0 f.1 in
     record {
@@ -112,9 +106,8 @@ writes_certificate contents r1cs out (Shown rules) r told back e zero =
         text = back (omega (arith, f.2.1, limits.wires));
         certificate = f.2.0;
       };
-    })
-    told
-writes_certificate contents r1cs out (NotShown wire) r told back e zero =
+    }
+writes_certificate files r1cs out (NotShown wire) r is back e zero =
     let two : r.status ≡ 2 = ap (λ (x : Reply). x.status) e in
     absurd (omega (arith, two, zero))
 
@@ -177,15 +170,11 @@ claim_file files r1cs certificate c e =
         let made : Claim = record { file = file; rules = rs } in kept made d (λ x. x.file) e
     claim_kept file (Err r) d e = cc
 
-pub claim_determined : (contents : Option Contents) (r1cs certificate : List ℕ) (c : Claim)
-    → Told contents (λ files. claim_of files r1cs certificate ≡ Ok c)
-    → Determines (circuit_of c.file) → Told contents (λ files. HasDetermined files r1cs)
-claim_determined contents r1cs certificate c told determined =
-    told_on contents (λ files. claim_of files r1cs certificate ≡ Ok c)
-    (λ files. HasDetermined files r1cs)
-    (λ files read. record {
-      file = c.file;
-      read = claim_file files r1cs certificate c read;
-      determined = determined;
-    })
-    told
+pub claim_determined : (files : Contents) (r1cs certificate : List ℕ) (c : Claim)
+    → claim_of files r1cs certificate ≡ Ok c → Determines (circuit_of c.file)
+    → HasDetermined files r1cs
+claim_determined files r1cs certificate c read determined = record {
+  file = c.file;
+  read = claim_file files r1cs certificate c read;
+  determined = determined;
+}

@@ -8,3 +8,4 @@ pub mod Ended
 pub mod Numbers
 pub mod Once
 pub mod Given
+pub mod Statuses

@@ -1,13 +1,11 @@
--- What is told of files that are read one after the other.
-use Rattle.std.proofs.Common.{◌≡◌, ◌∙◌, ℕ, List, Option, None, Some, IfSome, Result, Ok, Err, Vec}
-use Rattle.std.proofs.Common.{true, false, ap, refl, sym, subst}
+-- What is found in files that are read one after the other.
+use Rattle.std.proofs.Common.{◌≡◌, ◌∙◌, ℕ, List, Option, None, Some, Result, Ok, Err, Vec}
+use Rattle.std.proofs.Common.{true, false, ap, refl, sym}
 use Rattle.std.specs.declared.alloc.Global.{Global}
 use Rattle.std.specs.Str.{bytes_eq}
 use Rattle.std.proofs.lemmas.Slice.Eq.{bytes_eq-Decides}
 use Rattle.binary_format.specs.Reading.{◌>>=◌}
-use Rattle.out_io.specs.Calls.{Told}
-use Rattle.out_io.specs.Contents.{Contents, Finds}
-use Rattle.out_io.proofs.Telling.{answer_here, found_told, others_stay, told_on, with_answer}
+use Rattle.out_io.specs.Contents.{Contents, bytes_of}
 use Rattle.iden_files.specs.File.{File}
 use Rattle.iden_files.specs.ReadR1cs.{r1cs_of}
 use Rattle.iden_files.specs.ReadWtns.{wtns_of}
@@ -20,8 +18,9 @@ use Rattle.circom_files.specs.Check.{check_of, verdict}
 use Rattle.circom_files.specs.Determining.{claim_of}
 use Rattle.circom_files.specs.Files.{accepted, accepted_rules, bytes_in, r1cs_in, rules_in}
 use Rattle.circom_files.specs.Files.{wtns_in}
+use Rattle.circom_files.specs.Held.{OfAll}
 use Rattle.circom_files.specs.Proving.{public_of, published_values, witness_of}
-use Rattle.circom_files.specs.Steps.{Gets, Steps, StepsFrom, WasRead, WereRead}
+use Rattle.circom_files.specs.Steps.{Gets, HeldWith, Steps}
 use Rattle.circom_files.specs.declared.inputs.Read.{Read}
 use Rattle.circom_files.specs.declared.outcome.Claim.{Claim}
 use Rattle.circom_files.specs.declared.outcome.Published.{Published}
@@ -29,126 +28,52 @@ use Rattle.circom_files.specs.declared.outcome.Witness.{Witness}
 use Rattle.circom_files.specs.declared.stop.Stop.{Stop}
 use Rattle.circom_files.specs.declared.stop.Stop.TheVariants.{Refused, StoreFailed, OutOfMemory}
 
--- only what is under the name counts
-bytes_at : (files other : Contents) (name : List ℕ) → files name ≡ other name
-    → bytes_in files name ≡ bytes_in other name
-bytes_at files other name e = ap (λ (o : Option (List ℕ)). bytes_in (λ n. o) name) e
-
-module _ (name : List ℕ) (answer : Option (List ℕ)) (files : Contents) where
-  was : (r : Read) → ¬ (r.name.now ≡ name) → WasRead files r
-      → WasRead (with_answer name answer files) r
-  was r differs read =
-      bytes_at (with_answer name answer files) files r.name.now
-      (others_stay name answer files r.name.now (λ same. differs (sym same))) ∙ read
-
-  too : (second : Option Read) → IfSome second (λ r. ¬ (r.name.now ≡ name))
-      → IfSome second (WasRead files) → IfSome second (WasRead (with_answer name answer files))
-  too None differs read = read
-  too (Some r) differs read = was r differs read
-
-module _ (contents : Option Contents) (first : Read) (second : Option Read) (name : List ℕ) where
-  -- a new name
-  reads_new : (answer : Result (List ℕ) Refusal) → ¬ (first.name.now ≡ name)
-      → IfSome second (λ r. ¬ (r.name.now ≡ name))
-      → Told contents (λ files. bytes_in files name ≡ answer)
-      → Told contents (WereRead first second)
-      → Told contents (λ files. WereRead first second files × (bytes_in files name ≡ answer))
-  reads_new answer one two found were = by contents found were
-    where
-      by : (o : Option Contents) → Told o (λ files. bytes_in files name ≡ answer)
-          → Told o (WereRead first second)
-          → Told o (λ files. WereRead first second files × (bytes_in files name ≡ answer))
-      by None (there, is) (files, read) = (
-        with_answer name (there name) files,
-        (
-          (
-            was name (there name) files first one read.0,
-            too name (there name) files second two read.1,
-          ),
-          bytes_at (with_answer name (there name) files) there name
-              (answer_here name (there name) files) ∙ is,
-        ),
-      )
-      by (Some files) is read = (read, is)
-
-  pub steps_new : (failed : Type 0) (result : Result (Vec ℕ Global) Stop)
-      → ¬ (first.name.now ≡ name) → IfSome second (λ r. ¬ (r.name.now ≡ name))
-      → Steps (λ (v : Vec ℕ Global). v.items) contents (λ files. bytes_in files name) failed result
-      → StepsFrom (λ (v : Vec ℕ Global). v.items) contents (WereRead first second)
-      (λ files. bytes_in files name) failed result
-  steps_new failed (Ok v) one two step = reads_new (Ok v.items) one two step
-  steps_new failed (Err (Refused r)) one two step = reads_new (Err r) one two step
-  steps_new failed (Err StoreFailed) one two step = step
-  steps_new failed (Err OutOfMemory) one two step = tt
-
-  -- the first one again
-  pub reads_first : (bytes : List ℕ) → first.name.now ≡ name → bytes ≡ first.bytes.now
-      → Told contents (WereRead first second)
-      → Told contents (λ files. WereRead first second files × (bytes_in files name ≡ Ok bytes))
-  reads_first bytes same is were =
-      told_on contents (WereRead first second)
-      (λ files. WereRead first second files × (bytes_in files name ≡ Ok bytes))
-      (λ files read. (read, ap (bytes_in files) (sym same) ∙ read.0 ∙ ap Ok (sym is))) were
-
--- the second one again
-pub reads_second : (contents : Option Contents) (first second : Read) (name bytes : List ℕ)
-    → second.name.now ≡ name → bytes ≡ second.bytes.now
-    → Told contents (WereRead first (Some second)) → Told contents
-    (λ files. WereRead first (Some second) files × (bytes_in files name ≡ Ok bytes))
-reads_second contents first second name bytes same is were =
-    told_on contents (WereRead first (Some second))
-    (λ files. WereRead first (Some second) files × (bytes_in files name ≡ Ok bytes))
-    (λ files read. (read, ap (bytes_in files) (sym same) ∙ read.1 ∙ ap Ok (sym is))) were
-
 -- what a reading found
-pub reads_there : (contents : Option Contents) (name : List ℕ) (bytes : Vec ℕ Global)
-    → Finds contents name (Some bytes)
-    → Told contents (λ files. bytes_in files name ≡ Ok bytes.items)
-reads_there contents name bytes finds =
-    told_on contents (λ files. files name ≡ Some bytes.items)
-    (λ files. bytes_in files name ≡ Ok bytes.items)
-    (λ files e. ap (λ (o : Option (List ℕ)). bytes_in (λ n. o) name) e)
-    (found_told contents name (Some bytes) finds)
+pub reads_there : (files : Contents) (name : List ℕ) (bytes : Vec ℕ Global)
+    → bytes_of (Some bytes) ≡ files name → bytes_in files name ≡ Ok bytes.items
+reads_there files name bytes is =
+    ap (λ (o : Option (List ℕ)). bytes_in (λ n. o) name) (sym is)
 
-pub reads_none : (contents : Option Contents) (name said : List ℕ) → said ≡ name
-    → Finds contents name None
-    → Told contents (λ files. bytes_in files name ≡ Err (NoSuchFile said))
-reads_none contents name said same finds =
-    told_on contents (λ files. files name ≡ None)
-    (λ files. bytes_in files name ≡ Err (NoSuchFile said))
-    (λ files e. ap (λ (o : Option (List ℕ)). bytes_in (λ n. o) name) e
-    ∙ ap (λ (n : List ℕ). Err (NoSuchFile n)) (sym same))
-    (found_told contents name None finds)
+pub reads_none : (files : Contents) (name said : List ℕ) → said ≡ name
+    → bytes_of None ≡ files name → bytes_in files name ≡ Err (NoSuchFile said)
+reads_none files name said same is =
+    ap (λ (o : Option (List ℕ)). bytes_in (λ n. o) name) (sym is)
+    ∙ ap (λ (n : List ℕ). Err (NoSuchFile n)) (sym same)
+
+-- what is under a name that was read before
+pub read_again : (files : Contents) (before name bytes copy : List ℕ) → before ≡ name
+    → bytes_in files before ≡ Ok bytes → copy ≡ bytes → bytes_in files name ≡ Ok copy
+read_again files before name bytes copy same read is =
+    ap (bytes_in files) (sym same) ∙ read ∙ ap Ok (sym is)
 
 -- what a test of two names says
-pub differ : (a b : List ℕ) → false ≡ bytes_eq a b → ¬ (a ≡ b)
-differ a b test same = let equal : bytes_eq a b ≡ true = (bytes_eq-Decides a b).1 same in cc
+pub equal : (a b : List ℕ) → true ≡ bytes_eq a b → a ≡ b
+equal a b test = (bytes_eq-Decides a b).0 (sym test)
 
--- a step over what the store holds since an earlier one
-pub from_now : {X Y : Type 0} (view : X → Y) (contents now : Option Contents)
-    (Before : Contents → Type 0) (meaning : Contents → Result Y Refusal) (failed fails : Type 0)
-    (result : Result X Stop) → now ≡ contents → (fails → failed)
-    → StepsFrom view now Before meaning fails result
-    → StepsFrom view contents Before meaning failed result
-from_now view contents now Before meaning failed fails result same rose step =
-    weaker result
-    (subst (λ (o : Option Contents). StepsFrom view o Before meaning fails result) same step)
-  where
-    weaker : (r : Result _ Stop) → StepsFrom view contents Before meaning fails r
-        → StepsFrom view contents Before meaning failed r
-    weaker (Ok x) s = s
-    weaker (Err (Refused r)) s = s
-    weaker (Err StoreFailed) s = rose s
-    weaker (Err OutOfMemory) s = s
+-- a step of fewer contents, with a cause of its failure that comes of the first one
+pub steps_later : {X Y : Type 0} (view : X → Y) (before held : Contents → Type 0)
+    (meaning : Contents → Result Y Refusal) (fails failed : Type 0) (result : Result X Stop)
+    → OfAll held before → (fails → failed) → Steps view before meaning fails result
+    → Steps view held meaning failed result
+steps_later view before held meaning fails failed (Ok x) fewer rose step = λ files may.
+    step files (fewer files may)
+steps_later view before held meaning fails failed (Err (Refused r)) fewer rose step =
+    λ files may. step files (fewer files may)
+steps_later view before held meaning fails failed (Err StoreFailed) fewer rose step = rose step
+steps_later view before held meaning fails failed (Err OutOfMemory) fewer rose step = tt
 
--- the same where it gave something: whatever would have failed
-pub ok_now : {X Y : Type 0} (view : X → Y) (contents now : Option Contents)
-    (Before : Contents → Type 0) (meaning : Contents → Result Y Refusal) (x : X) → now ≡ contents
-    → (Told now Before → Told now (λ files. Before files × (meaning files ≡ Ok (view x))))
-    → Told contents Before → Told contents (λ files. Before files × (meaning files ≡ Ok (view x)))
-ok_now view contents now Before meaning x same step =
-    subst (λ (o : Option Contents).
-    Told o Before → Told o (λ files. Before files × (meaning files ≡ Ok (view x)))) same step
+-- what was read before is known of all contents that there may be
+module _ (held : Contents → Type 0) (first : Read) (bytes : List ℕ)
+    (all : first.bytes.now ≡ bytes)
+    (read : OfAll held (λ files. bytes_in files first.name.now ≡ Ok bytes)) where
+  pub one_read : OfAll held (HeldWith held first None)
+  one_read files may = (may, read files may ∙ ap Ok (sym all), tt)
+
+  pub two_read : (second : Read) (text : List ℕ) → second.bytes.now ≡ text
+      → OfAll held (λ files. bytes_in files second.name.now ≡ Ok text)
+      → OfAll held (HeldWith held first (Some second))
+  two_read second text whole found = λ files may.
+      (may, read files may ∙ ap Ok (sym all), found files may ∙ ap Ok (sym whole))
 
 -- ---- one file of constraints
 
@@ -157,32 +82,29 @@ file_is : (files : Contents) (r1cs : List ℕ)
 unfolding r1cs_in
 file_is files r1cs = refl
 
-module _ (contents : Option Contents) (r1cs : List ℕ) (failed : Type 0) where
-  pub file_unread : (e : Stop) → Steps (λ (v : Vec ℕ Global). v.items) contents
+module _ (held : Contents → Type 0) (r1cs : List ℕ) (failed : Type 0) where
+  pub file_unread : (e : Stop) → Steps (λ (v : Vec ℕ Global). v.items) held
       (λ files. bytes_in files r1cs) failed (Err e)
-      → Steps (λ (f : File). f) contents (λ files. r1cs_in files r1cs) failed (Err e)
-  file_unread (Refused r) step =
-      told_on contents (λ files. bytes_in files r1cs ≡ Err r)
-      (λ files. r1cs_in files r1cs ≡ Err r)
-      (λ files is. file_is files r1cs ∙ ap (λ (a : Result (List ℕ) Refusal).
-      a >>= λ bytes. accepted r1cs (r1cs_of bytes)) is) step
+      → Steps (λ (f : File). f) held (λ files. r1cs_in files r1cs) failed (Err e)
+  file_unread (Refused r) step = λ files may.
+      file_is files r1cs ∙ ap (λ (a : Result (List ℕ) Refusal).
+      a >>= λ bytes. accepted r1cs (r1cs_of bytes)) (step files may)
   file_unread StoreFailed step = step
   file_unread OutOfMemory step = tt
 
-  module _ (bytes : List ℕ) (there : Told contents (λ files. bytes_in files r1cs ≡ Ok bytes))
+  module _ (bytes : List ℕ) (there : OfAll held (λ files. bytes_in files r1cs ≡ Ok bytes))
       (slice : List ℕ) (same : slice ≡ bytes) where
     decoded : (f : Result File Refusal) → accepted r1cs (r1cs_of slice) ≡ f
-        → Told contents (λ files. r1cs_in files r1cs ≡ f)
-    decoded f gets =
-        told_on contents (λ files. bytes_in files r1cs ≡ Ok bytes)
-        (λ files. r1cs_in files r1cs ≡ f)
-        (λ files is. file_is files r1cs
-        ∙ ap (λ (a : Result (List ℕ) Refusal). a >>= λ bytes. accepted r1cs (r1cs_of bytes)) is
-        ∙ ap (λ (b : List ℕ). accepted r1cs (r1cs_of b)) (sym same) ∙ gets) there
+        → OfAll held (λ files. r1cs_in files r1cs ≡ f)
+    decoded f gets = λ files may.
+        file_is files r1cs
+        ∙ ap (λ (a : Result (List ℕ) Refusal). a >>= λ bytes. accepted r1cs (r1cs_of bytes))
+        (there files may)
+        ∙ ap (λ (b : List ℕ). accepted r1cs (r1cs_of b)) (sym same) ∙ gets
 
     pub file_decoded : (result : Result File Stop)
         → Gets (λ (f : File). f) (accepted r1cs (r1cs_of slice)) result
-        → Steps (λ (f : File). f) contents (λ files. r1cs_in files r1cs) failed result
+        → Steps (λ (f : File). f) held (λ files. r1cs_in files r1cs) failed result
     file_decoded (Ok f) gets = decoded (Ok f) gets
     file_decoded (Err (Refused r)) gets = decoded (Err r) gets
     file_decoded (Err StoreFailed) gets = absurd gets
@@ -200,88 +122,70 @@ module _ {B C : Type 0} (accept : List ℕ → Result B Refusal) (make : List �
       → Result C Refusal
   two_by r1cs a b = a >>= λ bytes. with_first bytes (accepted r1cs (r1cs_of bytes)) b
 
-  module _ (meaning : Contents → Result C Refusal) (contents : Option Contents)
+  module _ (meaning : Contents → Result C Refusal) (held : Contents → Type 0)
       (r1cs second : List ℕ)
       (meaning_is : (files : Contents) → meaning files
       ≡ two_by r1cs (bytes_in files r1cs) (bytes_in files second))
       (failed : Type 0) where
     -- the first file isn't there
-    pub unread_first : (e : Stop) → Steps (λ (v : Vec ℕ Global). v.items) contents
+    pub unread_first : (e : Stop) → Steps (λ (v : Vec ℕ Global). v.items) held
         (λ files. bytes_in files r1cs) failed (Err e)
-        → Steps (λ (c : C). c) contents meaning failed (Err e)
-    unread_first (Refused r) step =
-        told_on contents (λ files. bytes_in files r1cs ≡ Err r) (λ files. meaning files ≡ Err r)
-        (λ files is. meaning_is files
-        ∙ ap (λ (a : Result (List ℕ) Refusal). two_by r1cs a (bytes_in files second)) is) step
+        → Steps (λ (c : C). c) held meaning failed (Err e)
+    unread_first (Refused r) step = λ files may.
+        meaning_is files
+        ∙ ap (λ (a : Result (List ℕ) Refusal). two_by r1cs a (bytes_in files second))
+        (step files may)
     unread_first StoreFailed step = step
     unread_first OutOfMemory step = tt
 
-    module _ (bytes : List ℕ) (there : Told contents (λ files. bytes_in files r1cs ≡ Ok bytes))
+    module _ (bytes : List ℕ) (there : OfAll held (λ files. bytes_in files r1cs ≡ Ok bytes))
         (slice : List ℕ) (same : slice ≡ bytes) where
+      opened : (f : Result File Refusal) → accepted r1cs (r1cs_of slice) ≡ f
+          → OfAll held (λ files. meaning files ≡ with_first bytes f (bytes_in files second))
+      opened f read = λ files may.
+          meaning_is files
+          ∙ ap (λ (a : Result (List ℕ) Refusal). two_by r1cs a (bytes_in files second))
+          (there files may)
+          ∙ ap (λ (x : Result File Refusal). with_first bytes x (bytes_in files second))
+          (ap (λ (b : List ℕ). accepted r1cs (r1cs_of b)) (sym same) ∙ read)
+
       -- it is refused
       pub bad_first : (e : Stop) → Gets (λ (f : File). f) (accepted r1cs (r1cs_of slice)) (Err e)
-          → Steps (λ (c : C). c) contents meaning failed (Err e)
-      bad_first (Refused r) gets =
-          told_on contents (λ files. bytes_in files r1cs ≡ Ok bytes)
-          (λ files. meaning files ≡ Err r)
-          (λ files is. meaning_is files
-          ∙ ap (λ (a : Result (List ℕ) Refusal). two_by r1cs a (bytes_in files second)) is
-          ∙ ap (λ (f : Result File Refusal). with_first bytes f (bytes_in files second))
-          (ap (λ (b : List ℕ). accepted r1cs (r1cs_of b)) (sym same) ∙ gets)) there
+          → Steps (λ (c : C). c) held meaning failed (Err e)
+      bad_first (Refused r) gets = opened (Err r) gets
       bad_first StoreFailed gets = absurd gets
       bad_first OutOfMemory gets = tt
 
-      module _ (file : File) (read : accepted r1cs (r1cs_of slice) ≡ Ok file) (first : Read)
-          (name : first.name.now ≡ r1cs) (all : first.bytes.now ≡ bytes) where
-        were_read : Told contents (WereRead first None)
-        were_read =
-            told_on contents (λ files. bytes_in files r1cs ≡ Ok bytes) (WereRead first None)
-            (λ files is. (ap (bytes_in files) name ∙ is ∙ ap Ok (sym all), tt)) there
-
-        both : (text : Result (List ℕ) Refusal) (found : Result C Refusal)
-            → with_second bytes file text ≡ found
-            → Told contents (λ files. WereRead first None files × (bytes_in files second ≡ text))
-            → Told contents (λ files. meaning files ≡ found)
-        both text found end were =
-            told_on contents
-            (λ files. WereRead first None files × (bytes_in files second ≡ text))
-            (λ files. meaning files ≡ found)
-            (λ files known. meaning_is files
-            ∙ ap (λ (a : Result (List ℕ) Refusal). two_by r1cs a (bytes_in files second))
-            (ap (bytes_in files) (sym name) ∙ known.0.0 ∙ ap Ok all)
-            ∙ ap (λ (f : Result File Refusal). with_first bytes f (bytes_in files second))
-            (ap (λ (b : List ℕ). accepted r1cs (r1cs_of b)) (sym same) ∙ read)
-            ∙ ap (λ (b : Result (List ℕ) Refusal). with_second bytes file b) known.1
-            ∙ end) were
-
+      module _ (file : File) (read : accepted r1cs (r1cs_of slice) ≡ Ok file) where
         -- the second file isn't there
-        pub unread_second : (e : Stop) → StepsFrom (λ (v : Vec ℕ Global). v.items) contents
-            (WereRead first None) (λ files. bytes_in files second) failed (Err e)
-            → Steps (λ (c : C). c) contents meaning failed (Err e)
-        unread_second (Refused r) step = both (Err r) (Err r) refl (step were_read)
+        pub unread_second : (e : Stop) → Steps (λ (v : Vec ℕ Global). v.items) held
+            (λ files. bytes_in files second) failed (Err e)
+            → Steps (λ (c : C). c) held meaning failed (Err e)
+        unread_second (Refused r) step = λ files may.
+            opened (Ok file) read files may ∙ ap (with_second bytes file) (step files may)
         unread_second StoreFailed step = step
         unread_second OutOfMemory step = tt
 
-        module _ (text : Vec ℕ Global) (part : List ℕ)
-            (step : StepsFrom (λ (v : Vec ℕ Global). v.items) contents (WereRead first None)
-            (λ files. bytes_in files second) failed (Ok text)) (is : part ≡ text.items) where
+        module _ (text : List ℕ) (found : OfAll held (λ files. bytes_in files second ≡ Ok text))
+            (part : List ℕ) (is : part ≡ text) where
+          both : (b : Result B Refusal) → accept part ≡ b
+              → OfAll held (λ files. meaning files ≡ (b >>= λ x. Ok (make bytes file x)))
+          both b gets = λ files may.
+              opened (Ok file) read files may ∙ ap (with_second bytes file) (found files may)
+              ∙ ap (λ (y : Result B Refusal). y >>= λ x. Ok (make bytes file x))
+              (ap accept (sym is) ∙ gets)
+
           -- it is refused
           pub bad_second : {V : Type 0} (view : V → B) (e : Stop) → Gets view (accept part) (Err e)
-              → Steps (λ (c : C). c) contents meaning failed (Err e)
-          bad_second view (Refused r) gets =
-              both (Ok text.items) (Err r)
-              (ap (λ (b : Result B Refusal). b >>= λ x. Ok (make bytes file x))
-              (ap accept (sym is) ∙ gets)) (step were_read)
+              → Steps (λ (c : C). c) held meaning failed (Err e)
+          bad_second view (Refused r) gets = both (Err r) gets
           bad_second view StoreFailed gets = absurd gets
           bad_second view OutOfMemory gets = tt
 
           -- both are read
           pub both_read : (b : B) (c : C) → accept part ≡ Ok b → c ≡ make bytes file b
-              → Told contents (λ files. meaning files ≡ Ok c)
-          both_read b c gets made =
-              both (Ok text.items) (Ok c)
-              (ap (λ (b : Result B Refusal). b >>= λ x. Ok (make bytes file x))
-              (ap accept (sym is) ∙ gets) ∙ ap Ok (sym made)) (step were_read)
+              → OfAll held (λ files. meaning files ≡ Ok c)
+          both_read b c gets made = λ files may. both (Ok b) gets files may ∙ ap Ok (sym made)
 
 -- ---- the witness
 
@@ -333,14 +237,14 @@ found_in g (Ok bytes) f b = by (f bytes)
         with_them (Err r) = refl
         with_them (Ok v) = refl
 
-check_by : (files : Contents) (r1cs wtns : List ℕ) → check_of files r1cs wtns
+pub check_by : (files : Contents) (r1cs wtns : List ℕ) → check_of files r1cs wtns
     ≡ (witness_of files r1cs wtns >>= λ w. Ok (verdict w.file w.values))
 unfolding check_of witness_of r1cs_in
 check_by files r1cs wtns =
     found_in verdict (bytes_in files r1cs) (λ bytes. accepted r1cs (r1cs_of bytes))
     (wtns_in files wtns)
 
-public_by : (files : Contents) (r1cs wtns : List ℕ) → public_of files r1cs wtns
+pub public_by : (files : Contents) (r1cs wtns : List ℕ) → public_of files r1cs wtns
     ≡ (witness_of files r1cs wtns >>= λ w. Ok (published_values w.file w.values))
 unfolding public_of witness_of r1cs_in
 public_by files r1cs wtns =
@@ -348,50 +252,47 @@ public_by files r1cs wtns =
     (wtns_in files wtns)
 
 module _ {X : Type 0} (g : File → List ℕ → X) (meaning : Contents → Result X Refusal)
-    (contents : Option Contents) (r1cs wtns : List ℕ) (failed : Type 0)
+    (held : Contents → Type 0) (r1cs wtns : List ℕ)
     (is : (files : Contents) → meaning files
     ≡ (witness_of files r1cs wtns >>= λ w. Ok (g w.file w.values))) where
-  ends_unread : (e : Stop) → Steps (λ (w : Witness). w) contents
+  ends_unread : (failed : Type 0) (e : Stop) → Steps (λ (w : Witness). w) held
       (λ files. witness_of files r1cs wtns) failed (Err e)
-      → Steps (λ (x : X). x) contents meaning failed (Err e)
-  ends_unread (Refused r) step =
-      told_on contents (λ files. witness_of files r1cs wtns ≡ Err r)
-      (λ files. meaning files ≡ Err r)
-      (λ files read. is files
-      ∙ ap (λ (w : Result Witness Refusal). w >>= λ x. Ok (g x.file x.values)) read) step
-  ends_unread StoreFailed step = step
-  ends_unread OutOfMemory step = tt
+      → Steps (λ (x : X). x) held meaning failed (Err e)
+  ends_unread failed (Refused r) step = λ files may.
+      is files
+      ∙ ap (λ (w : Result Witness Refusal). w >>= λ x. Ok (g x.file x.values)) (step files may)
+  ends_unread failed StoreFailed step = step
+  ends_unread failed OutOfMemory step = tt
 
-  ends_found : (w : Witness) (x : X) → Told contents (λ files. witness_of files r1cs wtns ≡ Ok w)
-      → x ≡ g w.file w.values → Told contents (λ files. meaning files ≡ Ok x)
-  ends_found w x read found =
-      told_on contents (λ files. witness_of files r1cs wtns ≡ Ok w) (λ files. meaning files ≡ Ok x)
-      (λ files e. is files
-      ∙ ap (λ (w : Result Witness Refusal). w >>= λ v. Ok (g v.file v.values)) e
-      ∙ ap Ok (sym found)) read
+  ends_found : (w : Witness) (x : X) → OfAll held (λ files. witness_of files r1cs wtns ≡ Ok w)
+      → x ≡ g w.file w.values → OfAll held (λ files. meaning files ≡ Ok x)
+  ends_found w x read found = λ files may.
+      is files
+      ∙ ap (λ (w : Result Witness Refusal). w >>= λ v. Ok (g v.file v.values)) (read files may)
+      ∙ ap Ok (sym found)
 
-module _ (contents : Option Contents) (r1cs wtns : List ℕ) where
-  pub check_unread : (failed : Type 0) (e : Stop) → Steps (λ (w : Witness). w) contents
+module _ (held : Contents → Type 0) (r1cs wtns : List ℕ) where
+  pub check_unread : (failed : Type 0) (e : Stop) → Steps (λ (w : Witness). w) held
       (λ files. witness_of files r1cs wtns) failed (Err e)
-      → Steps (λ (v : Verdict). v) contents (λ files. check_of files r1cs wtns) failed (Err e)
-  check_unread failed = ends_unread verdict (λ files. check_of files r1cs wtns) contents r1cs wtns
-      failed (λ files. check_by files r1cs wtns)
-
-  pub check_found : (w : Witness) (v : Verdict)
-      → Told contents (λ files. witness_of files r1cs wtns ≡ Ok w) → v ≡ verdict w.file w.values
-      → Told contents (λ files. check_of files r1cs wtns ≡ Ok v)
-  check_found = ends_found verdict (λ files. check_of files r1cs wtns) contents r1cs wtns ⊥
+      → Steps (λ (v : Verdict). v) held (λ files. check_of files r1cs wtns) failed (Err e)
+  check_unread = ends_unread verdict (λ files. check_of files r1cs wtns) held r1cs wtns
       (λ files. check_by files r1cs wtns)
 
-  pub public_unread : (failed : Type 0) (e : Stop) → Steps (λ (w : Witness). w) contents
+  pub check_found : (w : Witness) (v : Verdict)
+      → OfAll held (λ files. witness_of files r1cs wtns ≡ Ok w) → v ≡ verdict w.file w.values
+      → OfAll held (λ files. check_of files r1cs wtns ≡ Ok v)
+  check_found = ends_found verdict (λ files. check_of files r1cs wtns) held r1cs wtns
+      (λ files. check_by files r1cs wtns)
+
+  pub public_unread : (failed : Type 0) (e : Stop) → Steps (λ (w : Witness). w) held
       (λ files. witness_of files r1cs wtns) failed (Err e)
-      → Steps (λ (p : Published). p) contents (λ files. public_of files r1cs wtns) failed (Err e)
-  public_unread failed = ends_unread published_values (λ files. public_of files r1cs wtns) contents
-      r1cs wtns failed (λ files. public_by files r1cs wtns)
+      → Steps (λ (p : Published). p) held (λ files. public_of files r1cs wtns) failed (Err e)
+  public_unread = ends_unread published_values (λ files. public_of files r1cs wtns) held r1cs wtns
+      (λ files. public_by files r1cs wtns)
 
   pub public_found : (w : Witness) (p : Published)
-      → Told contents (λ files. witness_of files r1cs wtns ≡ Ok w)
+      → OfAll held (λ files. witness_of files r1cs wtns ≡ Ok w)
       → p ≡ published_values w.file w.values
-      → Told contents (λ files. public_of files r1cs wtns ≡ Ok p)
-  public_found = ends_found published_values (λ files. public_of files r1cs wtns) contents r1cs wtns
-      ⊥ (λ files. public_by files r1cs wtns)
+      → OfAll held (λ files. public_of files r1cs wtns ≡ Ok p)
+  public_found = ends_found published_values (λ files. public_of files r1cs wtns) held r1cs wtns
+      (λ files. public_by files r1cs wtns)

@@ -1,7 +1,5 @@
 -- The replies to commands over files of constraints and values.
 use Rattle.std.specs.Prelude.{◌≡◌, ℕ, List, length, Option, Some, None, Result, Ok, Err}
-use Rattle.out_io.specs.Calls.{Told}
-use Rattle.out_io.specs.Contents.{Contents}
 use Rattle.cir_determined.specs.Text.{rules_text}
 use Rattle.cir_determined.specs.declared.rule.Answer.{Answer}
 use Rattle.cir_determined.specs.declared.rule.Answer.TheVariants.{Shown, NotShown}
@@ -95,9 +93,6 @@ abbrev pub said : {X : Type 0} → (X → Reply) → Result X Refusal → Reply
 said reply (Ok x) = reply x
 said reply (Err refusal) = refused refusal
 
--- the reply says what the command finds in the files, where the store tells them
-abbrev pub Says : {X : Type 0} → Option Contents → (X → Reply)
-    → (Contents → Result X Refusal → Type 0) → Reply → Type 0
-Says {X} contents reply Finds r =
-    (found : Result X Refusal)
-    × Told contents (λ files. Finds files found) × (r ≡ said reply found)
+-- the reply says what the command finds
+abbrev pub Says : {X : Type 0} → (X → Reply) → (Result X Refusal → Type 0) → Reply → Type 0
+Says {X} reply Finds r = (found : Result X Refusal) × Finds found × (r ≡ said reply found)

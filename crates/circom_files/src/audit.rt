@@ -1,9 +1,8 @@
-ghost use Rattle.std.specs.Prelude.{◌≡◌, ◌↔◌, IfOk, IsErrOf};
-ghost use Rattle.out_io.specs.Calls.{OnlyReads, Told};
+ghost use Rattle.std.specs.Prelude.{◌≡◌, ◌↔◌, ◌<◌, IfOk, IsErrOf};
+ghost use Rattle.circom_files.specs.Held.{OfAll, OnlyReads};
 ghost use Rattle.out_io.specs.Faults.{Rose};
 ghost use Rattle.out_io.specs.declared.fault.IoFault.TheVariants.{Failed};
 ghost use Rattle.iden_files.specs.File.{InLimits};
-ghost use Rattle.lig_proof.specs.declared.verdict.Verdict.TheVariants.{Accepted};
 ghost use Rattle.circom_files.specs.Accepted.{IsAccepted};
 ghost use Rattle.circom_files.specs.Proving.{Audits, IsAudited, offer_of};
 ghost use Rattle.circom_files.specs.Reply.{Says, audited};
@@ -30,12 +29,13 @@ pub fn audit_reply<'w, R: Threads + AllocGlobal + Sync, S: Store>(
     proof: &str,
     store: &mut S,
 ) -> Result<Reply<'w>, IoFault>
-    ensures says { IfOk result (λ r. Says (S.contents store.old) audited
-        (λ files found. Audits files r1cs.now publics.now proof.now found) (shown r)) }
-    ensures accepted { IfOk result (λ r. Told (S.contents store.old) (λ files.
+    ensures says { IfOk result (λ r. OfAll (S.may_hold store.new) (λ files. Says audited
+        (λ found. Audits files r1cs.now publics.now proof.now found) (shown r))) }
+    ensures accepted { IfOk result (λ r. OfAll (S.may_hold store.new) (λ files.
         (r.status ≡ 0) ↔ IsAccepted files r1cs.now publics.now proof.now)) }
+    ensures status { IfOk result (λ r. r.status < 3) }
     ensures fault { IsErrOf result Failed → Rose (S.faults store.old) (S.faults store.new) }
-    ensures store { OnlyReads (S.contents store.old) (S.contents store.new)
+    ensures store { OnlyReads (S.may_hold store.old) (S.may_hold store.new)
         (S.faults store.old) (S.faults store.new)
         (S.never_fails store.old) (S.never_fails store.new) }
 {
@@ -54,13 +54,10 @@ fn verdict_in<R: Threads + AllocGlobal + Sync, S: Store>(
     proof: &str,
     store: &mut S,
 ) -> Result<Verdict, Stop>
-    ensures step { StepsTo (λ verdict. verdict) (S.contents store.old)
+    ensures step { StepsTo (λ verdict. verdict) (S.may_hold store.new)
         (λ files found. Audits files r1cs.now publics.now proof.now found)
         (Rose (S.faults store.old) (S.faults store.new)) result }
-    ensures one { IfOk result (λ verdict. Told (S.contents store.old)
-        (λ files. Audits files r1cs.now publics.now proof.now (Ok verdict)
-        × (IsAccepted files r1cs.now publics.now proof.now → verdict ≡ Accepted))) }
-    ensures store { OnlyReads (S.contents store.old) (S.contents store.new)
+    ensures store { OnlyReads (S.may_hold store.old) (S.may_hold store.new)
         (S.faults store.old) (S.faults store.new)
         (S.never_fails store.old) (S.never_fails store.new) }
 {
@@ -90,11 +87,11 @@ fn offer_in<S: Store>(
     proof: &str,
     store: &mut S,
 ) -> Result<Offer, Stop>
-    ensures step { Steps (λ o. o) (S.contents store.old)
+    ensures step { Steps (λ o. o) (S.may_hold store.new)
         (λ files. offer_of files r1cs.now publics.now proof.now)
         (Rose (S.faults store.old) (S.faults store.new)) result }
     ensures limits { IfOk result (λ o. InLimits o.file) }
-    ensures store { OnlyReads (S.contents store.old) (S.contents store.new)
+    ensures store { OnlyReads (S.may_hold store.old) (S.may_hold store.new)
         (S.faults store.old) (S.faults store.new)
         (S.never_fails store.old) (S.never_fails store.new) }
 {

@@ -1,5 +1,5 @@
-ghost use Rattle.out_io.specs.Calls.{OnlyReads};
-ghost use Rattle.std.specs.Prelude.{◌≡◌, IfOk, IsErrOf};
+ghost use Rattle.circom_files.specs.Held.{OfAll, OnlyReads};
+ghost use Rattle.std.specs.Prelude.{◌≡◌, ◌<◌, IfOk, IsErrOf};
 ghost use Rattle.out_io.specs.Faults.{Rose};
 ghost use Rattle.iden_files.specs.File.{InLimits};
 ghost use Rattle.circom_files.specs.Check.{verdict, check_of};
@@ -24,10 +24,11 @@ pub fn check_reply<'w, S: Store>(
     wtns: &str,
     store: &mut S,
 ) -> Result<Reply<'w>, IoFault>
-    ensures says { IfOk result (λ r. Says (S.contents store.old) checked
-        (λ files found. check_of files r1cs.now wtns.now ≡ found) (shown r)) }
+    ensures says { IfOk result (λ r. OfAll (S.may_hold store.new) (λ files. Says checked
+        (λ found. check_of files r1cs.now wtns.now ≡ found) (shown r))) }
+    ensures status { IfOk result (λ r. r.status < 3) }
     ensures fault { IsErrOf result Failed → Rose (S.faults store.old) (S.faults store.new) }
-    ensures store { OnlyReads (S.contents store.old) (S.contents store.new)
+    ensures store { OnlyReads (S.may_hold store.old) (S.may_hold store.new)
         (S.faults store.old) (S.faults store.new)
         (S.never_fails store.old) (S.never_fails store.new) }
 {
@@ -39,10 +40,10 @@ pub fn check_reply<'w, S: Store>(
 
 // Whether the values in one file satisfy the constraints in the other.
 fn check<S: Store>(alloc: Global, r1cs: &str, wtns: &str, store: &mut S) -> Result<Verdict, Stop>
-    ensures step { Steps (λ verdict. verdict) (S.contents store.old)
+    ensures step { Steps (λ verdict. verdict) (S.may_hold store.new)
         (λ files. check_of files r1cs.now wtns.now)
         (Rose (S.faults store.old) (S.faults store.new)) result }
-    ensures store { OnlyReads (S.contents store.old) (S.contents store.new)
+    ensures store { OnlyReads (S.may_hold store.old) (S.may_hold store.new)
         (S.faults store.old) (S.faults store.new)
         (S.never_fails store.old) (S.never_fails store.new) }
 {

@@ -1,7 +1,7 @@
 //! The commands `determine` and `confirm`.
 
 ghost use Rattle.std.specs.Prelude.{◌≡◌, ◌<◌, ◌^◌, length, IfOk, IsErrOf};
-ghost use Rattle.out_io.specs.Calls.{OnlyReads, Told};
+ghost use Rattle.circom_files.specs.Held.{OfAll, OnlyReads};
 ghost use Rattle.out_io.specs.Faults.{Rose};
 ghost use Rattle.out_io.specs.declared.fault.IoFault.TheVariants.{Failed};
 ghost use Rattle.iden_files.specs.File.{InLimits};
@@ -33,12 +33,13 @@ pub fn determine_reply<'w, S: Store>(
     out: &'w str,
     store: &mut S,
 ) -> Result<Reply<'w>, IoFault>
-    ensures says { IfOk result (λ r. Says (S.contents store.old) (determined out.entry.now)
-        (λ files found. Searches files r1cs.now found) (shown r)) }
-    ensures certificate { IfOk result (λ r. r.status ≡ 0 → Told (S.contents store.old)
-        (λ files. WritesCertificate files r1cs.now out.entry.now (shown r))) }
+    ensures says { IfOk result (λ r. OfAll (S.may_hold store.new) (λ files.
+        Says (determined out.entry.now) (λ found. Searches files r1cs.now found) (shown r))) }
+    ensures certificate { IfOk result (λ r. OfAll (S.may_hold store.new) (λ files.
+        r.status ≡ 0 → WritesCertificate files r1cs.now out.entry.now (shown r))) }
+    ensures status { IfOk result (λ r. r.status < 3) }
     ensures fault { IsErrOf result Failed → Rose (S.faults store.old) (S.faults store.new) }
-    ensures store { OnlyReads (S.contents store.old) (S.contents store.new)
+    ensures store { OnlyReads (S.may_hold store.old) (S.may_hold store.new)
         (S.faults store.old) (S.faults store.new)
         (S.never_fails store.old) (S.never_fails store.new) }
 {
@@ -50,10 +51,10 @@ pub fn determine_reply<'w, S: Store>(
 
 // What a search for rules finds.
 fn answer_in<S: Store>(alloc: Global, r1cs: &str, store: &mut S) -> Result<Answer, Stop>
-    ensures step { StepsTo (λ answer. answer) (S.contents store.old)
+    ensures step { StepsTo (λ answer. answer) (S.may_hold store.new)
         (λ files found. Searches files r1cs.now found)
         (Rose (S.faults store.old) (S.faults store.new)) result }
-    ensures store { OnlyReads (S.contents store.old) (S.contents store.new)
+    ensures store { OnlyReads (S.may_hold store.old) (S.may_hold store.new)
         (S.faults store.old) (S.faults store.new)
         (S.never_fails store.old) (S.never_fails store.new) }
 {
@@ -64,10 +65,10 @@ fn answer_in<S: Store>(alloc: Global, r1cs: &str, store: &mut S) -> Result<Answe
 
 // The file of constraints under the name.
 fn file_in<S: Store>(alloc: Global, store: &mut S, name: &str) -> Result<R1cs, Stop>
-    ensures step { Steps (λ f. f) (S.contents store.old) (λ files. r1cs_in files name.now)
+    ensures step { Steps (λ f. f) (S.may_hold store.new) (λ files. r1cs_in files name.now)
         (Rose (S.faults store.old) (S.faults store.new)) result }
     ensures limits { IfOk result InLimits }
-    ensures store { OnlyReads (S.contents store.old) (S.contents store.new)
+    ensures store { OnlyReads (S.may_hold store.old) (S.may_hold store.new)
         (S.faults store.old) (S.faults store.new)
         (S.never_fails store.old) (S.never_fails store.new) }
 {
@@ -91,12 +92,13 @@ pub fn confirm_reply<'w, S: Store>(
     certificate: &str,
     store: &mut S,
 ) -> Result<Reply<'w>, IoFault>
-    ensures says { IfOk result (λ r. Says (S.contents store.old) confirmed
-        (λ files found. Confirms files r1cs.now certificate.now found) (shown r)) }
-    ensures determined { IfOk result (λ r. r.status ≡ 0
-        → Told (S.contents store.old) (λ files. HasDetermined files r1cs.now)) }
+    ensures says { IfOk result (λ r. OfAll (S.may_hold store.new) (λ files. Says confirmed
+        (λ found. Confirms files r1cs.now certificate.now found) (shown r))) }
+    ensures determined { IfOk result (λ r. OfAll (S.may_hold store.new)
+        (λ files. r.status ≡ 0 → HasDetermined files r1cs.now)) }
+    ensures status { IfOk result (λ r. r.status < 3) }
     ensures fault { IsErrOf result Failed → Rose (S.faults store.old) (S.faults store.new) }
-    ensures store { OnlyReads (S.contents store.old) (S.contents store.new)
+    ensures store { OnlyReads (S.may_hold store.old) (S.may_hold store.new)
         (S.faults store.old) (S.faults store.new)
         (S.never_fails store.old) (S.never_fails store.new) }
 {
@@ -113,12 +115,12 @@ fn verdict_in<S: Store>(
     certificate: &str,
     store: &mut S,
 ) -> Result<Confirm, Stop>
-    ensures step { StepsTo (λ verdict. verdict) (S.contents store.old)
+    ensures step { StepsTo (λ verdict. verdict) (S.may_hold store.new)
         (λ files found. Confirms files r1cs.now certificate.now found)
         (Rose (S.faults store.old) (S.faults store.new)) result }
     ensures determined { IfOk result (λ verdict. verdict ≡ Confirmed
-        → Told (S.contents store.old) (λ files. HasDetermined files r1cs.now)) }
-    ensures store { OnlyReads (S.contents store.old) (S.contents store.new)
+        → OfAll (S.may_hold store.new) (λ files. HasDetermined files r1cs.now)) }
+    ensures store { OnlyReads (S.may_hold store.old) (S.may_hold store.new)
         (S.faults store.old) (S.faults store.new)
         (S.never_fails store.old) (S.never_fails store.new) }
 {
@@ -154,12 +156,12 @@ fn claim_in<S: Store>(
     certificate: &str,
     store: &mut S,
 ) -> Result<Claim, Stop>
-    ensures step { Steps (λ c. c) (S.contents store.old)
+    ensures step { Steps (λ c. c) (S.may_hold store.new)
         (λ files. claim_of files r1cs.now certificate.now)
         (Rose (S.faults store.old) (S.faults store.new)) result }
     ensures limits { IfOk result (λ c. InLimits c.file) }
     ensures few { IfOk result (λ c. length c.rules < 2 ^ 32) }
-    ensures store { OnlyReads (S.contents store.old) (S.contents store.new)
+    ensures store { OnlyReads (S.may_hold store.old) (S.may_hold store.new)
         (S.faults store.old) (S.faults store.new)
         (S.never_fails store.old) (S.never_fails store.new) }
 {

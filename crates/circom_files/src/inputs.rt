@@ -1,4 +1,4 @@
-ghost use Rattle.out_io.specs.Calls.{OnlyReads};
+ghost use Rattle.circom_files.specs.Held.{OnlyReads};
 ghost use Rattle.out_io.specs.Faults.{Rose};
 ghost use Rattle.iden_files.specs.File.{InLimits};
 ghost use Rattle.std.specs.Prelude.{◌<◌, ◌^◌, All, IfOk, length};
@@ -9,8 +9,8 @@ ghost use Rattle.wit_input.specs.Publics.{publics_of};
 ghost use Rattle.cir_determined.specs.Text.{rules_of};
 ghost use Rattle.circom_files.specs.Files.{accepted, accepted_publics, accepted_rules, bytes_in};
 ghost use Rattle.circom_files.specs.Proving.{witness_of};
-ghost use Rattle.circom_files.specs.Steps.{Gets, Refuses, RefusesPublics, RefusesRules, Steps};
-ghost use Rattle.circom_files.specs.Steps.{StepsFrom, WereRead};
+ghost use Rattle.circom_files.specs.Steps.{Gets, HeldWith, Refuses, RefusesPublics};
+ghost use Rattle.circom_files.specs.Steps.{RefusesRules, Steps};
 
 use crate::outcome::Witness;
 use crate::stop::Stop;
@@ -33,9 +33,9 @@ pub struct Read<'n> {
 
 /// The bytes under the name.
 pub fn bytes_in<S: Store>(alloc: Global, store: &mut S, name: &str) -> Result<Vec<u8>, Stop>
-    ensures step { Steps (λ v. v.items) (S.contents store.old) (λ files. bytes_in files name.now)
+    ensures step { Steps (λ v. v.items) (S.may_hold store.new) (λ files. bytes_in files name.now)
         (Rose (S.faults store.old) (S.faults store.new)) result }
-    ensures store { OnlyReads (S.contents store.old) (S.contents store.new)
+    ensures store { OnlyReads (S.may_hold store.old) (S.may_hold store.new)
         (S.faults store.old) (S.faults store.new)
         (S.never_fails store.old) (S.never_fails store.new) }
 {
@@ -55,10 +55,11 @@ pub fn bytes_after<S: Store>(
     second: Option<Read<'_>>,
     name: &str,
 ) -> Result<Vec<u8>, Stop>
-    ensures step { StepsFrom (λ v. v.items) (S.contents store.old)
-        (WereRead first.entry second.entry) (λ files. bytes_in files name.now)
+    ensures step { Steps (λ v. v.items)
+        (HeldWith (S.may_hold store.new) first.entry second.entry)
+        (λ files. bytes_in files name.now)
         (Rose (S.faults store.old) (S.faults store.new)) result }
-    ensures store { OnlyReads (S.contents store.old) (S.contents store.new)
+    ensures store { OnlyReads (S.may_hold store.old) (S.may_hold store.new)
         (S.faults store.old) (S.faults store.new)
         (S.never_fails store.old) (S.never_fails store.new) }
 {
@@ -155,12 +156,12 @@ pub fn witness_in<S: Store>(
     wtns: &str,
     store: &mut S,
 ) -> Result<Witness, Stop>
-    ensures step { Steps (λ w. w) (S.contents store.old)
+    ensures step { Steps (λ w. w) (S.may_hold store.new)
         (λ files. witness_of files r1cs.now wtns.now)
         (Rose (S.faults store.old) (S.faults store.new)) result }
     ensures limits { IfOk result (λ w. InLimits w.file) }
     ensures numbers { IfOk result (λ w. All (λ value. value < P) w.values) }
-    ensures store { OnlyReads (S.contents store.old) (S.contents store.new)
+    ensures store { OnlyReads (S.may_hold store.old) (S.may_hold store.new)
         (S.faults store.old) (S.faults store.new)
         (S.never_fails store.old) (S.never_fails store.new) }
 {

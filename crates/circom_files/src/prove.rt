@@ -1,5 +1,5 @@
 ghost use Rattle.std.specs.Prelude.{◌≡◌, ◌<◌, ℕ, List, All, IfOk, IsErrOf};
-ghost use Rattle.out_io.specs.Calls.{OnlyReads, Told};
+ghost use Rattle.circom_files.specs.Held.{OfAll, OnlyReads};
 ghost use Rattle.out_io.specs.Faults.{Rose};
 ghost use Rattle.out_io.specs.declared.fault.IoFault.TheVariants.{Failed};
 ghost use Rattle.iden_files.specs.File.{InLimits, IsFile};
@@ -37,12 +37,14 @@ pub fn prove_reply<'w, R: Threads + AllocGlobal + Sync, S: Store>(
     options: ProveOptions,
     store: &mut S,
 ) -> Result<Reply<'w>, IoFault>
-    ensures says { IfOk result (λ r. Says (S.contents store.old) (proved out.entry.now)
-        (λ files found. Proves files r1cs.now wtns.now (meant_proving options) found) (shown r)) }
-    ensures accepted { IfOk result (λ r. r.status ≡ 0 → Told (S.contents store.old)
-        (λ files. WritesProof files r1cs.now wtns.now out.entry.now (shown r))) }
+    ensures says { IfOk result (λ r. OfAll (S.may_hold store.new) (λ files.
+        Says (proved out.entry.now)
+        (λ found. Proves files r1cs.now wtns.now (meant_proving options) found) (shown r))) }
+    ensures accepted { IfOk result (λ r. OfAll (S.may_hold store.new) (λ files.
+        r.status ≡ 0 → WritesProof files r1cs.now wtns.now out.entry.now (shown r))) }
+    ensures status { IfOk result (λ r. r.status < 3) }
     ensures fault { IsErrOf result Failed → Rose (S.faults store.old) (S.faults store.new) }
-    ensures store { OnlyReads (S.contents store.old) (S.contents store.new)
+    ensures store { OnlyReads (S.may_hold store.old) (S.may_hold store.new)
         (S.faults store.old) (S.faults store.new)
         (S.never_fails store.old) (S.never_fails store.new) }
 {
@@ -61,12 +63,12 @@ fn outcome_in<R: Threads + AllocGlobal + Sync, S: Store>(
     options: ProveOptions,
     store: &mut S,
 ) -> Result<Outcome, Stop>
-    ensures step { StepsTo (λ outcome. outcome) (S.contents store.old)
+    ensures step { StepsTo (λ outcome. outcome) (S.may_hold store.new)
         (λ files found. Proves files r1cs.now wtns.now (meant_proving options) found)
         (Rose (S.faults store.old) (S.faults store.new)) result }
     ensures accepted { IfOk result (λ outcome. (proof : List ℕ) → outcome ≡ Made proof
-        → Told (S.contents store.old) (λ files. IsProofOf files r1cs.now wtns.now proof)) }
-    ensures store { OnlyReads (S.contents store.old) (S.contents store.new)
+        → OfAll (S.may_hold store.new) (λ files. IsProofOf files r1cs.now wtns.now proof)) }
+    ensures store { OnlyReads (S.may_hold store.old) (S.may_hold store.new)
         (S.faults store.old) (S.faults store.new)
         (S.never_fails store.old) (S.never_fails store.new) }
 {

@@ -1,5 +1,5 @@
-ghost use Rattle.std.specs.Prelude.{◌≡◌, IfOk, IsErrOf};
-ghost use Rattle.out_io.specs.Calls.{OnlyReads};
+ghost use Rattle.std.specs.Prelude.{◌≡◌, ◌<◌, IfOk, IsErrOf};
+ghost use Rattle.circom_files.specs.Held.{OfAll, OnlyReads};
 ghost use Rattle.out_io.specs.Faults.{Rose};
 ghost use Rattle.out_io.specs.declared.fault.IoFault.TheVariants.{Failed};
 ghost use Rattle.circom_files.specs.Proving.{public_of, published_values};
@@ -26,10 +26,12 @@ pub fn public_reply<'w, S: Store>(
     out: &'w str,
     store: &mut S,
 ) -> Result<Reply<'w>, IoFault>
-    ensures says { IfOk result (λ r. Says (S.contents store.old) (published out.entry.now)
-        (λ files found. public_of files r1cs.now wtns.now ≡ found) (shown r)) }
+    ensures says { IfOk result (λ r. OfAll (S.may_hold store.new) (λ files.
+        Says (published out.entry.now)
+        (λ found. public_of files r1cs.now wtns.now ≡ found) (shown r))) }
+    ensures status { IfOk result (λ r. r.status < 3) }
     ensures fault { IsErrOf result Failed → Rose (S.faults store.old) (S.faults store.new) }
-    ensures store { OnlyReads (S.contents store.old) (S.contents store.new)
+    ensures store { OnlyReads (S.may_hold store.old) (S.may_hold store.new)
         (S.faults store.old) (S.faults store.new)
         (S.never_fails store.old) (S.never_fails store.new) }
 {
@@ -46,10 +48,10 @@ fn published_in<S: Store>(
     wtns: &str,
     store: &mut S,
 ) -> Result<Published, Stop>
-    ensures step { Steps (λ found. found) (S.contents store.old)
+    ensures step { Steps (λ found. found) (S.may_hold store.new)
         (λ files. public_of files r1cs.now wtns.now)
         (Rose (S.faults store.old) (S.faults store.new)) result }
-    ensures store { OnlyReads (S.contents store.old) (S.contents store.new)
+    ensures store { OnlyReads (S.may_hold store.old) (S.may_hold store.new)
         (S.faults store.old) (S.faults store.new)
         (S.never_fails store.old) (S.never_fails store.new) }
 {

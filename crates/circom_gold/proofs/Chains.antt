@@ -1,5 +1,6 @@
 -- What commands come to that run one after the other.
-use Rattle.std.proofs.Common.{◌≡◌, ◌≢◌, ◌∙◌, ◌<◌, ℕ, List, Option, Some, None, Result, Ok, Err}
+use Rattle.std.proofs.Common.{◌≡◌, ◌≢◌, ◌∙◌, ◌<◌, ℕ, List, Option, Some}
+use Rattle.std.proofs.Common.{None, Result, Ok, Err}
 use Rattle.std.proofs.Common.{IsSomeAnd, All, ap, refl, subst, sym, drop}
 use Rattle.std.specs.Prelude.{⊤}
 use Rattle.std.proofs.lemmas.List.Elements.{All-take, All-drop}
@@ -49,6 +50,7 @@ use Rattle.circom_files.specs.declared.outcome.Published.TheVariants.{Values, Wr
 use Rattle.circom_files.specs.declared.outcome.Ran.{Ran}
 use Rattle.circom_files.specs.declared.outcome.Ran.TheVariants.{Ended, Halted}
 use Rattle.circom_files.specs.declared.outcome.Witness.{Witness}
+use Rattle.circom_files.proofs.Accepts.{accepted_is}
 use Rattle.circom_files.proofs.Certified.{confirmed_is, one_confirm}
 use Rattle.circom_files.proofs.Numbers.{values_below}
 use Rattle.circom_files.proofs.Once.{one_audit}
@@ -56,7 +58,6 @@ use Rattle.circom_gold.specs.Compile.{AreConstraintsOf, LoadsAgain}
 use Rattle.circom_gold.specs.Means.{ArePublicsOf}
 use Rattle.circom_gold.specs.Reply.{constraints_written}
 use Rattle.circom_gold.specs.Run.{IsReplied}
-use Rattle.circom_gold.proofs.Meanings.{accepted_is}
 use Rattle.circom_gold.proofs.WitnessLaws.{check_accepts, there}
 
 -- ---- files that a command leaves as they are

@@ -1,32 +1,27 @@
 -- What a run does with the answer to its command.
-use Rattle.std.proofs.Common.{◌≡◌, ◌≢◌, ◌∙◌, ◌⊎◌, ℕ, List, [], Option, Some, None, Result, Ok, Err}
-use Rattle.std.proofs.Common.{◌++◌, IfOk, IfSome, ap, refl, subst, sym, inl, inr}
-use Rattle.std.proofs.lemmas.List.{append_cancel_left}
+use Rattle.std.proofs.Common.{◌≡◌, ◌≢◌, ◌∙◌, ◌⊎◌, ◌++◌, ℕ, List, []}
+use Rattle.std.proofs.Common.{Option, Some, None, Result}
+use Rattle.std.proofs.Common.{Ok, Err, IfOk, IfSome, OnErr, ap, refl, subst, sym, inl, inr, arith}
+use Rattle.std.proofs.lemmas.List.{append-nil, append_cancel_left}
 use Rattle.std.proofs.lemmas.Result.{IfOk-weaker}
 use Rattle.std.specs.Result.{result_ok}
 use Rattle.std.specs.declared.alloc.AllocError.{AllocError}
-use Rattle.out_io.specs.Calls.{Course, HasFailed, course}
-use Rattle.out_io.specs.Contents.{Contents, Changes}
-use Rattle.out_io.specs.Written.{IsAppendedInPart}
+use Rattle.out_io.specs.Contents.{Contents}
+use Rattle.out_io.specs.Faults.{Rose}
 use Rattle.out_io.specs.declared.fault.IoFault.{IoFault}
 use Rattle.out_io.specs.declared.fault.IoFault.TheVariants.{Failed}
 use Rattle.circom_words.specs.Words.{Command}
-use Rattle.circom_files.specs.Given.{Puts}
+use Rattle.circom_files.specs.Given.{Exits, IsFront, Puts, PutsFault}
+use Rattle.circom_files.specs.Held.{Becomes, OfAll}
 use Rattle.circom_files.specs.Reply.{Reply, store_failed}
 use Rattle.circom_files.specs.Shown.{shown}
 use Rattle.circom_files.specs.declared.reply.Reply.{Reply as CodeReply}
-use Rattle.circom_gold.specs.Answering.{HasMeaning, IsAnswered}
+use Rattle.circom_gold.specs.Answering.{ExitsBy, Fits, IsAnswered, IsReply, PutsAnswer, Writing}
+use Rattle.circom_gold.specs.Course.{Course, Device, HasFailed, IsUnasked, course}
 use Rattle.circom_gold.specs.Means.{Means}
 use Rattle.circom_gold.specs.Reply.{Answers}
-use Rattle.circom_gold.specs.Run.{Does, Ends, IsReplied, IsUntouched, MeansIn, Stays}
-use Rattle.circom_gold.proofs.Replies.{ends_failed, ends_said, fault_cause, front_of_none}
-use Rattle.circom_gold.proofs.Replies.{never_three, only_unread_cause, replied, stays_failed}
-use Rattle.circom_gold.proofs.Replies.{stays_said}
-
-weaker : {A : Type 0} (o : Option A) (P Q : A → Type 0) → ((a : A) → P a → Q a) → IfSome o P
-    → IfSome o Q
-weaker None P Q go h = tt
-weaker (Some a) P Q go h = go a h
+use Rattle.circom_gold.specs.Run.{Did, Does, Ends, Gives, IsReplied, MeansIn, Stays}
+use Rattle.circom_gold.proofs.Replies.{in_part, no_fault_status, usage_alone}
 
 some_of : (result : Result ℕ AllocError) (P : ℕ → Type 0) → IfOk result P
     → IfSome (result_ok result) P
@@ -34,176 +29,302 @@ some_of (Ok exit) P h = h
 some_of (Err e) P h = tt
 
 module _ (command : Option Command) (store : Course Contents) (sink : Course (List ℕ)) where
-  -- a status that isn't 3 means what is said of the command
   abbrev Meaning : ℕ → Type 0
   Meaning exit = IfSome command (λ c. exit ≢ 3 → MeansIn c store sink exit)
 
-  abbrev Unread : ℕ → Type 0
-  Unread exit = (exit ≡ 64) ⊎ HasFailed sink
-
-  -- how a run ends says why its status is 3 or 64
-  does : (status : Option ℕ) → IfSome status (Ends command store sink)
-      → Stays command store sink → IfSome status Meaning
-      → (command ≡ None → IsUntouched store × IfSome status Unread)
-      → Does command store sink status
-  does status ended kept means unread = record {
-    ended = ended;
-    kept = kept;
-    means = means;
-    fault =
-        weaker status (Ends command store sink)
-        (λ exit. exit ≡ 3 → HasFailed store ⊎ HasFailed sink)
-        (λ exit end. fault_cause command store sink exit end) ended;
-    unread = unread;
-    only_unread =
-        weaker status (Ends command store sink) (λ exit. exit ≡ 64 → command ≡ None)
-        (λ exit end. only_unread_cause command store sink exit end) ended;
+  -- nothing was put or written
+  pub did_nothing : store.new ≡ store.old → sink.new ≡ sink.old → Did command store sink None
+  did_nothing still unput = record {
+    ended = tt;
+    kept = inl (record { text = inl unput; files = still });
+    means = tt;
   }
 
-  -- nothing was asked, written or put
-  pub does_nothing : IsUntouched store → IsUntouched sink → Does command store sink None
-  does_nothing still unput =
-      does None tt
-      (inl (record {
-        text = inl (subst (IsAppendedInPart [] sink.old) (sym unput.0) (front_of_none [] sink.old));
-        files = still.0;
-      }))
-      tt (λ none. (still, tt))
-
   -- the reply is given
-  module _ (reply : CodeReply) (result : Result ℕ AllocError)
-      (h : IsAnswered command store (Ok reply)) (puts : IfOk result (Puts (shown reply) sink))
-      (front : IsAppendedInPart (shown reply).text sink.old sink.new) where
-    given_meaning : (exit : ℕ) → Puts (shown reply) sink exit → Meaning exit
-    given_meaning exit put = by command h.means put
+  module _ (r : Reply) (result : Result ℕ AllocError)
+      (is : IsReply command r store.old store.new)
+      (puts : Puts r sink.failed result sink.old sink.new) where
+    abbrev Put : ℕ → Type 0
+    Put exit =
+        ((exit ≡ r.status) × (sink.new ≡ sink.old ++ r.text)) ⊎ ((exit ≡ 3) × sink.failed)
+
+    given_end : (exit : ℕ) → Put exit → Ends command store sink exit
+    given_end exit (inl whole) =
+        inl (
+          r,
+          is.answers,
+          inl (record { status = whole.0; text = whole.1; files = is.leaves }),
+        )
+    given_end exit (inr lost) =
+        inl (
+          r,
+          is.answers,
+          inr (record { status = lost.0; failed = lost.1; files = is.leaves }),
+        )
+
+    given_meaning : (exit : ℕ) → Put exit → Meaning exit
+    given_meaning exit put = by command is.means put
       where
-        by : (o : Option Command) → HasMeaning o store.old store.new (shown reply)
-            → Puts (shown reply) sink exit
+        by : (o : Option Command)
+            → IfSome o (λ c. Means c store.old store.new r.status r.text) → Put exit
             → IfSome o (λ c. exit ≢ 3 → MeansIn c store sink exit)
         by None m put = tt
         by (Some c) m (inl whole) = λ differs. (
-          reply.text,
+          r.text,
           whole.1,
-          subst (λ (n : ℕ). Changes (λ files after. Means c files after n (shown reply).text)
-              store.old store.new) (sym whole.0) m,
+          subst (λ (n : ℕ). Means c store.old store.new n r.text) (sym whole.0) m,
         )
         by (Some c) m (inr lost) = λ differs. absurd (differs lost.0)
 
-    given_unread : command ≡ None → (exit : ℕ) → Puts (shown reply) sink exit → Unread exit
-    given_unread none exit (inl whole) =
-        let same = subst (λ (o : Option Command). Answers store.old o (shown reply)) none h.answers in
-        inl (whole.0 ∙ ap (λ (r : Reply). r.status) same)
-    given_unread none exit (inr lost) = inr lost.1
-
-    pub does_given : Does command store sink (result_ok result)
-    does_given =
-        does (result_ok result)
-        (some_of result (Ends command store sink)
-        (ends_said command (shown reply) store sink result h.answers h.files puts))
-        (stays_said command (shown reply) store sink h.answers h.files front)
-        (some_of result Meaning
-        (IfOk-weaker result (Puts (shown reply) sink) Meaning given_meaning puts))
-        (λ none. (
-          (h.unread none).0,
-          some_of result Unread
-              (IfOk-weaker result (Puts (shown reply) sink) Unread (given_unread none) puts),
-        ))
+    pub did_given : Did command store sink (result_ok result)
+    did_given = record {
+      ended = some_of result (Ends command store sink)
+          (IfOk-weaker result Put (Ends command store sink) given_end puts.whole);
+      kept =
+          inr (
+            r,
+            is.answers,
+            record {
+              text = inl puts.front;
+              files = in_part r.file store.old store.new is.leaves;
+            },
+          );
+      means = some_of result Meaning (IfOk-weaker result Put Meaning given_meaning puts.whole);
+    }
 
   -- the store failed, or memory is wanted
   module _ (fault : IoFault) (result : Result ℕ AllocError)
-      (h : IsAnswered command store (Err fault))
-      (puts : IfOk result (λ exit. (fault ≡ Failed) × Puts store_failed sink exit))
-      (front : (sink.new ≡ sink.old)
-      ⊎ ((fault ≡ Failed) × IsAppendedInPart store_failed.text sink.old sink.new)) where
-    abbrev Says : ℕ → Type 0
-    Says exit = (fault ≡ Failed) × Puts store_failed sink exit
-
-    failed : fault ≡ Failed → HasFailed store
-    failed is = h.fault (ap Err is)
-
-    three : (exit : ℕ) → Puts store_failed sink exit → exit ≡ 3
-    three exit (inl whole) = whole.0
-    three exit (inr lost) = lost.0
-
-    failed_meaning : (exit : ℕ) → Says exit → Meaning exit
-    failed_meaning exit said = by command
+      (writing : Writing command store.old store.new) (failed : fault ≡ Failed → store.failed)
+      (exits : IfOk result (λ exit. (fault ≡ Failed) × (exit ≡ 3)))
+      (puts : PutsFault fault sink.failed result sink.old sink.new) where
+    failed_kept : Stays command store sink
+    failed_kept = elim puts.front [
+      | inl unput ↦
+          elim writing [
+            | inl same ↦ inl (record { text = inl unput; files = same })
+            | inr part ↦
+                inr (
+                  part.0,
+                  part.1,
+                  record { text = inl (0, nothing unput); files = part.2 },
+                )
+          ]
+      | inr said ↦
+          elim writing [
+            | inl same ↦ inl (record { text = inr (failed said.0, said.1); files = same })
+            | inr part ↦
+                inr (
+                  part.0,
+                  part.1,
+                  record { text = inr (failed said.0, said.1); files = part.2 },
+                )
+          ]
+    ]
       where
-        by : (o : Option Command) → IfSome o (λ c. exit ≢ 3 → MeansIn c store sink exit)
-        by None = tt
-        by (Some c) = λ differs. absurd (differs (three exit said.1))
+        nothing : sink.new ≡ sink.old → sink.new ≡ sink.old ++ []
+        nothing same = same ∙ sym (append-nil sink.old)
 
-    pub does_failed : Does command store sink (result_ok result)
-    does_failed =
-        does (result_ok result)
-        (some_of result (Ends command store sink)
-        (ends_failed command store sink fault result failed puts))
-        (stays_failed command store sink fault h.kept failed front)
-        (some_of result Meaning (IfOk-weaker result Says Meaning failed_meaning puts))
-        (λ none. (
-          (h.unread none).0,
-          some_of result Unread (IfOk-weaker result Says Unread
-              (λ exit said. absurd ((h.unread none).1 (ap Err said.0))) puts),
-        ))
+    pub did_failed : Did command store sink (result_ok result)
+    did_failed = by result exits puts.whole
+      where
+        by : (x : Result ℕ AllocError) → IfOk x (λ exit. (fault ≡ Failed) × (exit ≡ 3))
+            → IfOk x (λ exit. (sink.new ≡ sink.old ++ store_failed.text) ⊎ sink.failed)
+            → Did command store sink (result_ok x)
+        by (Err e) out put = record { ended = tt; kept = failed_kept; means = tt }
+        by (Ok exit) out put = record {
+          ended = inr (record { status = out.1; failed = failed out.0; text = put });
+          kept = failed_kept;
+          means = meaning command;
+        }
+          where
+            meaning : (o : Option Command)
+                → IfSome o (λ c. exit ≢ 3 → MeansIn c store sink exit)
+            meaning None = tt
+            meaning (Some c) = λ differs. absurd (differs out.1)
+
+module _ (command : Option Command) (store : Device Contents) (sink : Device (List ℕ)) where
+  -- nothing was asked, written or put
+  pub does_nothing : OfAll store.new store.old
+      → ((text : List ℕ) → sink.new text → sink.old text) → IsUnasked store
+      → Does command store sink None
+  does_nothing still unput unasked = record {
+    does = λ after may text has. (
+      after,
+      still after may,
+      text,
+      unput text has,
+      did_nothing command (course store after after) (course sink text text) refl refl,
+    );
+    fault = tt;
+    unread = λ none. (unasked, tt);
+    only_unread = tt;
+  }
+
+  -- what is known of the status
+  module _ (result : Result ℕ AllocError) where
+    abbrev Unread : ℕ → Type 0
+    Unread exit = (exit ≡ 64) ⊎ HasFailed sink
+
+    abbrev Fault : ℕ → Type 0
+    Fault exit = exit ≡ 3 → HasFailed store ⊎ HasFailed sink
+
+    abbrev OnlyUnread : ℕ → Type 0
+    OnlyUnread exit = exit ≡ 64 → command ≡ None
+
+    given_fault : (r : Reply) → Fits command r → (exit : ℕ)
+        → Exits r.status (HasFailed sink) exit → Fault exit
+    given_fault r fits exit (inl whole) = λ three.
+        absurd (no_fault_status command r fits (sym whole ∙ three))
+    given_fault r fits exit (inr lost) = λ three. inr lost.1
+
+    given_only : (r : Reply) → Fits command r → (exit : ℕ)
+        → Exits r.status (HasFailed sink) exit → OnlyUnread exit
+    given_only r fits exit (inl whole) = λ is. usage_alone command r fits (sym whole ∙ is)
+    given_only r fits exit (inr lost) = λ is. absurd (omega (arith, lost.0, is))
+
+    given_unread : (r : Reply) → Fits command r → command ≡ None → (exit : ℕ)
+        → Exits r.status (HasFailed sink) exit → Unread exit
+    given_unread r fits none exit (inl whole) =
+        let usage = subst (λ (o : Option Command). Fits o r) none fits in
+        inl (whole ∙ ap (λ (x : Reply). x.status) usage)
+    given_unread r fits none exit (inr lost) = inr lost.1
+
+  -- the answer is put
+  pub does_answered : (answer : Result CodeReply IoFault) (result : Result ℕ AllocError)
+      → IsAnswered command store answer → IfOk result (ExitsBy answer (HasFailed sink))
+      → Becomes (PutsAnswer answer (HasFailed sink) result) sink.old sink.new
+      → Does command store sink (result_ok result)
+  does_answered (Ok reply) result h exits puts = record {
+    does = λ after may text has.
+        let a = h.replied after may in
+        let p = puts text has in (
+          a.0,
+          a.1,
+          p.0,
+          p.1,
+          did_given command (course store a.0 after) (course sink p.0 text) (shown reply) result
+              a.2 p.2,
+        );
+    fault = some_of result (Fault result)
+        (IfOk-weaker result (Exits (shown reply).status (HasFailed sink)) (Fault result)
+        (given_fault result (shown reply) h.fits) exits);
+    unread = λ none. (
+      (h.unread none).0,
+      some_of result (Unread result)
+          (IfOk-weaker result (Exits (shown reply).status (HasFailed sink)) (Unread result)
+          (given_unread result (shown reply) h.fits none) exits),
+    );
+    only_unread = some_of result (OnlyUnread result)
+        (IfOk-weaker result (Exits (shown reply).status (HasFailed sink)) (OnlyUnread result)
+        (given_only result (shown reply) h.fits) exits);
+  }
+  does_answered (Err fault) result h exits puts = record {
+    does = λ after may text has.
+        let k = h.kept after may in
+        let p = puts text has in (
+          k.0,
+          k.1,
+          p.0,
+          p.1,
+          did_failed command (course store k.0 after) (course sink p.0 text) fault result k.2
+              failed exits p.2,
+        );
+    fault = some_of result (Fault result)
+        (IfOk-weaker result (λ exit. (fault ≡ Failed) × (exit ≡ 3)) (Fault result)
+        (λ exit out three. inl (failed out.0)) exits);
+    unread = λ none. (
+      (h.unread none).0,
+      some_of result (Unread result)
+          (IfOk-weaker result (λ exit. (fault ≡ Failed) × (exit ≡ 3)) (Unread result)
+          (λ exit out. absurd ((h.unread none).1 (ap Err out.0))) exits),
+    );
+    only_unread = some_of result (OnlyUnread result)
+        (IfOk-weaker result (λ exit. (fault ≡ Failed) × (exit ≡ 3)) (OnlyUnread result)
+        (λ exit out is. absurd (omega (arith, out.1, is))) exits);
+  }
+    where
+      failed : fault ≡ Failed → HasFailed store
+      failed is = h.fault (ap Err is)
 
 -- what is done for one reading of the words is done for the other, where they are the same
-pub does_so : {a b : Option Command} → a ≡ b → (store : Course Contents) (sink : Course (List ℕ))
-    (status : Option ℕ) → Does a store sink status → Does b store sink status
+pub does_so : {a b : Option Command} → a ≡ b → (store : Device Contents)
+    (sink : Device (List ℕ)) (status : Option ℕ) → Does a store sink status
+    → Does b store sink status
 does_so same store sink status h =
     subst (λ (x : Option Command). Does x store sink status) same h
 
 -- ---- over memory where no call fails
 
-some_same : (a b : List ℕ) → Some a ≡ Some b → a ≡ b
-some_same a b e = cc
+unfailed : (before after : ℕ) → before ≡ 0 → after ≡ before → Rose before after → ⊥
+unfailed before after zero same rose = omega (arith, zero, same, rose)
 
-module _ (command : Option Command) (files after : Contents) (old new : List ℕ)
-    (faults faults_after losses losses_after : ℕ) (none : faults ≡ 0) (still : faults_after ≡ faults)
-    (no_more : losses ≡ 0) (same : losses_after ≡ losses) where
-  abbrev store : Course Contents
-  store = course (Some files) (Some after) faults faults_after
+module _ (command : Option Command) (store : Device Contents) (sink : Device (List ℕ))
+    (none : store.faults ≡ 0) (still : store.faults_after ≡ store.faults)
+    (no_more : sink.faults ≡ 0) (same : sink.faults_after ≡ sink.faults) where
+  store_well : ¬ HasFailed store
+  store_well rose = unfailed store.faults store.faults_after none still rose
 
-  abbrev sink : Course (List ℕ)
-  sink = course (Some old) (Some new) losses losses_after
+  sink_well : ¬ HasFailed sink
+  sink_well rose = unfailed sink.faults sink.faults_after no_more same rose
 
-  abbrev Replied : ℕ → Type 0
-  Replied exit = (text : List ℕ) × (new ≡ old ++ text) × IsReplied command files after exit text
-
-  not_three : (exit : ℕ) → Ends command store sink exit → exit ≢ 3
-  not_three exit end = never_three command store sink exit none still no_more same end
-
-  replied_so : (exit : ℕ) → Ends command store sink exit → Meaning command store sink exit
-      → Replied exit
-  replied_so exit end means =
-      let x = replied command store sink exit none still no_more same end in
-      let text = x.0.text in
-      let put : new ≡ old ++ text = some_same new (old ++ text) x.2.text in (
-        text,
-        put,
-        record {
-          reply = x.0;
-          answers = x.1;
-          status = x.2.status;
-          said = refl;
-          leaves = x.2.files;
-          means = by command means text put;
-        },
-      )
-    where
-      by : (o : Option Command) → IfSome o (λ c. exit ≢ 3 → MeansIn c store sink exit)
-          → (text : List ℕ) → new ≡ old ++ text → IfSome o (λ c. Means c files after exit text)
-      by None m text put = tt
-      by (Some c) m text put =
-          let said = m (not_three exit end) in
-          let one : said.0 ≡ text =
-          append_cancel_left old said.0 text (sym (some_same new (old ++ said.0) said.1) ∙ put) in
-          subst (λ (t : List ℕ). Means c files after exit t) one said.2
-
-  pub replies : (result : Result ℕ AllocError) → Does command store sink (result_ok result)
-      → IfOk result Replied
-  replies (Ok exit) h = replied_so exit h.ended h.means
-  replies (Err e) h = tt
+  not_three : (exit : ℕ) → (exit ≡ 3 → HasFailed store ⊎ HasFailed sink) → exit ≢ 3
+  not_three exit fault three = elim (fault three) [
+    | inl rose ↦ store_well rose
+    | inr rose ↦ sink_well rose
+  ]
 
   pub no_threes : (result : Result ℕ AllocError) → Does command store sink (result_ok result)
       → IfOk result (λ exit. exit ≢ 3)
-  no_threes (Ok exit) h = not_three exit h.ended
+  no_threes (Ok exit) h = not_three exit h.fault
   no_threes (Err e) h = tt
+
+  -- what it holds is one thing
+  module _ (after files : Contents) (now was : List ℕ) (held : store.new after)
+      (had : sink.new now) (one : (c : Contents) → store.old c → c ≡ files)
+      (only : (text : List ℕ) → sink.old text → text ≡ was) where
+    abbrev Replied : ℕ → Type 0
+    Replied exit = (text : List ℕ) × (now ≡ was ++ text) × IsReplied command files after exit text
+
+    replied_so : (exit : ℕ) → Does command store sink (Some exit) → Replied exit
+    replied_so exit h =
+        let d = h.does after held now had in
+        subst (λ (c : Contents). (text : List ℕ) × (now ≡ was ++ text)
+        × IsReplied command c after exit text) (one d.0 d.1)
+        (subst (λ (old : List ℕ). (text : List ℕ) × (now ≡ old ++ text)
+        × IsReplied command d.0 after exit text) (only d.2 d.3)
+        (by d.0 d.2 d.4.ended d.4.means))
+      where
+        by : (c : Contents) (old : List ℕ)
+            → Ends command (course store c after) (course sink old now) exit
+            → Meaning command (course store c after) (course sink old now) exit
+            → (text : List ℕ) × (now ≡ old ++ text) × IsReplied command c after exit text
+        by c old (inl (r, answers, inl given)) means = (
+          r.text,
+          given.text,
+          record {
+            reply = r;
+            answers = answers;
+            status = given.status;
+            said = refl;
+            leaves = given.files;
+            means = meant command means;
+          },
+        )
+          where
+            meant : (o : Option Command)
+                → IfSome o
+                (λ x. exit ≢ 3 → MeansIn x (course store c after) (course sink old now) exit)
+                → IfSome o (λ x. Means x c after exit r.text)
+            meant None m = tt
+            meant (Some x) m =
+                let said = m (not_three exit h.fault) in
+                let equal : said.0 ≡ r.text =
+                append_cancel_left old said.0 r.text (sym said.1 ∙ given.text) in
+                subst (λ (t : List ℕ). Means x c after exit t) equal said.2
+        by c old (inl (r, answers, inr lost)) means = absurd (sink_well lost.failed)
+        by c old (inr fault) means = absurd (store_well fault.failed)
+
+    pub replies : (result : Result ℕ AllocError) → Does command store sink (result_ok result)
+        → IfOk result Replied
+    replies (Ok exit) h = replied_so exit h
+    replies (Err e) h = tt

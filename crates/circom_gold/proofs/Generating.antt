@@ -1,19 +1,18 @@
 -- What `generate` finds, from what its source comes to.
-use Rattle.std.proofs.Common.{◌≡◌, ◌+◌, ◌<◌, ℕ, List, [], ◌∷◌, All, map, length, Option, None, Some}
-use Rattle.std.proofs.Common.{Result, Ok, Err, IfOk, refl, subst, arith}
+use Rattle.std.proofs.Common.{◌≡◌, ◌+◌, ◌<◌, ℕ, List, [], ◌∷◌, All, map}
+use Rattle.std.proofs.Common.{length}
+use Rattle.std.proofs.Common.{Result, Ok, Err, IfOk, ◌∙◌, ap, refl, subst, arith}
 use Rattle.std.proofs.lemmas.List.Elements.{All-nil, All-cons}
 use Rattle.std.specs.Prelude.{◌^◌, ⊤}
 use Rattle.gold_field.specs.declared.gold.TheConstants.{P}
-use Rattle.out_io.specs.Calls.{Told}
 use Rattle.out_io.specs.Contents.{Contents}
 use Rattle.out_io.specs.Faults.{Rose}
 use Rattle.out_io.specs.declared.fault.IoFault.{IoFault}
-use Rattle.out_io.proofs.Telling.{no_files}
 use Rattle.cir_simplify.specs.declared.types.Level.TheVariants.{O1}
 use Rattle.wit_run.specs.Task.{IsTask}
 use Rattle.circom_lines.specs.Generated.{generated_input, generated_text}
 use Rattle.circom_lines.specs.declared.answer.Refusal.{Refusal}
-use Rattle.circom_files.specs.Reply.{Reply, Says}
+use Rattle.circom_files.specs.Reply.{Says}
 use Rattle.circom_files.specs.Running.{generated}
 use Rattle.circom_files.specs.Shown.{shown}
 use Rattle.circom_files.specs.Stops.{EndsBy}
@@ -24,29 +23,30 @@ use Rattle.circom_files.specs.declared.stop.Stop.TheVariants.{Refused, StoreFail
 use Rattle.circom_gold.specs.Generate.{MakesGenerated, SourcesGenerated}
 use Rattle.circom_gold.specs.Source.{IsCoded, SourcesBy, program_of}
 use Rattle.circom_gold.specs.Witness.{Generates, IsGeneratedRun, generated_name, generated_options}
-use Rattle.circom_gold.specs.Witness.{one_file}
+use Rattle.circom_gold.specs.Witness.{generated_files, one_file}
 use Rattle.circom_gold.specs.declared.source.Coded.{Coded}
 use Rattle.circom_gold.proofs.Witnessing.{task_of_start}
 
 never_rose : Rose 0 0 → ⊥
 never_rose rose = omega (arith, rose)
 
--- over the store of the made source
-pub sources_made : (size : ℕ) (text : List ℕ) (result : Result Coded Stop)
-    → text ≡ generated_text size
-    → SourcesBy (Some (one_file text)) generated_name generated_options (Rose 0 0) result
+-- over the store of the made source, which holds what it held
+pub sources_made : (size : ℕ) (text : List ℕ) (now : Contents) (result : Result Coded Stop)
+    → now ≡ one_file text → text ≡ generated_text size
+    → SourcesBy (λ files. files ≡ now) generated_name generated_options (Rose 0 0) result
     → SourcesGenerated size result
-sources_made size text result same by =
+sources_made size text now result still same by =
     go result
     (subst
-    (λ (t : List ℕ).
-    SourcesBy (Some (one_file t)) generated_name generated_options (Rose 0 0) result) same by)
+    (λ (made : Contents).
+    SourcesBy (λ files. files ≡ made) generated_name generated_options (Rose 0 0) result)
+    (still ∙ ap one_file same) by)
   where
     go : (r : Result Coded Stop)
-        → SourcesBy (Some (one_file (generated_text size))) generated_name generated_options
+        → SourcesBy (λ files. files ≡ generated_files size) generated_name generated_options
         (Rose 0 0) r → SourcesGenerated size r
     go (Ok x) h = h
-    go (Err (Refused r)) h = h
+    go (Err (Refused r)) h = h (generated_files size) refl
     go (Err StoreFailed) h = absurd (never_rose h)
     go (Err OutOfMemory) h = tt
 
@@ -116,31 +116,15 @@ module _ (x : Coded) (coded : IsCoded O1 x) (seed : ℕ) (start : List ℕ)
   made_so size fuel found few knows runs = record {
     program = program_of x;
     file = x.file;
-    compiled = record { loaded = knows.told.loaded; written = coded.written };
+    compiled = record { loaded = (knows (generated_files size) refl).loaded; written = coded.written };
     run = runs (generated_input seed) made_task (small_input seed few);
   }
 
--- the reply is the same whatever a store holds
-module _ (contents : Option Contents) (seed size fuel : ℕ) where
-  abbrev Said : Reply → Type 0
-  Said r = Says contents (generated size) (λ files found. Generates seed size fuel found) r
-
-  told_of : (found : Result Generated Refusal) → Generates seed size fuel found
-      → Told contents (λ files. Generates seed size fuel found)
-  told_of found h = by contents
-    where
-      by : (o : Option Contents) → Told o (λ files. Generates seed size fuel found)
-      by None = (no_files, h)
-      by (Some files) = h
-
-  pub generate_said : (found : Generated) (r : Reply) → Generates seed size fuel (Ok found)
-      → r ≡ generated size found → Said r
-  generate_said found r h is = (Ok found, told_of (Ok found) h, is)
-
+module _ (seed size fuel : ℕ) where
   pub generate_stopped : (stop : Stop) (result : Result CodeReply IoFault)
       → MakesGenerated seed size fuel (Err stop) → EndsBy stop result
-      → IfOk result (λ r. Said (shown r))
-  generate_stopped (Refused refusal) (Ok r) h e = (Err refusal, told_of (Err refusal) h, e)
+      → IfOk result (λ r. Says (generated size) (λ found. Generates seed size fuel found) (shown r))
+  generate_stopped (Refused refusal) (Ok r) h e = (Err refusal, h, e)
   generate_stopped StoreFailed (Ok r) h e = absurd e
   generate_stopped OutOfMemory (Ok r) h e = absurd e
   generate_stopped stop (Err fault) h e = tt

@@ -10,7 +10,6 @@ pub mod WitnessLaws
 pub mod NoInput
 pub mod Sourcing
 pub mod Witnessing
-pub mod Saying
 pub mod Generating
 pub mod Doing
 pub mod Meanings

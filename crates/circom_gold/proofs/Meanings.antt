@@ -1,16 +1,14 @@
 -- What replies mean, command by command.
-use Rattle.std.proofs.Common.{◌≡◌, ◌≢◌, ◌∙◌, ◌↔◌, ℕ, Bool, true, false, List, length, slice_index}
-use Rattle.std.proofs.Common.{◌==◌, Option, Some, None, Result, Ok, Err, IfSome, IsSomeAnd, refl, ap}
+use Rattle.std.proofs.Common.{◌≡◌, ◌≢◌, ◌∙◌, ◌↔◌, ℕ, Bool, true, false}
+use Rattle.std.proofs.Common.{List, length, slice_index}
+use Rattle.std.proofs.Common.{◌==◌, Option, Some, None, Result, Ok, Err, IfSome, IsSomeAnd}
+use Rattle.std.proofs.Common.{refl, ap}
 use Rattle.std.proofs.Common.{sym, subst, arith, if◌then◌else◌}
 use Rattle.std.proofs.lemmas.Bool.Decides.{Decides-eqb}
 use Rattle.binary_format.specs.Reading.{◌>>=◌}
-use Rattle.out_io.proofs.Telling.{told_on}
-use Rattle.out_io.specs.Calls.{Told}
-use Rattle.out_io.specs.Contents.{Contents, Changes}
+use Rattle.out_io.specs.Contents.{Contents}
 use Rattle.iden_files.specs.File.{File}
-use Rattle.iden_files.specs.ReadR1cs.{r1cs_of}
 use Rattle.lig_layout.specs.Laws.{publics_of}
-use Rattle.lig_proof.specs.declared.verdict.Verdict.TheVariants.{Accepted}
 use Rattle.wit_input.specs.Publics.{publics_text}
 use Rattle.cir_determined.specs.declared.rule.Answer.{Answer}
 use Rattle.cir_determined.specs.declared.rule.Answer.TheVariants.{Shown, NotShown}
@@ -24,13 +22,12 @@ use Rattle.circom_lines.specs.declared.answer.Refusal.{Refusal}
 use Rattle.circom_lines.specs.declared.answer.Verdict.{Verdict}
 use Rattle.circom_lines.specs.declared.answer.Verdict.TheVariants.{CountsDiffer, WireZero}
 use Rattle.circom_lines.specs.declared.answer.Verdict.TheVariants.{ConstraintFails, Satisfied}
-use Rattle.circom_files.specs.Accepted.{IsAccepted}
 use Rattle.circom_files.specs.Check.{check_of, verdict}
 use Rattle.circom_files.specs.Determining.{AreCertificate, HasCertificate}
 use Rattle.circom_files.specs.Determining.{HoldsCertificate, IsConfirmed, IsSearched, claim_of}
-use Rattle.circom_files.specs.Files.{accepted, bytes_in, r1cs_in, wtns_in}
+use Rattle.circom_files.specs.Files.{r1cs_in}
 use Rattle.circom_files.specs.Given.{Leaves}
-use Rattle.circom_files.specs.Proving.{Audits, FoundIn, IsAudited, IsProved, public_of}
+use Rattle.circom_files.specs.Proving.{FoundIn, IsProved, public_of}
 use Rattle.circom_files.specs.Proving.{published_values, witness_of}
 use Rattle.circom_files.specs.Reply.{NewFile, Reply, checked, confirmed, determined, proved}
 use Rattle.circom_files.specs.Reply.{published, said}
@@ -47,9 +44,9 @@ use Rattle.circom_files.specs.declared.outcome.Ran.TheVariants.{Halted}
 use Rattle.circom_files.specs.declared.outcome.Witness.{Witness}
 use Rattle.circom_files.proofs.Accepts.{says_accepted}
 use Rattle.circom_files.proofs.CheckLaws.{satisfied}
+use Rattle.circom_files.proofs.Reading.{check_by, public_by}
 use Rattle.circom_files.proofs.Certified.{confirmed_is, one_confirm}
-use Rattle.circom_files.proofs.Once.{one_audit}
-use Rattle.circom_gold.specs.Answering.{Assures, HasMeaning}
+use Rattle.circom_gold.specs.Answering.{Assures}
 use Rattle.circom_gold.specs.Means.{ArePublicsOf, AreRead, Means}
 use Rattle.circom_gold.specs.Reply.{Answers}
 use Rattle.circom_gold.specs.Witness.{Generates, HasGenerated}
@@ -74,34 +71,6 @@ zero_satisfied Satisfied e = refl
 
 -- ---- constraints and values that are read
 
-module _ {C : Type 0} (name : List ℕ) (g : File → List ℕ → C) where
-  one_by_one : (file : Result File Refusal) (values : Result (List ℕ) Refusal) (bytes : List ℕ)
-      → (file >>= λ f. values >>= λ v. Ok (g f v))
-      ≡ ((file >>= λ f. values >>= λ v. Ok (record { bytes = bytes; file = f; values = v }))
-      >>= λ (w : Witness). Ok (g w.file w.values))
-  one_by_one (Err r) values bytes = refl
-  one_by_one (Ok f) (Err r) bytes = refl
-  one_by_one (Ok f) (Ok v) bytes = refl
-
-  both_read : (read values : Result (List ℕ) Refusal)
-      → ((read >>= λ bytes. accepted name (r1cs_of bytes)) >>= λ f. values >>= λ v. Ok (g f v))
-      ≡ ((read >>= λ bytes. accepted name (r1cs_of bytes) >>= λ f. values
-      >>= λ v. Ok (record { bytes = bytes; file = f; values = v }))
-      >>= λ (w : Witness). Ok (g w.file w.values))
-  both_read (Err r) values = refl
-  both_read (Ok bytes) values = one_by_one (accepted name (r1cs_of bytes)) values bytes
-
-check_by : (files : Contents) (r1cs wtns : List ℕ) → check_of files r1cs wtns
-    ≡ (witness_of files r1cs wtns >>= λ w. Ok (verdict w.file w.values))
-unfolding check_of r1cs_in witness_of
-check_by files r1cs wtns = both_read r1cs verdict (bytes_in files r1cs) (wtns_in files wtns)
-
-public_by : (files : Contents) (r1cs wtns : List ℕ) → public_of files r1cs wtns
-    ≡ (witness_of files r1cs wtns >>= λ w. Ok (published_values w.file w.values))
-unfolding public_of r1cs_in witness_of
-public_by files r1cs wtns =
-    both_read r1cs published_values (bytes_in files r1cs) (wtns_in files wtns)
-
 -- what is found in a witness that was read
 found_in : {C : Type 0} (read : Result Witness Refusal) (g : Witness → C) (c : C)
     → (read >>= λ w. Ok (g w)) ≡ Ok c → (w : Witness) × (read ≡ Ok w) × (g w ≡ c)
@@ -123,7 +92,7 @@ module _ (files : Contents) (r1cs wtns : List ℕ) where
       }
   checked_so (Err r) is zero = absurd (omega (arith, zero))
 
-  check_means : (r : Reply) → Answers (Some files) (Some (check r1cs wtns)) r
+  check_means : (r : Reply) → Answers files (Some (check r1cs wtns)) r
       → (r.status ≡ 0) ↔ AreRead Satisfies files r1cs wtns
   check_means r (found, is, e) = (
     λ zero. checked_so found is (sym (ap (λ (x : Reply). x.status) e) ∙ zero),
@@ -157,7 +126,7 @@ module _ (out : List ℕ) (options : ProveOptions) where
   made_so (Err r) found a is e s = let bad : ⊥ = cc in absurd bad
 
   prove_means : (files : Contents) (r1cs wtns : List ℕ) (r : Reply)
-      → Answers (Some files) (Some (prove r1cs wtns out options)) r
+      → Answers files (Some (prove r1cs wtns out options)) r
       → (r.status ≡ 0) ↔ AreRead Satisfies files r1cs wtns
   prove_means files r1cs wtns r (found, is, e) = (
     λ zero.
@@ -237,7 +206,7 @@ module _ (files : Contents) (r1cs wtns out : List ℕ) where
       (slice_index w.0.values 0 == 1) v w.2 (zero_satisfied v zero))
   public_so (Err r) is zero = absurd (omega (arith, zero))
 
-  module _ (r : Reply) (answers : Answers (Some files) (Some (public r1cs wtns out)) r) where
+  module _ (r : Reply) (answers : Answers files (Some (public r1cs wtns out)) r) where
     public_found : r.status ≡ 0 → Public answers.0
     public_found zero =
         public_so answers.0 answers.1 (sym (ap (λ (x : Reply). x.status) answers.2) ∙ zero)
@@ -262,41 +231,6 @@ module _ (files : Contents) (r1cs wtns out : List ℕ) where
         left_under (ArePublicsOf files r1cs wtns) out (publics_text values) r.file files after
         (ap (λ (x : Reply). x.file) (answers.2 ∙ ap (said (published out)) p.found_is)) leaves
         (record { witness = p.witness; read = p.read; text = refl })
-
--- ---- audit
-
-pub accepted_is : (files : Contents) (r1cs publics proof : List ℕ)
-    → IsAccepted files r1cs publics proof → Audits files r1cs publics proof (Ok Accepted)
-accepted_is files r1cs publics proof a =
-    subst (λ (x : Result _ Refusal). FoundIn IsAudited x (Ok Accepted)) (sym a.read) a.accepted
-
-pub audit_means : (contents : Option Contents) (r1cs publics proof : List ℕ) (r : Reply)
-    → Answers contents (Some (audit r1cs publics proof)) r
-    → Told contents (λ files. (r.status ≡ 0) ↔ IsAccepted files r1cs publics proof)
-audit_means contents r1cs publics proof r (Ok v, told, e) =
-    says_accepted contents r1cs publics proof v r
-    (told_on contents (λ files. Audits files r1cs publics proof (Ok v))
-    (λ files. Audits files r1cs publics proof (Ok v)
-    × (IsAccepted files r1cs publics proof → v ≡ Accepted))
-    (λ files is. (
-      is,
-      λ a.
-          let same = one_audit files r1cs publics proof (Ok v) (Ok Accepted) is
-          (accepted_is files r1cs publics proof a) in
-          cc,
-    )) told) e
-audit_means contents r1cs publics proof r (Err refusal, told, e) =
-    told_on contents (λ files. Audits files r1cs publics proof (Err refusal))
-    (λ files. (r.status ≡ 0) ↔ IsAccepted files r1cs publics proof)
-    (λ files is. (
-      λ zero.
-          let one : r.status ≡ 1 = ap (λ (x : Reply). x.status) e in
-          absurd (omega (arith, one, zero)),
-      λ a.
-          let same = one_audit files r1cs publics proof (Err refusal) (Ok Accepted) is
-          (accepted_is files r1cs publics proof a) in
-          let bad : ⊥ = cc in absurd bad,
-    )) told
 
 -- ---- generate
 
@@ -346,7 +280,7 @@ module _ (files : Contents) (r1cs : List ℕ) where
     shown_answer (Ok g) (Err r) f rules is e c = absurd is
     shown_answer (Err r) found f rules is e c = let bad : ⊥ = cc in absurd bad
 
-    determine_means : (r : Reply) → Answers (Some files) (Some (determine r1cs out)) r
+    determine_means : (r : Reply) → Answers files (Some (determine r1cs out)) r
         → (r.status ≡ 0) ↔ HasCertificate files r1cs
     determine_means r (found, is, e) = (
       λ zero.
@@ -368,7 +302,7 @@ module _ (files : Contents) (r1cs : List ℕ) where
     verdict_confirmed (Err r) (Ok v) is zero = absurd is
     verdict_confirmed (Err r) (Err s) is zero = absurd (omega (arith, zero))
 
-    confirm_means : (r : Reply) → Answers (Some files) (Some (confirm r1cs certificate)) r
+    confirm_means : (r : Reply) → Answers files (Some (confirm r1cs certificate)) r
         → (r.status ≡ 0) ↔ HoldsCertificate files r1cs certificate
     confirm_means r (found, is, e) = (
       λ zero.
@@ -383,8 +317,8 @@ module _ (files : Contents) (r1cs : List ℕ) where
 
 -- ---- every command
 
-means_of : (c : Command) (files after : Contents) (r : Reply) → Answers (Some files) (Some c) r
-    → Leaves r.file files after → Assures c (Some files) r → Means c files after r.status r.text
+means_of : (c : Command) (files after : Contents) (r : Reply) → Answers files (Some c) r
+    → Leaves r.file files after → Assures c files r → Means c files after r.status r.text
 means_of (check r1cs wtns) files after r answers leaves assured =
     check_means files r1cs wtns r answers
 means_of (compile source out options) files after r answers leaves assured = (
@@ -416,7 +350,7 @@ means_of (public r1cs wtns out) files after r answers leaves assured = (
   λ zero. public_left files r1cs wtns out r answers after leaves zero,
 )
 means_of (audit r1cs publics proof) files after r answers leaves assured =
-    audit_means (Some files) r1cs publics proof r answers
+    says_accepted files r1cs publics proof r answers
 means_of (determine r1cs out) files after r answers leaves assured = (
   determine_means files r1cs out r answers,
   λ zero.
@@ -431,11 +365,10 @@ means_of (generate seed size running) files after r answers leaves assured =
     generate_means seed size running.fuel r answers.0 answers.1 answers.2
 
 -- the reply whose file is written has the meaning of the command
-pub has_meaning : (command : Option Command) (old new : Option Contents) (r : Reply)
-    → Answers old command r → Changes (Leaves r.file) old new
-    → IfSome command (λ c. Assures c old r) → HasMeaning command old new r
-has_meaning None old new r answers leaves assured = tt
-has_meaning (Some c) None new r answers leaves assured = tt
-has_meaning (Some c) (Some files) None r answers leaves assured = absurd leaves
-has_meaning (Some c) (Some files) (Some after) r answers leaves assured =
+pub has_meaning : (command : Option Command) (files after : Contents) (r : Reply)
+    → Answers files command r → Leaves r.file files after
+    → IfSome command (λ c. Assures c files r)
+    → IfSome command (λ c. Means c files after r.status r.text)
+has_meaning None files after r answers leaves assured = tt
+has_meaning (Some c) files after r answers leaves assured =
     means_of c files after r answers leaves assured

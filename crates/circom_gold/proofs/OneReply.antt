@@ -1,5 +1,6 @@
 -- The files decide the reply.
-use Rattle.std.proofs.Common.{◌≡◌, ◌∙◌, ℕ, List, Option, Some, None, Result, ap, inl, inr, subst, sym}
+use Rattle.std.proofs.Common.{◌≡◌, ◌∙◌, ℕ, List, Option, Some, None, Result, ap, inl}
+use Rattle.std.proofs.Common.{inr, subst, sym}
 use Rattle.out_io.specs.Contents.{Contents}
 use Rattle.circom_words.specs.Words.{Command, check, compile, witness, prove, public, audit}
 use Rattle.circom_words.specs.Words.{confirm, determine, generate}
@@ -20,11 +21,10 @@ use Rattle.circom_gold.proofs.OneRun.{one_witness, one_generated}
 use Rattle.circom_gold.specs.Reply.{Answers, AreAlike, AreOne, constraints_written}
 
 -- what is said is one where what is found is one
-one_said : {X : Type 0} (files : Contents) (reply : X → Reply)
-    (Finds : Contents → Result X Refusal → Type 0) (a b : Reply)
-    → ((x y : Result X Refusal) → Finds files x → Finds files y → x ≡ y)
-    → Says (Some files) reply Finds a → Says (Some files) reply Finds b → a ≡ b
-one_said files reply Finds a b one p q =
+one_said : {X : Type 0} (reply : X → Reply) (Finds : Result X Refusal → Type 0) (a b : Reply)
+    → ((x y : Result X Refusal) → Finds x → Finds y → x ≡ y) → Says reply Finds a
+    → Says reply Finds b → a ≡ b
+one_said reply Finds a b one p q =
     p.2 ∙ ap (λ (x : Result _ Refusal). said reply x) (one p.0 q.0 p.1 q.1) ∙ sym q.2
 
 -- what `determine` finds is one but for the rules
@@ -57,32 +57,32 @@ module _ (files : Contents) (r1cs out : List ℕ) where
   ]
 
 pub one_reply : (files : Contents) (command : Option Command) (a b : Reply)
-    → Answers (Some files) command a → Answers (Some files) command b → AreOne command files a b
+    → Answers files command a → Answers files command b → AreOne command files a b
 one_reply files None a b p q = p ∙ sym q
 one_reply files (Some (check r1cs wtns)) a b p q =
-    one_said files checked (λ from found. check_of from r1cs wtns ≡ found) a b
+    one_said checked (λ found. check_of files r1cs wtns ≡ found) a b
     (λ x y e f. sym e ∙ f) p q
 one_reply files (Some (compile source out options)) a b p q =
-    one_said files (constraints_written out) (λ from found. CompilesTo from source options found) a b
+    one_said (constraints_written out) (λ found. CompilesTo files source options found) a b
     (one_compiled files source options) p q
 one_reply files (Some (witness source input out options running)) a b p q =
-    one_said files (witnessed out)
-    (λ from found. Witnesses from source input options running.fuel found) a b
+    one_said (witnessed out)
+    (λ found. Witnesses files source input options running.fuel found) a b
     (one_witness files source input options running.fuel) p q
 one_reply files (Some (generate seed size running)) a b p q =
-    one_said files (generated size) (λ from found. Generates seed size running.fuel found) a b
+    one_said (generated size) (λ found. Generates seed size running.fuel found) a b
     (one_generated seed size running.fuel) p q
 one_reply files (Some (prove r1cs wtns out options)) a b p q =
-    one_said files (proved out) (λ from found. Proves from r1cs wtns options found) a b
+    one_said (proved out) (λ found. Proves files r1cs wtns options found) a b
     (one_outcome files r1cs wtns options) p q
 one_reply files (Some (public r1cs wtns out)) a b p q =
-    one_said files (published out) (λ from found. public_of from r1cs wtns ≡ found) a b
+    one_said (published out) (λ found. public_of files r1cs wtns ≡ found) a b
     (λ x y e f. sym e ∙ f) p q
 one_reply files (Some (audit r1cs publics proof)) a b p q =
-    one_said files audited (λ from found. Audits from r1cs publics proof found) a b
+    one_said audited (λ found. Audits files r1cs publics proof found) a b
     (one_audit files r1cs publics proof) p q
 one_reply files (Some (determine r1cs out)) a b p q =
     alike files r1cs out a b p.0 q.0 p.1 q.1 p.2 q.2
 one_reply files (Some (confirm r1cs certificate)) a b p q =
-    one_said files confirmed (λ from found. Confirms from r1cs certificate found) a b
+    one_said confirmed (λ found. Confirms files r1cs certificate found) a b
     (one_confirm files r1cs certificate) p q

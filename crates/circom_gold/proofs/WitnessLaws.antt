@@ -1,5 +1,6 @@
 -- What the replies to `witness` mean.
-use Rattle.std.proofs.Common.{◌≡◌, ◌∙◌, ◌↔◌, ℕ, suc, ◌+◌, ◌<◌, ◌≤◌, List, [], ◌∷◌, All, length}
+use Rattle.std.proofs.Common.{◌≡◌, ◌∙◌, ◌↔◌, ℕ, suc, ◌+◌, ◌<◌}
+use Rattle.std.proofs.Common.{◌≤◌, List, [], ◌∷◌, All, length}
 use Rattle.std.proofs.Common.{slice_index, Option, Some, None, Result, Ok, Err, IsSomeAnd, refl}
 use Rattle.std.proofs.Common.{ap, sym, subst, arith}
 use Rattle.std.proofs.lemmas.List.Elements.{All-nil, All-cons}
@@ -45,8 +46,7 @@ use Rattle.circom_gold.proofs.OneRun.{one_witness, compiled_as}
 module _ (files : Contents) (source input out : List ℕ) (options : Options) (fuel : ℕ) where
   abbrev Answered : Reply → Type 0
   Answered r =
-      Says (Some files) (witnessed out)
-      (λ from found. Witnesses from source input options fuel found) r
+      Says (witnessed out) (λ found. Witnesses files source input options fuel found) r
 
   -- the status of a reply to what was found
   abbrev status_in : Result Ran Refusal → ℕ
@@ -87,7 +87,7 @@ all_small (x ∷ xs) h =
     All-cons (λ n. n < P) x xs (h 0) (all_small xs (λ k. h (suc k)))
 
 -- an input that is read
-accepted_is : (inputs : List InputShape) (r : Result (List ℕ) InputFault) (ns : List ℕ)
+pub accepted_is : (inputs : List InputShape) (r : Result (List ℕ) InputFault) (ns : List ℕ)
     → accepted_input inputs r ≡ Ok ns → r ≡ Ok ns
 accepted_is inputs (Ok ms) ns e = let same : ms ≡ ns = cc in ap Ok same
 accepted_is inputs (Err fault) ns e = cc
@@ -154,8 +154,8 @@ module _ (files : Contents) (source input out : List ℕ) (options : Options) (f
 
 -- the reply that says so writes them
 pub written_witness : (files : Contents) (source input out : List ℕ) (options : Options) (fuel : ℕ)
-    (r : Reply) → Says (Some files) (witnessed out)
-    (λ from found. Witnesses from source input options fuel found) r → r.status ≡ 0
+    (r : Reply) → Says (witnessed out)
+    (λ found. Witnesses files source input options fuel found) r → r.status ≡ 0
     → (bytes : List ℕ) × (r.file ≡ Some (record { name = out; bytes = bytes }))
     × IsWitnessOf files source input options fuel bytes
 written_witness files source input out options fuel r answered zero =

@@ -1,11 +1,10 @@
 -- The numbers that a run starts from fit the program, and its end is what a command finds.
-use Rattle.std.proofs.Common.{◌≡◌, ◌∙◌, ℕ, ◌∷◌, ◌+◌, List, [], length, Option, Some, None, Result}
+use Rattle.std.proofs.Common.{◌≡◌, ◌∙◌, ℕ, ◌∷◌, ◌+◌, List, [], length}
+use Rattle.std.proofs.Common.{Option, Some, None, Result}
 use Rattle.std.proofs.Common.{Ok, Err, Vec, sym, ap, subst, slice_get, inl, inr}
 use Rattle.std.specs.Prelude.{unwrap_or}
 use Rattle.std.specs.declared.alloc.Global.{Global}
-use Rattle.out_io.specs.Calls.{Told}
 use Rattle.out_io.specs.Contents.{Contents}
-use Rattle.out_io.proofs.Telling.{told_on}
 use Rattle.iden_files.specs.File.{File}
 use Rattle.cir_ast.specs.Program.{Program}
 use Rattle.cir_meaning.specs.Compile.{Circuit, compiled, shown}
@@ -13,6 +12,7 @@ use Rattle.cir_meaning.specs.Run.{Stopped}
 use Rattle.cir_meaning.specs.RunBodies.{ran}
 use Rattle.cir_meaning.specs.Tried.{Tried, Where}
 use Rattle.cir_compile.specs.Compiled.{IsWritten}
+use Rattle.cir_names.specs.Loading.{IsLoaded}
 use Rattle.cir_simplify.specs.declared.types.Level.{Level}
 use Rattle.wit_circuit.specs.Whole.{place_of as step_place}
 use Rattle.wit_circuit.specs.declared.code.StepPlace.{StepPlace}
@@ -27,6 +27,8 @@ use Rattle.wit_run.specs.declared.ending.RunEnd.TheVariants as end
 use Rattle.circom_words.specs.Words.{Options}
 use Rattle.circom_lines.specs.declared.answer.Refusal.{Refusal}
 use Rattle.circom_files.specs.Files.{bytes_in}
+use Rattle.circom_files.specs.Held.{OfAll}
+use Rattle.circom_files.specs.Running.{input_in}
 use Rattle.circom_files.specs.Satisfaction.{Satisfies}
 use Rattle.circom_files.specs.Steps.{StepsTo}
 use Rattle.circom_files.specs.declared.outcome.Halt.{Halt}
@@ -36,9 +38,8 @@ use Rattle.circom_files.specs.declared.outcome.Generated.{Generated}
 use Rattle.circom_files.specs.declared.outcome.Generated.TheVariants as made
 use Rattle.circom_files.specs.declared.stop.Stop.{Stop}
 use Rattle.circom_files.specs.declared.stop.Stop.TheVariants.{Refused, StoreFailed, OutOfMemory}
-use Rattle.circom_gold.specs.Compile.{CompilesTo}
 use Rattle.circom_gold.specs.Running.{EndsIn, GeneratesIn, IsHaltAt, shown_place}
-use Rattle.circom_gold.specs.Source.{Given, IsCoded, KnowsSource, program_of}
+use Rattle.circom_gold.specs.Source.{AreInputs, IsCoded, IsLoadedFrom, LoadedFrom, program_of}
 use Rattle.circom_gold.specs.Witness.{GivesInput, HaltsBy, HasInputs, IsGeneratedRun, IsRunOf}
 use Rattle.circom_gold.specs.Witness.{IsInputRefused, IsWitnessed, RunsTo, Witnesses}
 use Rattle.circom_gold.specs.Witness.{values_by_wire}
@@ -49,12 +50,6 @@ use Rattle.circom_gold.proofs.WitnessLaws.{input_read, many}
 shown_ok : (p : Program) (r : Tried Circuit) (m : Circuit) → shown p r ≡ Ok m → r ≡ Ok m
 shown_ok p (Ok c) m e = let same : c ≡ m = cc in ap Ok same
 shown_ok p (Err r) m e = cc
-
--- something that is told holds of some contents
-pub told_some : (contents : Option Contents) (P : Contents → Type 0) → Told contents P
-    → (files : Contents) × P files
-told_some None P told = told
-told_some (Some files) P told = (files, told)
 
 module _ (level : Level) (x : Coded) (coded : IsCoded level x) where
   abbrev p : Program
@@ -83,38 +78,36 @@ module _ (level : Level) (x : Coded) (coded : IsCoded level x) where
   }
 
   -- an input that is read
-  module _ (files : Contents) (source : List ℕ) (options : Options) (name start : List ℕ)
-      (given : Given files source options x name (Ok start)) where
+  module _ (files : Contents) (name start : List ℕ)
+      (read : input_in files name x.circuit.signals.inputs ≡ Ok start) where
     pub first : (ms : List ℕ) × (start ≡ 1 ∷ ms)
     first =
         let bytes : (bytes : List ℕ) × (input_of bytes x.circuit.signals.inputs ≡ Ok start) =
         input_read x.circuit.signals.inputs (bytes_in files name) start
-        (sym (input_is files name x.circuit.signals.inputs) ∙ given.1) in
+        (sym (input_is files name x.circuit.signals.inputs) ∙ read) in
         input_first bytes.0 x.circuit.signals.inputs start bytes.1
 
     pub gives : GivesInput files name p (Ok (1 ∷ first.0))
     gives = record {
       inputs = x.circuit.signals.inputs;
       has = has_inputs;
-      reads = given.1 ∙ ap Ok first.1;
+      reads = read ∙ ap Ok first.1;
     }
 
-    task_of_first : IsTask p x.code start first.0
+    pub task_of_first : IsTask p x.code start first.0
     unfolding gives has_inputs
     task_of_first =
         task_of_start start first.0 first.1 (many files name p coded.resolved first.0 gives)
 
-    pub task : (inputs : List ℕ) × IsTask p x.code start inputs
-    task = (first.0, task_of_first)
-
-    pub witnessed_by : (fuel : ℕ) (r : Ran) → options.level ≡ level
+    pub witnessed_by : (source : List ℕ) (options : Options) (fuel : ℕ) (r : Ran)
+        → options.level ≡ level → IsLoaded files source options.folder p
         → ((inputs : List ℕ) → IsTask p x.code start inputs → IsRunOf p x.file fuel inputs r)
         → IsWitnessed files source name options fuel r
-    witnessed_by fuel r same runs = record {
+    witnessed_by source options fuel r same loaded runs = record {
       program = p;
       file = x.file;
       compiled = record {
-        loaded = given.0;
+        loaded = loaded;
         written = subst (λ (l : Level). IsWritten p l x.file) (sym same) coded.written;
       };
       inputs = first.0;
@@ -122,18 +115,27 @@ module _ (level : Level) (x : Coded) (coded : IsCoded level x) where
       run = runs first.0 task_of_first;
     }
 
+  -- the numbers that some bytes give are a task
+  pub task : (start : List ℕ) → AreInputs x start
+      → (inputs : List ℕ) × IsTask p x.code start inputs
+  task start (bytes, is) =
+      let files : Contents = λ name. Some bytes in
+      let read : input_in files [] x.circuit.signals.inputs ≡ Ok start =
+      input_is files [] x.circuit.signals.inputs ∙ is in
+      ((first files [] start read).0, task_of_first files [] start read)
+
   pub refused_by : (files : Contents) (source : List ℕ) (options : Options) (name : List ℕ)
-      (refusal : Refusal) → options.level ≡ level
-      → Given files source options x name (Err refusal)
+      (refusal : Refusal) → options.level ≡ level → IsLoaded files source options.folder p
+      → input_in files name x.circuit.signals.inputs ≡ Err refusal
       → IsInputRefused files source name options refusal
-  refused_by files source options name refusal same given = record {
+  refused_by files source options name refusal same loaded read = record {
     program = p;
     file = x.file;
     compiled = record {
-      loaded = given.0;
+      loaded = loaded;
       written = subst (λ (l : Level). IsWritten p l x.file) (sym same) coded.written;
     };
-    given = record { inputs = x.circuit.signals.inputs; has = has_inputs; reads = given.1 };
+    given = record { inputs = x.circuit.signals.inputs; has = has_inputs; reads = read };
   }
 
   pub same_instances : (start inputs : List ℕ) (task : IsTask p x.code start inputs)
@@ -205,68 +207,40 @@ module _ (p : Program) (file : File) (fuel : ℕ) (inputs : List ℕ)
 
 -- ---- the steps of `witness`
 
-module _ (contents : Option Contents) (source name : List ℕ) (options : Options) (fuel : ℕ)
+module _ (held : Contents → Type 0) (source name : List ℕ) (options : Options) (fuel : ℕ)
     (failed : Type 0) where
   abbrev Finds : Contents → Result Ran Refusal → Type 0
   Finds files found = Witnesses files source name options fuel found
 
-  pub unsourced : (stop : Stop) → Compiling contents source options failed (Err stop)
-      → StepsTo (λ (r : Ran). r) contents Finds failed (Err stop)
-  unsourced (Refused r) step =
-      told_on contents (λ files. CompilesTo files source options (Err r))
-      (λ files. Finds files (Err r)) (λ files h. inl h) step
+  pub unsourced : (stop : Stop) → Compiling held source options failed (Err stop)
+      → StepsTo (λ (r : Ran). r) held Finds failed (Err stop)
+  unsourced (Refused r) step = λ files may. inl (step files may)
   unsourced StoreFailed step = step
   unsourced OutOfMemory step = tt
 
   module _ (level : Level) (x : Coded) (coded : IsCoded level x) (same : options.level ≡ level)
-    where
-      pub unstarted : (stop : Stop) → Starting contents source options x name failed (Err stop)
-          → StepsTo (λ (r : Ran). r) contents Finds failed (Err stop)
-      unstarted (Refused r) step =
-          told_on contents (λ files. Given files source options x name (Err r))
-          (λ files. Finds files (Err r))
-          (λ files h. inr (refused_by level x coded files source options name r same h)) step
-      unstarted StoreFailed step = step
-      unstarted OutOfMemory step = tt
+      (before : Contents → Type 0) (still : OfAll held before)
+      (loaded : IsLoadedFrom before source options x.loaded) where
+    -- the program is loaded from these contents still
+    known : OfAll held (LoadedFrom held source options x.loaded)
+    known = λ files may. (may, loaded files (still files may))
 
-      pub found : (v : Vec ℕ Global) (start : List ℕ) (r : Ran) → start ≡ v.items
-          → Starting contents source options x name failed (Ok v)
-          → ((inputs : List ℕ) → IsTask (program_of x) x.code start inputs
-          → IsRunOf (program_of x) x.file fuel inputs r)
-          → Told contents (λ files. Finds files (Ok r))
-      found v start r is step runs =
-          told_on contents (λ files. Given files source options x name (Ok v.items))
-          (λ files. Finds files (Ok r))
-          (λ files h.
-          witnessed_by level x coded files source options name start
-          (subst (λ (l : List ℕ). Given files source options x name (Ok l)) (sym is) h) fuel r same
-          runs) step
+    pub unstarted : (fails : Type 0) (stop : Stop) → (fails → failed)
+        → Starting (LoadedFrom held source options x.loaded) x name fails (Err stop)
+        → StepsTo (λ (r : Ran). r) held Finds failed (Err stop)
+    unstarted fails (Refused r) rose step = λ files may.
+        let k = known files may in
+        inr (refused_by level x coded files source options name r same k.1.loaded (step files k))
+    unstarted fails StoreFailed rose step = rose step
+    unstarted fails OutOfMemory rose step = tt
 
-      pub task_told : (v : Vec ℕ Global) (start : List ℕ) → start ≡ v.items
-          → Starting contents source options x name failed (Ok v)
-          → (inputs : List ℕ) × IsTask (program_of x) x.code start inputs
-      task_told v start is step =
-          let some = told_some contents (λ files. Given files source options x name (Ok v.items))
-          step in
-          task level x coded some.0 source options name start
-          (subst (λ (l : List ℕ). Given some.0 source options x name (Ok l)) (sym is) some.1)
-
--- what was read as an input since the source was loaded
-pub started_later : (contents now : Option Contents) (source : List ℕ) (options : Options)
-    (x : Coded) (name : List ℕ) (failed fails : Type 0) (result : Result (Vec ℕ Global) Stop)
-    → now ≡ contents → (fails → failed) → KnowsSource contents source options x.loaded
-    → (KnowsSource now source options x.loaded
-    → Starting now source options x name fails result)
-    → Starting contents source options x name failed result
-started_later contents now source options x name failed fails result same rose knows step =
-    by result
-    (subst (λ (o : Option Contents). Starting o source options x name fails result) same
-    (step
-    (subst (λ (o : Option Contents). KnowsSource o source options x.loaded) (sym same) knows)))
-  where
-    by : (r : Result (Vec ℕ Global) Stop) → Starting contents source options x name fails r
-        → Starting contents source options x name failed r
-    by (Ok v) h = h
-    by (Err (Refused r)) h = h
-    by (Err StoreFailed) h = rose h
-    by (Err OutOfMemory) h = h
+    pub found : (v : Vec ℕ Global) (start : List ℕ) (r : Ran) → start ≡ v.items
+        → OfAll (LoadedFrom held source options x.loaded)
+        (λ files. input_in files name x.circuit.signals.inputs ≡ Ok v.items)
+        → ((inputs : List ℕ) → IsTask (program_of x) x.code start inputs
+        → IsRunOf (program_of x) x.file fuel inputs r)
+        → OfAll held (λ files. Finds files (Ok r))
+    found v start r is step runs = λ files may.
+        let k = known files may in
+        witnessed_by level x coded files name start (step files k ∙ ap Ok (sym is)) source options
+        fuel r same k.1.loaded runs

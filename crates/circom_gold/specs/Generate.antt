@@ -1,10 +1,10 @@
 -- What `generate` finds, step by step.
-use Rattle.std.specs.Prelude.{ℕ, Some, Result, Ok, Err, ⊤}
+use Rattle.std.specs.Prelude.{◌≡◌, ℕ, Result, Ok, Err, ⊤}
 use Rattle.circom_files.specs.declared.outcome.Generated.{Generated}
 use Rattle.circom_files.specs.declared.stop.Stop.{Stop}
 use Rattle.circom_files.specs.declared.stop.Stop.TheVariants.{Refused, StoreFailed, OutOfMemory}
 use Rattle.circom_gold.specs.Compile.{CompilesTo}
-use Rattle.circom_gold.specs.Source.{KnowsSource}
+use Rattle.circom_gold.specs.Source.{IsLoadedFrom}
 use Rattle.circom_gold.specs.Witness.{Generates, generated_files, generated_name}
 use Rattle.circom_gold.specs.Witness.{generated_options}
 use Rattle.circom_gold.specs.declared.source.Coded.{Coded}
@@ -19,7 +19,7 @@ MakesGenerated seed size fuel (Err OutOfMemory) = ⊤
 -- what the made source comes to, or why it doesn't compile
 abbrev pub SourcesGenerated : (size : ℕ) → Result Coded Stop → Type 0
 SourcesGenerated size (Ok x) =
-    KnowsSource (Some (generated_files size)) generated_name generated_options x.loaded
+    IsLoadedFrom (λ files. files ≡ generated_files size) generated_name generated_options x.loaded
 SourcesGenerated size (Err (Refused r)) =
     CompilesTo (generated_files size) generated_name generated_options (Err r)
 SourcesGenerated size (Err StoreFailed) = ⊥

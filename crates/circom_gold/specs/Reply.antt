@@ -19,28 +19,26 @@ use Rattle.circom_gold.specs.Witness.{Witnesses, Generates}
 abbrev pub constraints_written : List ℕ → File → Reply
 constraints_written out f = written (compiled_line f.wires (length f.constraints)) out (r1cs_bytes f)
 
--- the reply answers the command, over the contents of the store, where it tells them
-abbrev pub Answers : Option Contents → Option Command → Reply → Type 0
-Answers contents None = λ r. r ≡ usage
-Answers contents (Some (check r1cs wtns)) =
-    Says contents checked (λ files found. check_of files r1cs wtns ≡ found)
-Answers contents (Some (compile source out options)) =
-    Says contents (constraints_written out) (λ files found. CompilesTo files source options found)
-Answers contents (Some (witness source input out options running)) =
-    Says contents (witnessed out)
-    (λ files found. Witnesses files source input options running.fuel found)
-Answers contents (Some (prove r1cs wtns out options)) =
-    Says contents (proved out) (λ files found. Proves files r1cs wtns options found)
-Answers contents (Some (public r1cs wtns out)) =
-    Says contents (published out) (λ files found. public_of files r1cs wtns ≡ found)
-Answers contents (Some (audit r1cs publics proof)) =
-    Says contents audited (λ files found. Audits files r1cs publics proof found)
-Answers contents (Some (determine r1cs out)) =
-    Says contents (determined out) (λ files found. Searches files r1cs found)
-Answers contents (Some (confirm r1cs certificate)) =
-    Says contents confirmed (λ files found. Confirms files r1cs certificate found)
-Answers contents (Some (generate seed size running)) =
-    Says contents (generated size) (λ files found. Generates seed size running.fuel found)
+-- the reply answers the command over these files
+abbrev pub Answers : Contents → Option Command → Reply → Type 0
+Answers files None = λ r. r ≡ usage
+Answers files (Some (check r1cs wtns)) = Says checked (λ found. check_of files r1cs wtns ≡ found)
+Answers files (Some (compile source out options)) =
+    Says (constraints_written out) (λ found. CompilesTo files source options found)
+Answers files (Some (witness source input out options running)) =
+    Says (witnessed out) (λ found. Witnesses files source input options running.fuel found)
+Answers files (Some (prove r1cs wtns out options)) =
+    Says (proved out) (λ found. Proves files r1cs wtns options found)
+Answers files (Some (public r1cs wtns out)) =
+    Says (published out) (λ found. public_of files r1cs wtns ≡ found)
+Answers files (Some (audit r1cs publics proof)) =
+    Says audited (λ found. Audits files r1cs publics proof found)
+Answers files (Some (determine r1cs out)) =
+    Says (determined out) (λ found. Searches files r1cs found)
+Answers files (Some (confirm r1cs certificate)) =
+    Says confirmed (λ found. Confirms files r1cs certificate found)
+Answers files (Some (generate seed size running)) =
+    Says (generated size) (λ found. Generates seed size running.fuel found)
 
 -- two replies to `determine` are the same but for which rules they write, if they write some
 pub record AreAlike (files : Contents) (r1cs out : List ℕ) (a b : Reply) : Type 0 where

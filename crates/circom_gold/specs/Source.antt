@@ -1,6 +1,5 @@
 -- What a source comes to before it is run, step by step.
-use Rattle.std.specs.Prelude.{◌≡◌, ℕ, List, Option, Result, Ok, Err, ⊤}
-use Rattle.out_io.specs.Calls.{Told}
+use Rattle.std.specs.Prelude.{◌≡◌, ℕ, List, Some, Result, Ok, Err, ⊤}
 use Rattle.out_io.specs.Contents.{Contents}
 use Rattle.iden_files.specs.File.{File, InLimits}
 use Rattle.cir_ast.specs.Program.{Program, bare_program}
@@ -10,15 +9,16 @@ use Rattle.cir_compile.specs.declared.fault.CompileFault.TheVariants as fault
 use Rattle.cir_inst.specs.Compiled.{Instantiates, IsWithinLimits}
 use Rattle.cir_meaning.specs.Scoped.{IsResolved}
 use Rattle.cir_names.specs.declared.loading.Loaded.{Loaded}
-use Rattle.cir_names.specs.Loading.{IsLoaded}
-use Rattle.cir_names.specs.Resting.{IsLoadedWithout, RestsOn}
+use Rattle.cir_names.specs.Resting.{IsLoadedWithout}
 use Rattle.cir_simplify.specs.declared.types.Level.{Level}
 use Rattle.cir_steps.specs.Places.{ArePlacesMeant}
 use Rattle.wit_circuit.specs.Whole.{IsCircuitOf}
 use Rattle.circom_words.specs.Words.{Options}
 use Rattle.circom_lines.specs.declared.answer.Refusal.{Refusal}
 use Rattle.circom_lines.specs.declared.answer.Refusal.TheVariants.{NoSuchFile, BadSource}
-use Rattle.circom_files.specs.Running.{input_in}
+use Rattle.wit_input.specs.Input.{input_of}
+use Rattle.circom_files.specs.Held.{OfAll}
+use Rattle.circom_files.specs.Running.{accepted_input}
 use Rattle.circom_files.specs.Steps.{StepsTo}
 use Rattle.circom_files.specs.declared.stop.Stop.{Stop}
 use Rattle.circom_files.specs.declared.stop.Stop.TheVariants.{Refused, StoreFailed, OutOfMemory}
@@ -44,25 +44,36 @@ abbrev pub Codes : Loaded → Level → Result Coded CompileFault → Type 0
 Codes loaded level (Ok x) = x.loaded ≡ loaded
 Codes loaded level (Err e) = Writes (bare_program loaded.program) level (Err e)
 
--- the program is that of the source, and it is known what it rests on
-pub record KnowsSource (contents : Option Contents) (source : List ℕ) (options : Options)
-    (loaded : Loaded) : Type 0 where
-  pub told : Told contents (λ files. IsLoadedWithout files source options.folder loaded.missing
-      (bare_program loaded.program))
-  pub rests : RestsOn source options.folder loaded.missing (bare_program loaded.program)
+-- these contents may be there, and the program is loaded from them, with these names missing
+abbrev pub LoadedFrom : (Contents → Type 0) → List ℕ → Options → Loaded → Contents → Type 0
+LoadedFrom held source options loaded files = held files
+    × IsLoadedWithout files source options.folder loaded.missing (bare_program loaded.program)
+
+-- the program is loaded from all contents that there may be
+abbrev pub IsLoadedFrom : (Contents → Type 0) → List ℕ → Options → Loaded → Type 0
+IsLoadedFrom held source options loaded =
+    OfAll held (λ files. IsLoadedWithout files source options.folder loaded.missing
+    (bare_program loaded.program))
+
+-- why a source doesn't compile; it fails only where the store did
+abbrev pub NotCompiled : (Contents → Type 0) → List ℕ → Options → (failed : Type 0) → CompileFault
+    → Type 0
+NotCompiled held source options failed fault.Fault = failed
+NotCompiled held source options failed e =
+    OfAll held (λ files. Compilation (Some files) (task_of source options) failed (Err e))
 
 -- what a source comes to, or why it doesn't compile
-abbrev pub Sources : Option Contents → List ℕ → Options → Type 0 → Result Coded CompileFault
-    → Type 0
-Sources contents source options failed (Ok x) = KnowsSource contents source options x.loaded
-Sources contents source options failed (Err e) =
-    Compilation contents (task_of source options) failed (Err e)
+abbrev pub Sources : (Contents → Type 0) → List ℕ → Options → (failed : Type 0)
+    → Result Coded CompileFault → Type 0
+Sources held source options failed (Ok x) = IsLoadedFrom held source options x.loaded
+Sources held source options failed (Err e) = NotCompiled held source options failed e
 
 -- the same of a command's step
-abbrev pub SourcesBy : Option Contents → List ℕ → Options → Type 0 → Result Coded Stop → Type 0
-SourcesBy contents source options failed (Ok x) = KnowsSource contents source options x.loaded
-SourcesBy contents source options failed (Err stop) =
-    StepsTo (λ (f : File). f) contents (λ files found. CompilesTo files source options found) failed
+abbrev pub SourcesBy : (Contents → Type 0) → List ℕ → Options → (failed : Type 0)
+    → Result Coded Stop → Type 0
+SourcesBy held source options failed (Ok x) = IsLoadedFrom held source options x.loaded
+SourcesBy held source options failed (Err stop) =
+    StepsTo (λ (f : File). f) held (λ files found. CompilesTo files source options found) failed
     (Err stop)
 
 -- a command ends so for this fault of the source under the name; memory may lack for the name
@@ -77,8 +88,7 @@ IsStopOf name (fault.Refused r) StoreFailed = ⊥
 IsStopOf name fault.OutOfMemory StoreFailed = ⊥
 IsStopOf name e OutOfMemory = ⊤
 
--- the source's program, and what is read under the name as its input
-abbrev pub Given : Contents → List ℕ → Options → Coded → List ℕ → Result (List ℕ) Refusal → Type 0
-Given files source options x input found =
-    IsLoaded files source options.folder (program_of x)
-    × (input_in files input x.circuit.signals.inputs ≡ found)
+-- some bytes give these numbers for main's inputs
+abbrev pub AreInputs : Coded → List ℕ → Type 0
+AreInputs x start = (bytes : List ℕ)
+    × (accepted_input x.circuit.signals.inputs (input_of bytes x.circuit.signals.inputs) ≡ Ok start)

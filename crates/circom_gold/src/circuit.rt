@@ -2,11 +2,13 @@
 
 ghost use Rattle.std.specs.Prelude.{◌≡◌, None, IfOk, IfSome, IsErrOf, true, option_map};
 ghost use Rattle.std.specs.Result.{result_ok};
-ghost use Rattle.out_io.specs.Calls.{Counting, OnlyReads, course};
+ghost use Rattle.out_io.specs.Calls.{Counting};
 ghost use Rattle.out_io.specs.Faults.{Rose};
 ghost use Rattle.out_io.specs.declared.fault.IoFault.TheVariants.{Failed};
+ghost use Rattle.circom_files.specs.Held.{OfAll, OnlyReads};
 ghost use Rattle.circom_files.specs.Shown.{shown};
-ghost use Rattle.circom_gold.specs.Answering.{IsAnswered};
+ghost use Rattle.circom_gold.specs.Answering.{Fits, IsAnswered};
+ghost use Rattle.circom_gold.specs.Course.{device};
 ghost use Rattle.circom_gold.specs.Reply.{Answers};
 ghost use Rattle.circom_gold.specs.Run.{Does};
 ghost use Rattle.circom_words.specs.Ranges.{AreInRange, HasRanges};
@@ -33,9 +35,10 @@ pub fn run_circuit<R: Threads + Wait + AllocGlobal + Sync, S: Store, K: Sink>(
 ) -> Result<u8, AllocError>
     requires { first_waits (texts words.now) ≡ true }
     ensures does { Does (command_of (texts words.now))
-        (course (S.contents store.old) (S.contents store.new)
-        (S.faults store.old) (S.faults store.new))
-        (course (K.contents out.old) (K.contents out.new) (K.faults out.old) (K.faults out.new))
+        (device (S.may_hold store.old) (S.may_hold store.new)
+        (S.calls store.old) (S.calls store.new) (S.faults store.old) (S.faults store.new))
+        (device (K.may_have out.old) (K.may_have out.new)
+        (K.calls out.old) (K.calls out.new) (K.faults out.old) (K.faults out.new))
         (result_ok result) }
     ensures store { Counting (S.faults store.old) (S.faults store.new)
         (S.never_fails store.old) (S.never_fails store.new) }
@@ -69,8 +72,9 @@ fn answered<'w, R: Threads + Wait + AllocGlobal + Sync, S: Store>(
 ) -> Result<Reply<'w>, IoFault>
     requires ranges { IfSome command HasRanges }
     ensures answered { IsAnswered (option_map meant_circuit command.entry)
-        (course (S.contents store.old) (S.contents store.new)
-        (S.faults store.old) (S.faults store.new)) result }
+        (device (S.may_hold store.old) (S.may_hold store.new)
+        (S.calls store.old) (S.calls store.new) (S.faults store.old) (S.faults store.new))
+        result }
     ensures counting { Counting (S.faults store.old) (S.faults store.new)
         (S.never_fails store.old) (S.never_fails store.new) }
 {
@@ -87,12 +91,14 @@ fn reply_to<'w, R: Threads + Wait + AllocGlobal + Sync, S: Store>(
     store: &mut S,
 ) -> Result<Reply<'w>, IoFault>
     requires ranges { IfSome command HasRanges }
-    ensures answers { IfOk result
-        (λ r. Answers (S.contents store.old) (option_map meant_circuit command.entry) (shown r)) }
+    ensures answers { IfOk result (λ r. OfAll (S.may_hold store.new)
+        (λ files. Answers files (option_map meant_circuit command.entry) (shown r))) }
+    ensures fits { IfOk result (λ r. Fits (option_map meant_circuit command.entry) (shown r)) }
     ensures unread { option_map meant_circuit command.entry ≡ None
-        → (S.faults store.new ≡ S.faults store.old) × ¬ IsErrOf result Failed }
+        → (S.calls store.new ≡ S.calls store.old) × (S.faults store.new ≡ S.faults store.old)
+        × ¬ IsErrOf result Failed }
     ensures fault { IsErrOf result Failed → Rose (S.faults store.old) (S.faults store.new) }
-    ensures store { OnlyReads (S.contents store.old) (S.contents store.new)
+    ensures store { OnlyReads (S.may_hold store.old) (S.may_hold store.new)
         (S.faults store.old) (S.faults store.new)
         (S.never_fails store.old) (S.never_fails store.new) }
 {

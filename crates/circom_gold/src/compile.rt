@@ -1,5 +1,4 @@
-ghost use Rattle.std.specs.Prelude.{◌≡◌, IfOk, IsErrOf, Ok};
-ghost use Rattle.out_io.specs.Calls.{OnlyReads, Told};
+ghost use Rattle.std.specs.Prelude.{◌≡◌, ◌<◌, IfOk, IsErrOf, Ok};
 ghost use Rattle.out_io.specs.Faults.{Rose};
 ghost use Rattle.out_io.specs.declared.fault.IoFault.TheVariants.{Failed};
 ghost use Rattle.iden_files.specs.File.{InLimits};
@@ -8,6 +7,7 @@ ghost use Rattle.iden_files.specs.Spelling.{r1cs_bytes};
 ghost use Rattle.circom_gold.specs.Answering.{WritesConstraintsOf};
 ghost use Rattle.circom_gold.specs.Compile.{CompilesTo};
 ghost use Rattle.circom_gold.specs.Reply.{constraints_written};
+ghost use Rattle.circom_files.specs.Held.{OfAll, OnlyReads};
 ghost use Rattle.circom_files.specs.Reply.{Says};
 ghost use Rattle.circom_files.specs.Shown.{shown};
 ghost use Rattle.circom_files.specs.Steps.{StepsTo};
@@ -31,13 +31,15 @@ pub fn compile_reply<'w, S: Store>(
     options: Options<'_>,
     store: &mut S,
 ) -> Result<Reply<'w>, IoFault>
-    ensures says { IfOk result (λ r. Says (S.contents store.old) (constraints_written out.entry.now)
-        (λ files found. CompilesTo files source.now (meant_options options.entry) found) (shown r)) }
-    ensures exactly { IfOk result (λ r. r.status ≡ 0 → Told (S.contents store.old)
-        (λ files. WritesConstraintsOf files source.now (meant_options options.entry)
+    ensures says { IfOk result (λ r. OfAll (S.may_hold store.new) (λ files.
+        Says (constraints_written out.entry.now)
+        (λ found. CompilesTo files source.now (meant_options options.entry) found) (shown r))) }
+    ensures exactly { IfOk result (λ r. OfAll (S.may_hold store.new) (λ files. r.status ≡ 0
+        → WritesConstraintsOf files source.now (meant_options options.entry)
         out.entry.now (shown r))) }
+    ensures status { IfOk result (λ r. r.status < 3) }
     ensures fault { IsErrOf result Failed → Rose (S.faults store.old) (S.faults store.new) }
-    ensures store { OnlyReads (S.contents store.old) (S.contents store.new)
+    ensures store { OnlyReads (S.may_hold store.old) (S.may_hold store.new)
         (S.faults store.old) (S.faults store.new)
         (S.never_fails store.old) (S.never_fails store.new) }
 {
@@ -54,11 +56,11 @@ fn file_in<S: Store>(
     name: &str,
     options: Options<'_>,
 ) -> Result<R1cs, Stop>
-    ensures step { StepsTo (λ f. f) (S.contents store.old)
+    ensures step { StepsTo (λ f. f) (S.may_hold store.new)
         (λ files found. CompilesTo files name.now (meant_options options.entry) found)
         (Rose (S.faults store.old) (S.faults store.new)) result }
     ensures limits { IfOk result InLimits }
-    ensures store { OnlyReads (S.contents store.old) (S.contents store.new)
+    ensures store { OnlyReads (S.may_hold store.old) (S.may_hold store.new)
         (S.faults store.old) (S.faults store.new)
         (S.never_fails store.old) (S.never_fails store.new) }
 {

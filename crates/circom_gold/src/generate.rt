@@ -1,6 +1,6 @@
-ghost use Rattle.std.specs.Prelude.{◌≡◌, ◌<◌, ◌≤◌, ℕ, All, List, Option, IfOk, IsErrOf, IsTrue};
+ghost use Rattle.std.specs.Prelude.{◌≡◌, ◌<◌, ◌≤◌, ℕ, All, List, IfOk, IsErrOf};
+ghost use Rattle.std.specs.Prelude.{IsTrue};
 ghost use Rattle.gold_field.specs.declared.gold.TheConstants.{P};
-ghost use Rattle.out_io.specs.Contents.{Contents};
 ghost use Rattle.out_io.specs.declared.fault.IoFault.TheVariants.{Failed};
 ghost use Rattle.wit_run.specs.Task.{IsTask};
 ghost use Rattle.circom_files.specs.Reply.{Says};
@@ -37,8 +37,9 @@ pub fn generate_reply<'w, R: Threads + Wait + AllocGlobal + Sync>(
 ) -> Result<Reply<'w>, IoFault>
     requires some { 1 ≤ running.workers }
     requires few { running.workers ≤ 64 }
-    ensures says { (contents : Option Contents) → IfOk result (λ r. Says contents (generated size)
-        (λ files found. Generates seed size running.fuel found) (shown r)) }
+    ensures says { IfOk result (λ r. Says (generated size)
+        (λ found. Generates seed size running.fuel found) (shown r)) }
+    ensures status { IfOk result (λ r. r.status < 3) }
     ensures no_fault { ¬ IsErrOf result Failed }
 {
     match generated_in(rt, alloc, seed, size, running) {

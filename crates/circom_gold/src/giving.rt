@@ -1,12 +1,10 @@
 //! What is done with the answer to a command.
 
-ghost use Rattle.std.specs.Prelude.{Option};
-ghost use Rattle.std.specs.Result.{result_ok};
-ghost use Rattle.out_io.specs.Calls.{Counting, Course, course};
-ghost use Rattle.out_io.specs.Contents.{Contents};
-ghost use Rattle.circom_gold.specs.Answering.{IsAnswered};
-ghost use Rattle.circom_gold.specs.Run.{Does};
-ghost use Rattle.circom_words.specs.Words.{Command};
+ghost use Rattle.std.specs.Prelude.{IfOk};
+ghost use Rattle.out_io.specs.Calls.{Counting};
+ghost use Rattle.out_io.specs.Faults.{Rose};
+ghost use Rattle.circom_files.specs.Held.{Becomes};
+ghost use Rattle.circom_gold.specs.Answering.{ExitsBy, PutsAnswer};
 
 use circom_files::{Reply, put_fault, put_text};
 use out_io::{IoFault, Sink};
@@ -18,10 +16,11 @@ pub fn give<K: Sink>(
     answer: Result<Reply<'_>, IoFault>,
     out: &mut K,
 ) -> Result<u8, AllocError>
-    ensures does { (command : Option Command) (store : Course Contents)
-        → IsAnswered command store answer.entry → Does command store
-        (course (K.contents out.old) (K.contents out.new) (K.faults out.old) (K.faults out.new))
-        (result_ok result) }
+    ensures exits { IfOk result
+        (ExitsBy answer.entry (Rose (K.faults out.old) (K.faults out.new))) }
+    ensures puts { Becomes
+        (PutsAnswer answer.entry (Rose (K.faults out.old) (K.faults out.new)) result)
+        (K.may_have out.old) (K.may_have out.new) }
     ensures sink { Counting (K.faults out.old) (K.faults out.new)
         (K.never_fails out.old) (K.never_fails out.new) }
 {

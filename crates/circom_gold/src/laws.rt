@@ -1,5 +1,5 @@
-ghost use Rattle.std.specs.Prelude.{◌≡◌, ◌≢◌, ◌↔◌, ℕ, List, Option, Some, Result, Ok, IsSomeAnd};
-ghost use Rattle.out_io.specs.Calls.{Told};
+ghost use Rattle.std.specs.Prelude.{◌≡◌, ◌≢◌, ◌↔◌, ℕ, List, Option, Some};
+ghost use Rattle.std.specs.Prelude.{Result, Ok, IsSomeAnd};
 ghost use Rattle.out_io.specs.Contents.{Contents};
 ghost use Rattle.iden_files.specs.File.{File};
 ghost use Rattle.cir_names.specs.Asking.{IsUnasked};
@@ -29,7 +29,7 @@ ghost use Rattle.circom_words.specs.declared.options.RunOptions.{RunOptions};
 /// that show it `determine` writes.
 pub fn one_reply()
     ensures { (files : Contents) (command : Option Command) (a b : Reply)
-        → Answers (Some files) command a → Answers (Some files) command b
+        → Answers files command a → Answers files command b
         → AreOne command files a b }
 {}
 
@@ -38,10 +38,10 @@ pub fn one_reply()
 pub fn compile_laws()
     ensures reply { (files : Contents) (source out : List ℕ) (options : Options) (r : Reply)
         (found : Result File Refusal)
-        → Answers (Some files) (Some (compile source out options)) r
+        → Answers files (Some (compile source out options)) r
         → CompilesTo files source options found → r ≡ said (constraints_written out) found }
     ensures status { (files : Contents) (source out : List ℕ) (options : Options) (r : Reply)
-        → Answers (Some files) (Some (compile source out options)) r
+        → Answers files (Some (compile source out options)) r
         → (r.status ≡ 0) ↔ ((f : File) × IsCompiled files (task_of source options) f) }
 {}
 
@@ -52,25 +52,24 @@ pub fn compile_laws()
 pub fn witness_laws()
     ensures status { (files : Contents) (source input out : List ℕ) (options : Options)
         (running : RunOptions) (r : Reply)
-        → Answers (Some files) (Some (witness source input out options running)) r
+        → Answers files (Some (witness source input out options running)) r
         → (r.status ≡ 0) ↔ HasWitness files source input options running.fuel }
     ensures written { (files : Contents) (source input out : List ℕ) (options : Options)
         (running : RunOptions) (r : Reply)
-        → Answers (Some files) (Some (witness source input out options running)) r
+        → Answers files (Some (witness source input out options running)) r
         → r.status ≡ 0 → IsSomeAnd r.file (λ file. (file.name ≡ out)
         × IsWitnessOf files source input options running.fuel file.bytes) }
     ensures halted { (files : Contents) (source input out : List ℕ) (options : Options)
         (running : RunOptions) (r : Reply) (h : Halt)
-        → Answers (Some files) (Some (witness source input out options running)) r
+        → Answers files (Some (witness source input out options running)) r
         → IsWitnessed files source input options running.fuel (Halted h) → r ≡ halted h }
 {}
 
-/// The status of a reply to `audit` is 0 exactly where the files hold what is accepted; where the
-/// store doesn't tell them, this is so of some files.
+/// The status of a reply to `audit` is 0 exactly where the files hold what is accepted.
 pub fn audit_laws()
-    ensures { (contents : Option Contents) (r1cs publics proof : List ℕ) (r : Reply)
-        → Answers contents (Some (audit r1cs publics proof)) r
-        → Told contents (λ files. (r.status ≡ 0) ↔ IsAccepted files r1cs publics proof) }
+    ensures { (files : Contents) (r1cs publics proof : List ℕ) (r : Reply)
+        → Answers files (Some (audit r1cs publics proof)) r
+        → (r.status ≡ 0) ↔ IsAccepted files r1cs publics proof }
 {}
 
 /// `check` of a file that `compile` writes and of one that `witness` writes, from the same source

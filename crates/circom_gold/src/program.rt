@@ -1,7 +1,9 @@
-ghost use Rattle.std.specs.Prelude.{◌≡◌, ◌≢◌, ◌↔◌, ◌++◌, ℕ, List, [], None, IfOk, true};
+ghost use Rattle.std.specs.Prelude.{◌≡◌, ◌≢◌, ◌↔◌, ◌++◌, ℕ, List, [], None};
+ghost use Rattle.std.specs.Prelude.{IfOk, true};
 ghost use Rattle.std.specs.Result.{result_ok};
-ghost use Rattle.out_io.specs.Calls.{Counting, course};
+ghost use Rattle.out_io.specs.Calls.{Counting};
 ghost use Rattle.out_io.specs.Memory.{files_of};
+ghost use Rattle.circom_gold.specs.Course.{device};
 ghost use Rattle.circom_gold.specs.Run.{Does, IsReplied, plain_status};
 ghost use Rattle.circom_words.specs.Words.{command_of, first_waits, texts};
 
@@ -31,9 +33,10 @@ pub fn run<R: Threads + Wait + AllocGlobal + Sync, S: Store, K: Sink>(
     out: &mut K,
 ) -> Result<u8, AllocError>
     ensures does { Does (command_of (texts words.now))
-        (course (S.contents store.old) (S.contents store.new)
-        (S.faults store.old) (S.faults store.new))
-        (course (K.contents out.old) (K.contents out.new) (K.faults out.old) (K.faults out.new))
+        (device (S.may_hold store.old) (S.may_hold store.new)
+        (S.calls store.old) (S.calls store.new) (S.faults store.old) (S.faults store.new))
+        (device (K.may_have out.old) (K.may_have out.new)
+        (K.calls out.old) (K.calls out.new) (K.faults out.old) (K.faults out.new))
         (result_ok result) }
 
     // The counts of faults never fall, and stand still in a store or a sink that never fails.
@@ -60,14 +63,14 @@ pub fn run_plain<R: Threads + AllocGlobal + Sync, S: Store, K: Sink>(
     ensures waits { IfOk result
         (λ o. (o ≡ None) ↔ (first_waits (texts words.now) ≡ true)) }
     ensures untouched { IfOk result (λ o. o ≡ None
-        → (S.contents store.new ≡ S.contents store.old) × (S.faults store.new ≡ S.faults store.old)
-        × (K.contents out.new ≡ K.contents out.old) × (K.faults out.new ≡ K.faults out.old)) }
+        → (store.new ≡ store.old) × (out.new ≡ out.old)) }
 
     // What holds of `run` holds of this part.
     ensures does { Does (command_of (texts words.now))
-        (course (S.contents store.old) (S.contents store.new)
-        (S.faults store.old) (S.faults store.new))
-        (course (K.contents out.old) (K.contents out.new) (K.faults out.old) (K.faults out.new))
+        (device (S.may_hold store.old) (S.may_hold store.new)
+        (S.calls store.old) (S.calls store.new) (S.faults store.old) (S.faults store.new))
+        (device (K.may_have out.old) (K.may_have out.new)
+        (K.calls out.old) (K.calls out.new) (K.faults out.old) (K.faults out.new))
         (plain_status result) }
     ensures store { Counting (S.faults store.old) (S.faults store.new)
         (S.never_fails store.old) (S.never_fails store.new) }

@@ -1,16 +1,16 @@
 //! What a source comes to before it is run.
 
 ghost use Rattle.std.specs.Prelude.{◌≡◌, ℕ, List, IfOk};
-ghost use Rattle.out_io.specs.Calls.{OnlyReads};
 ghost use Rattle.out_io.specs.Faults.{Rose};
 ghost use Rattle.cir_ast.specs.Program.{bare_program};
 ghost use Rattle.cir_checks.specs.Checked.{IsChecked};
 ghost use Rattle.cir_names.specs.Loading.{IsOfSources};
 ghost use Rattle.wit_input.specs.Input.{input_of};
-ghost use Rattle.circom_files.specs.Running.{accepted_input};
-ghost use Rattle.circom_files.specs.Steps.{Gets, StepsTo};
-ghost use Rattle.circom_gold.specs.Source.{Codes, Given, IsCoded, IsStopOf, KnowsSource, Sources};
-ghost use Rattle.circom_gold.specs.Source.{SourcesBy};
+ghost use Rattle.circom_files.specs.Held.{OnlyReads};
+ghost use Rattle.circom_files.specs.Running.{accepted_input, input_in};
+ghost use Rattle.circom_files.specs.Steps.{Gets, Steps};
+ghost use Rattle.circom_gold.specs.Source.{AreInputs, Codes, IsCoded, IsStopOf, LoadedFrom};
+ghost use Rattle.circom_gold.specs.Source.{Sources, SourcesBy};
 ghost use Rattle.circom_words.specs.Words.{Options as MeantOptions, meant_options};
 
 use cir_ast::Text;
@@ -100,10 +100,10 @@ pub fn source_in<S: Store>(
     name: &str,
     options: Options<'_>,
 ) -> Result<Coded, Stop>
-    ensures step { SourcesBy (S.contents store.old) name.now (meant_options options.entry)
+    ensures step { SourcesBy (S.may_hold store.new) name.now (meant_options options.entry)
         (Rose (S.faults store.old) (S.faults store.new)) result }
     ensures coded { IfOk result (IsCoded options.entry.level) }
-    ensures store { OnlyReads (S.contents store.old) (S.contents store.new)
+    ensures store { OnlyReads (S.may_hold store.old) (S.may_hold store.new)
         (S.faults store.old) (S.faults store.new)
         (S.never_fails store.old) (S.never_fails store.new) }
 {
@@ -119,10 +119,10 @@ fn coded_in<S: Store>(
     name: &str,
     options: Options<'_>,
 ) -> Result<Coded, CompileFault>
-    ensures sources { Sources (S.contents store.old) name.now (meant_options options.entry)
+    ensures sources { Sources (S.may_hold store.new) name.now (meant_options options.entry)
         (Rose (S.faults store.old) (S.faults store.new)) result }
     ensures coded { IfOk result (IsCoded options.entry.level) }
-    ensures store { OnlyReads (S.contents store.old) (S.contents store.new)
+    ensures store { OnlyReads (S.may_hold store.old) (S.may_hold store.new)
         (S.faults store.old) (S.faults store.new)
         (S.never_fails store.old) (S.never_fails store.new) }
 {
@@ -171,12 +171,12 @@ pub fn start_in<S: Store>(
     coded: &Coded,
     name: &str,
 ) -> Result<Vec<Gold>, Stop>
-    ensures step { (source : List ℕ) (options : MeantOptions)
-        → KnowsSource (S.contents store.old) source options coded.now.loaded
-        → StepsTo (λ v. v.items) (S.contents store.old)
-        (λ files found. Given files source options coded.now name.now found)
+    ensures step { (source : List ℕ) (options : MeantOptions) → Steps (λ v. v.items)
+        (LoadedFrom (S.may_hold store.new) source options coded.now.loaded)
+        (λ files. input_in files name.now coded.now.circuit.signals.inputs)
         (Rose (S.faults store.old) (S.faults store.new)) result }
-    ensures store { OnlyReads (S.contents store.old) (S.contents store.new)
+    ensures inputs { IfOk result (λ v. AreInputs coded.now v.items) }
+    ensures store { OnlyReads (S.may_hold store.old) (S.may_hold store.new)
         (S.faults store.old) (S.faults store.new)
         (S.never_fails store.old) (S.never_fails store.new) }
 {

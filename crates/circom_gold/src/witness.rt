@@ -1,9 +1,9 @@
-ghost use Rattle.std.specs.Prelude.{◌≤◌, ℕ, List, Ok, IfOk, IsErrOf, length};
-ghost use Rattle.out_io.specs.Calls.{OnlyReads};
+ghost use Rattle.std.specs.Prelude.{◌<◌, ◌≤◌, ℕ, List, Ok, IfOk, IsErrOf, length};
 ghost use Rattle.out_io.specs.Faults.{Rose};
 ghost use Rattle.out_io.specs.declared.fault.IoFault.TheVariants.{Failed};
 ghost use Rattle.iden_files.specs.Limits.{most_wires};
 ghost use Rattle.wit_run.specs.Task.{IsTask};
+ghost use Rattle.circom_files.specs.Held.{OfAll, OnlyReads};
 ghost use Rattle.circom_files.specs.Reply.{Says};
 ghost use Rattle.circom_files.specs.Running.{values_of, witnessed};
 ghost use Rattle.circom_files.specs.Shown.{shown};
@@ -37,11 +37,13 @@ pub fn witness_reply<'w, R: Threads + Wait + AllocGlobal + Sync, S: Store>(
 ) -> Result<Reply<'w>, IoFault>
     requires some { 1 ≤ running.workers }
     requires few { running.workers ≤ 64 }
-    ensures says { IfOk result (λ r. Says (S.contents store.old) (witnessed out.entry.now)
-        (λ files found. Witnesses files source.now input.now (meant_options options.entry)
-        running.fuel found) (shown r)) }
+    ensures says { IfOk result (λ r. OfAll (S.may_hold store.new) (λ files.
+        Says (witnessed out.entry.now)
+        (λ found. Witnesses files source.now input.now (meant_options options.entry)
+        running.fuel found) (shown r))) }
+    ensures status { IfOk result (λ r. r.status < 3) }
     ensures fault { IsErrOf result Failed → Rose (S.faults store.old) (S.faults store.new) }
-    ensures store { OnlyReads (S.contents store.old) (S.contents store.new)
+    ensures store { OnlyReads (S.may_hold store.old) (S.may_hold store.new)
         (S.faults store.old) (S.faults store.new)
         (S.never_fails store.old) (S.never_fails store.new) }
 {
@@ -63,11 +65,11 @@ fn witness_in<R: Threads + Wait + AllocGlobal + Sync, S: Store>(
 ) -> Result<Ran, Stop>
     requires some { 1 ≤ running.workers }
     requires few { running.workers ≤ 64 }
-    ensures step { StepsTo (λ r. r) (S.contents store.old)
+    ensures step { StepsTo (λ r. r) (S.may_hold store.new)
         (λ files found. Witnesses files source.now input.now (meant_options options.entry)
         running.fuel found) (Rose (S.faults store.old) (S.faults store.new)) result }
     ensures few { IfOk result (λ r. length (values_of r) ≤ most_wires) }
-    ensures store { OnlyReads (S.contents store.old) (S.contents store.new)
+    ensures store { OnlyReads (S.may_hold store.old) (S.may_hold store.new)
         (S.faults store.old) (S.faults store.new)
         (S.never_fails store.old) (S.never_fails store.new) }
 {

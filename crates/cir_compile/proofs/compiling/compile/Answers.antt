@@ -1,3 +1,4 @@
+use Rattle.std.proofs.Common.{Some}
 use Rattle.cir_scope.proofs.Loaded.{of_sources}
 use Rattle.cir_compile.proofs.Meaning.{not_loaded, not_written, compiled}
 use Rattle.cir_compile.proofs.compiling.compile.Goals as goal
@@ -17,3 +18,18 @@ returns-in_err-file-clause-compiles g c =
 pub returns-clause-compiles : goal.returns-clause-compiles
 returns-clause-compiles g c =
     compiled _ _ _ _ c.in_ok-program.ensures.loads c.in_ok-file.ensures.writes
+
+pub returns-in_err-program-clause-answers : goal.returns-in_err-program-clause-answers
+returns-in_err-program-clause-answers g c = λ files held.
+    not_loaded (Some files) _ _ _ _ c.from_residual.ensures.1
+    (c.in_err-program.ensures.answers files held)
+
+pub returns-in_err-file-clause-answers : goal.returns-in_err-file-clause-answers
+returns-in_err-file-clause-answers g c = λ files held.
+    not_written (Some files) _ _ _ _ _ c.from_residual-in_err-file.ensures.1
+    (c.in_ok-program.ensures.answers files held) c.in_err-file.ensures.writes
+
+pub returns-clause-answers : goal.returns-clause-answers
+returns-clause-answers g c = λ files held.
+    compiled (Some files) _ _ _ (c.in_ok-program.ensures.answers files held)
+    c.in_ok-file.ensures.writes

@@ -1,5 +1,4 @@
 use Rattle.std.proofs.lemmas.Result.{err_from_is_err_and}
-use Rattle.circom_files.proofs.Accepts.{read_once}
 use Rattle.circom_files.proofs.Offering.{found_to, unread_to}
 use Rattle.circom_files.specs.Proving.{IsAudited, offer_of}
 use Rattle.circom_files.proofs.audit.verdict_in.Goals as goal
@@ -17,9 +16,3 @@ returns-clause-step g c =
     found_to IsAudited
     (λ files. offer_of files c.args.r1cs.now c.args.publics.now c.args.proof.now) _
     c.in_ok-offer.offer c.in_ok-verdict.verdict c.in_ok-offer.ensures.step c.in_ok-verdict.ensures
-
-pub returns-clause-one : goal.returns-clause-one
-returns-clause-one g c =
-    read_once (g.S.Store.contents c.args.store.now) c.args.r1cs.now c.args.publics.now
-    c.args.proof.now c.in_ok-offer.offer c.in_ok-verdict.verdict c.in_ok-offer.ensures.limits
-    c.in_ok-offer.ensures.step c.in_ok-verdict.ensures

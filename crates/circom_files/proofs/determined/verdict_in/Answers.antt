@@ -18,7 +18,6 @@ returns-clause-step g c =
     c.in_ok-verdict.ensures.confirmed
 
 pub returns-clause-determined : goal.returns-clause-determined
-returns-clause-determined g c = λ is.
-    claim_determined (g.S.Store.contents c.args.store.now) c.args.r1cs.now
-    c.args.certificate.now c.in_ok-claim.claim c.in_ok-claim.ensures.step
-    (c.in_ok-verdict.ensures.determined is)
+returns-clause-determined g c = λ is files may.
+    claim_determined files c.args.r1cs.now c.args.certificate.now c.in_ok-claim.claim
+    (c.in_ok-claim.ensures.step files may) (c.in_ok-verdict.ensures.determined is)

@@ -1,14 +1,16 @@
-use Rattle.std.proofs.Common.{◌≡◌, IfSome}
-use Rattle.circom_files.proofs.Reading.{differ, steps_new}
+use Rattle.std.proofs.Common.{ℕ, Vec}
+use Rattle.std.specs.declared.alloc.Global.{Global}
+use Rattle.out_io.specs.Faults.{Rose}
+use Rattle.circom_files.specs.Files.{bytes_in}
+use Rattle.circom_files.specs.Steps.{HeldWith}
+use Rattle.circom_files.proofs.Reading.{steps_later}
 use Rattle.circom_files.proofs.inputs.bytes_after.Goals as goal
-use Rattle.circom_files.proofs.inputs.bytes_after.Goals.{in-Some+else-eq-2, in_default}
 
 pub returns-clause-step : goal.returns-clause-step
 returns-clause-step g c =
-    let second : IfSome c.args.second (λ r. ¬ (r.name.now ≡ c.args.name.now)) =
-    elim c.match-second.branch [
-      | in-Some+else-eq-2 w ↦ rw w.in-Some.is (differ _ _ w.if-eq-2.ensures)
-      | in_default w ↦ rw w.in_default.is tt
-    ] in
-    steps_new _ c.args.first c.args.second c.args.name.now _ c.bytes_in.result
-    (differ _ _ c.if-eq.ensures) second c.bytes_in.ensures.step
+    steps_later (λ (v : Vec ℕ Global). v.items) (g.S.Store.may_hold c.bytes_in.new.store)
+    (HeldWith (g.S.Store.may_hold c.bytes_in.new.store) c.args.first c.args.second)
+    (λ files. bytes_in files c.args.name.now)
+    (Rose (g.S.Store.faults c.args.store.now) (g.S.Store.faults c.bytes_in.new.store))
+    (Rose (g.S.Store.faults c.args.store.now) (g.S.Store.faults c.bytes_in.new.store))
+    c.bytes_in.result (λ files held. held.0) (λ rose. rose) c.bytes_in.ensures.step

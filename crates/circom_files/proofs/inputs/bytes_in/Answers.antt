@@ -3,12 +3,12 @@ use Rattle.circom_files.proofs.Reading.{reads_none, reads_there}
 use Rattle.circom_files.proofs.inputs.bytes_in.Goals as goal
 
 pub returns-in-Some-clause-step : goal.returns-in-Some-clause-step
-returns-in-Some-clause-step g c =
-    reads_there _ c.args.name.now c.in-Some.bytes
-    (rw c.in-Some.is at c.in_ok-bytes.ensures.found)
+returns-in-Some-clause-step g c = λ files may.
+    reads_there files c.args.name.now c.in-Some.bytes
+    (rw c.in-Some.is at (c.in_ok-bytes.ensures.there files may))
 
 pub returns-in_ok-from_slice-in-None-clause-step : goal.returns-in_ok-from_slice-in-None-clause-step
-returns-in_ok-from_slice-in-None-clause-step g c =
-    reads_none _ c.args.name.now c.in_ok-from_slice-in-None.field-0
+returns-in_ok-from_slice-in-None-clause-step g c = λ files may.
+    reads_none files c.args.name.now c.in_ok-from_slice-in-None.field-0
     (c.in_ok-from_slice-in-None.ensures ∙ c.as_bytes.ensures.value)
-    (rw c.in-None.is at c.in_ok-bytes.ensures.found)
+    (rw c.in-None.is at (c.in_ok-bytes.ensures.there files may))

@@ -1,10 +1,7 @@
 use Rattle.std.proofs.lemmas.Result.{err_from_is_err_and}
-use Rattle.out_io.proofs.Telling.{told_on}
 use Rattle.circom_words.specs.Words.{meant_proving}
 use Rattle.circom_files.proofs.Offering.{found_to, unread_to}
-use Rattle.circom_files.specs.Accepted.{IsProofOf}
 use Rattle.circom_files.specs.Proving.{IsProved, witness_of}
-use Rattle.std.proofs.Common.{◌≡◌, Ok}
 use Rattle.circom_files.proofs.prove.outcome_in.Goals as goal
 
 pub returns-in_err-witness-clause-step : goal.returns-in_err-witness-clause-step
@@ -22,13 +19,9 @@ returns-clause-step g c =
     c.in_ok-outcome.outcome c.in_ok-witness.ensures.step c.in_ok-outcome.ensures.proved
 
 pub returns-clause-accepted : goal.returns-clause-accepted
-returns-clause-accepted g c = λ proof is.
-    told_on (g.S.Store.contents c.args.store.now)
-    (λ files. witness_of files c.args.r1cs.now c.args.wtns.now ≡ Ok c.in_ok-witness.witness)
-    (λ files. IsProofOf files c.args.r1cs.now c.args.wtns.now proof)
-    (λ files read. record {
+returns-clause-accepted g c = λ proof is files may.
+    record {
       witness = c.in_ok-witness.witness;
-      read = read;
+      read = c.in_ok-witness.ensures.step files may;
       accepted = c.in_ok-outcome.ensures.accepted proof is;
-    })
-    c.in_ok-witness.ensures.step
+    }

@@ -1,8 +1,12 @@
-use Rattle.std.proofs.Common.{◌≡◌}
-use Rattle.circom_files.proofs.Given.{front_of_all}
+use Rattle.std.proofs.Common.{refl}
+use Rattle.out_io.specs.Faults.{Rose}
+use Rattle.circom_files.specs.Shown.{shown}
+use Rattle.circom_files.proofs.Given.{put_whole}
 use Rattle.circom_files.proofs.writing.put_text.Goals as goal
 
-pub returns-in-Ok-clause-front : goal.returns-in-Ok-clause-front
-returns-in-Ok-clause-front g c =
-    let text : c.as_slice.result.now ≡ c.args.reply.now.text = c.as_slice.ensures in
-    rw (← text) (front_of_all _ _ _ c.in-Ok.ensures.ok)
+pub returns-in-Ok-clause-puts : goal.returns-in-Ok-clause-puts
+returns-in-Ok-clause-puts g c =
+    put_whole (shown c.args.reply.now)
+    (Rose (g.K.Sink.faults c.args.out.now) (g.K.Sink.faults c.put.new.self))
+    c.args.reply.now.status c.as_slice.result.now (g.K.Sink.may_have c.args.out.now)
+    (g.K.Sink.may_have c.put.new.self) c.as_slice.ensures refl c.in-Ok.ensures.appended

@@ -7,7 +7,7 @@ returns-in-Some-clause-does g c = rw c.in-Some.is at c.in_ok-status.ensures.does
 pub returns-in-None-clause-does : goal.returns-in-None-clause-does
 returns-in-None-clause-does g c =
     let u = c.in_ok-status.ensures.untouched c.in-None.is in
-    rw (u.0, u.1, u.2, u.3) at c.run_circuit.ensures.does
+    rw (u.0, u.1) at c.run_circuit.ensures.does
 
 pub returns-in_err-status-clause-does : goal.returns-in_err-status-clause-does
 returns-in_err-status-clause-does g c =

@@ -1,0 +1,15 @@
+#!/bin/sh
+# Tests the circuits of this folder, all or the files named, and prints a line a template.
+#
+#     circuits/test.sh                     all of them
+#     circuits/test.sh bits sha256         those of two files
+#     PROGRAM=FILE circuits/test.sh        with another program than ./circom_gold
+#     QUICK=1 circuits/test.sh             one size of each, at one level, with few inputs
+#
+# It ends with 1 where anything is wrong.
+here=$(dirname "$(readlink -f "$0")")
+top=$here
+until [ -e "$top/allocator.sh" ]; do top=$(dirname "$top"); done
+. "$top/allocator.sh"
+# No folder of compiled Python is left beside the circuits.
+PYTHONDONTWRITEBYTECODE=1 exec python3 "$here/test.py" "$@"

@@ -1,0 +1,3 @@
+include "merkle.circom";
+
+component main {public [root]} = AssertPoseidonMember(2, 2);

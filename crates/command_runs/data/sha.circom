@@ -1,0 +1,3 @@
+include "sha256.circom";
+
+component main = Sha256(3);

@@ -1,0 +1,3 @@
+include "sort.circom";
+
+component main = Sort(5, 8);
