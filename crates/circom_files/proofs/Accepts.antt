@@ -1,5 +1,6 @@
 -- What `prove` writes is accepted, and where `audit` ends well.
-use Rattle.std.proofs.Common.{◌≡◌, ◌≢◌, ◌∙◌, ◌↔◌, ℕ, List, Option, Result, Ok, Err, IfOk, refl, sym}
+use Rattle.std.proofs.Common.{◌≡◌, ◌≢◌, ◌∙◌, ◌↔◌, ℕ, List, Result, Ok}
+use Rattle.std.proofs.Common.{Err, IfOk, refl, sym}
 use Rattle.std.proofs.Common.{ap, subst, arith}
 use Rattle.out_io.specs.Contents.{Contents}
 use Rattle.out_io.specs.declared.fault.IoFault.{IoFault}
@@ -52,8 +53,8 @@ writes_proof files r1cs wtns out options (Unmade v) r proves accepts is zero =
     (zero_satisfied v status))
 
 -- a command that was stopped is no success
-pub unsuccessful : (held : Contents → Type 0) (P : Contents → CodeReply → Type 0) (stop : Stop)
-    (result : Result CodeReply IoFault) → EndsBy stop result
+pub unsuccessful : (held : Contents → Type 0) (P : Contents → CodeReply → Type 0)
+    (stop : Stop) (result : Result CodeReply IoFault) → EndsBy stop result
     → IfOk result (λ r. OfAll held (λ files. r.status ≡ 0 → P files r))
 unsuccessful held P (Refused refusal) (Ok r) e = λ files may zero.
     absurd (omega (arith, ap (λ (x : Reply). x.status) e, zero))
@@ -85,6 +86,11 @@ accepted_is files r1cs publics proof a =
     subst (λ (x : Result Offer Refusal). FoundIn IsAudited x (Ok audits.Accepted)) (sym a.read)
     a.accepted
 
+refused_or_not : (r : Result Audited Refusal) (refusal : Refusal) (v : Audited)
+    → r ≡ Err refusal → r ≡ Ok v → ⊥
+refused_or_not (Ok x) refusal v p q = cc
+refused_or_not (Err x) refusal v p q = cc
+
 -- an audit is a success exactly where the offer is accepted
 pub says_accepted : (files : Contents) (r1cs publics proof : List ℕ) (r : Reply)
     → Says audited (λ found. Audits files r1cs publics proof found) r
@@ -105,9 +111,7 @@ says_accepted files r1cs publics proof r (Ok v, found, is) = (
 )
 says_accepted files r1cs publics proof r (Err refusal, found, is) = (
   λ zero. absurd (omega (arith, ap (λ (x : Reply). x.status) is, zero)),
-  λ a. absurd (ok_or_err (one_audit files r1cs publics proof (Err refusal) (Ok audits.Accepted) found
+  λ a. absurd (refused_or_not (Err refusal) refusal audits.Accepted refl
+      (one_audit files r1cs publics proof (Err refusal) (Ok audits.Accepted) found
       (accepted_is files r1cs publics proof a))),
 )
-  where
-    ok_or_err : Err refusal ≡ Ok audits.Accepted → ⊥
-    ok_or_err e = cc

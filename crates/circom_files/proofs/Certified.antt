@@ -1,5 +1,6 @@
 -- What `determine` and `confirm` find in given files.
-use Rattle.std.proofs.Common.{◌≡◌, ◌∙◌, ◌⊎◌, ℕ, List, All, Result, Ok, Err, IfOk, ap, inl, inr}
+use Rattle.std.proofs.Common.{◌≡◌, ◌∙◌, ◌⊎◌, ℕ, List, All, Result, Ok, Err}
+use Rattle.std.proofs.Common.{IfOk, ap, inl, inr}
 use Rattle.std.proofs.Common.{◌+◌, Vec, refl, subst, sym, arith}
 use Rattle.std.specs.declared.alloc.AllocError.{AllocError}
 use Rattle.std.specs.declared.alloc.Global.{Global}
@@ -121,7 +122,8 @@ below f ks e file =
 sound : (f : File) (rules : List Rule) (found : Result Confirm AllocError) → IsFile f
     → IfOk found (IsConfirmed (record { file = f; rules = rules }))
     → IfOk found (λ verdict. verdict ≡ Confirmed → Determines (circuit_of f))
-sound f rules (Ok Confirmed) file is = λ same. certificate_determines (circuit_of f) rules file.wired is
+sound f rules (Ok Confirmed) file is = λ same.
+    certificate_determines (circuit_of f) rules file.wired is
 sound f rules (Ok (BadRule index)) file is = λ same. let bad : ⊥ = cc in absurd bad
 sound f rules (Ok (Short wire)) file is = λ same. let bad : ⊥ = cc in absurd bad
 sound f rules (Err e) file is = tt
@@ -140,7 +142,8 @@ pub sound_as : (f g : File) (ks : List Constraint) (rules : List Rule)
     → IfOk found (IsVerdict (in_normal_form (circuit_with ks g)) rules)
     → IfOk found (λ verdict. verdict ≡ Confirmed → Determines (circuit_of f))
 sound_as f g ks rules found same_file same_list file is =
-    let same : circuit_with ks g ≡ circuit_of f = λ i. circuit_with (same_list i) (same_file i) in
+    let same : circuit_with ks g ≡ circuit_of f =
+    λ i. circuit_with (same_list i) (same_file i) in
     sound f rules found file
     (subst (λ (c : Circuit). IfOk found (IsVerdict (in_normal_form c) rules)) same is)
 

@@ -28,7 +28,8 @@ pub ended : {X : Type 0} (held : Contents → Type 0) (reply : X → Reply)
     (meaning : Contents → Result X Refusal) (failed : Type 0) (stop : Stop)
     (result : Result CodeReply IoFault) → Steps (λ (x : X). x) held meaning failed (Err stop)
     → EndsBy stop result
-    → IfOk result (λ r. OfAll held (λ files. Says reply (λ found. meaning files ≡ found) (shown r)))
+    → IfOk result (λ r. OfAll held
+    (λ files. Says reply (λ found. meaning files ≡ found) (shown r)))
 ended held reply meaning failed (Refused refusal) (Ok r) step e = λ files may.
     (Err refusal, step files may, e)
 ended held reply meaning failed StoreFailed (Ok r) step e = absurd e

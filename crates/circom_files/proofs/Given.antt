@@ -1,5 +1,6 @@
 -- What is put whole is a front of itself.
-use Rattle.std.proofs.Common.{◌≡◌, ◌∙◌, ◌++◌, ℕ, List, length, Result, Ok, ap, inl, sym}
+use Rattle.std.proofs.Common.{◌≡◌, ◌∙◌, ◌++◌, ℕ, List, length, Result, Ok, ap}
+use Rattle.std.proofs.Common.{inl, sym}
 use Rattle.std.proofs.Math.Seq.{take-length}
 use Rattle.std.specs.declared.alloc.AllocError.{AllocError}
 use Rattle.out_io.specs.History.{Appended}
@@ -7,7 +8,8 @@ use Rattle.circom_files.specs.Given.{IsFront, Puts}
 use Rattle.circom_files.specs.Held.{Becomes}
 use Rattle.circom_files.specs.Reply.{Reply}
 
-front_of_all : (bytes before text : List ℕ) → text ≡ before ++ bytes → IsFront bytes before text
+front_of_all : (bytes before text : List ℕ) → text ≡ before ++ bytes
+    → IsFront bytes before text
 front_of_all bytes before text is =
     (length bytes, is ∙ ap (λ (xs : List ℕ). before ++ xs) (sym (take-length bytes)))
 

@@ -1,5 +1,6 @@
 -- What is found in the three files of `audit`, and by commands in what was read.
-use Rattle.std.proofs.Common.{◌≡◌, ◌∙◌, ℕ, List, Result, Ok, Err, Vec, ap, refl, subst, sym}
+use Rattle.std.proofs.Common.{◌≡◌, ◌∙◌, ℕ, List, Result, Ok, Err, Vec, ap, refl}
+use Rattle.std.proofs.Common.{subst, sym}
 use Rattle.std.specs.declared.alloc.Global.{Global}
 use Rattle.binary_format.specs.Reading.{◌>>=◌}
 use Rattle.out_io.specs.Contents.{Contents}
@@ -16,7 +17,8 @@ use Rattle.circom_files.specs.declared.stop.Stop.{Stop}
 use Rattle.circom_files.specs.declared.stop.Stop.TheVariants.{Refused, StoreFailed, OutOfMemory}
 
 -- the offer, from the files' steps
-abbrev with_proof : List ℕ → File → List ℕ → Result (List ℕ) Refusal → Result Offer Refusal
+abbrev with_proof : List ℕ → File → List ℕ → Result (List ℕ) Refusal
+    → Result Offer Refusal
 with_proof bytes file values offered = offered
     >>= λ p. Ok (record { bytes = bytes; file = file; publics = values; proof = p })
 
@@ -82,7 +84,8 @@ module _ (held : Contents → Type 0) (r1cs publics proof : List ℕ) (failed : 
           (λ files. offer_of files r1cs publics proof) failed (Err e)
       offer_unread_publics (Refused r) step = λ files may.
           opened (Ok file) read files may
-          ∙ ap (λ (x : Result (List ℕ) Refusal). with_publics bytes file x (bytes_in files proof))
+          ∙ ap (λ (x : Result (List ℕ) Refusal). with_publics bytes file x
+          (bytes_in files proof))
           (step files may)
       offer_unread_publics StoreFailed step = step
       offer_unread_publics OutOfMemory step = tt
@@ -94,7 +97,8 @@ module _ (held : Contents → Type 0) (r1cs publics proof : List ℕ) (failed : 
             ≡ (v >>= λ values. with_proof bytes file values (bytes_in files proof)))
         middle v gets = λ files may.
             opened (Ok file) read files may
-            ∙ ap (λ (x : Result (List ℕ) Refusal). with_publics bytes file x (bytes_in files proof))
+            ∙ ap (λ (x : Result (List ℕ) Refusal). with_publics bytes file x
+            (bytes_in files proof))
             (found files may)
             ∙ ap (λ (x : Result (List ℕ) Refusal).
             x >>= λ values. with_proof bytes file values (bytes_in files proof))

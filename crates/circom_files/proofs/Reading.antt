@@ -1,9 +1,8 @@
 -- What is found in files that are read one after the other.
-use Rattle.std.proofs.Common.{◌≡◌, ◌∙◌, ℕ, List, Option, None, Some, Result, Ok, Err, Vec}
-use Rattle.std.proofs.Common.{true, false, ap, refl, sym}
+use Rattle.std.proofs.Common.{◌≡◌, ◌∙◌, ℕ, List, Option, None, Some, Result, Ok, Err}
+use Rattle.std.proofs.Common.{Vec}
+use Rattle.std.proofs.Common.{ap, refl, sym}
 use Rattle.std.specs.declared.alloc.Global.{Global}
-use Rattle.std.specs.Str.{bytes_eq}
-use Rattle.std.proofs.lemmas.Slice.Eq.{bytes_eq-Decides}
 use Rattle.binary_format.specs.Reading.{◌>>=◌}
 use Rattle.out_io.specs.Contents.{Contents, bytes_of}
 use Rattle.iden_files.specs.File.{File}
@@ -39,16 +38,6 @@ pub reads_none : (files : Contents) (name said : List ℕ) → said ≡ name
 reads_none files name said same is =
     ap (λ (o : Option (List ℕ)). bytes_in (λ n. o) name) (sym is)
     ∙ ap (λ (n : List ℕ). Err (NoSuchFile n)) (sym same)
-
--- what is under a name that was read before
-pub read_again : (files : Contents) (before name bytes copy : List ℕ) → before ≡ name
-    → bytes_in files before ≡ Ok bytes → copy ≡ bytes → bytes_in files name ≡ Ok copy
-read_again files before name bytes copy same read is =
-    ap (bytes_in files) (sym same) ∙ read ∙ ap Ok (sym is)
-
--- what a test of two names says
-pub equal : (a b : List ℕ) → true ≡ bytes_eq a b → a ≡ b
-equal a b test = (bytes_eq-Decides a b).0 (sym test)
 
 -- a step of fewer contents, with a cause of its failure that comes of the first one
 pub steps_later : {X Y : Type 0} (view : X → Y) (before held : Contents → Type 0)
@@ -111,11 +100,13 @@ module _ (held : Contents → Type 0) (r1cs : List ℕ) (failed : Type 0) where
     file_decoded (Err OutOfMemory) gets = tt
 
 -- what is made of a file of constraints and of another file that is read behind it
-module _ {B C : Type 0} (accept : List ℕ → Result B Refusal) (make : List ℕ → File → B → C) where
+module _ {B C : Type 0} (accept : List ℕ → Result B Refusal)
+    (make : List ℕ → File → B → C) where
   abbrev with_second : List ℕ → File → Result (List ℕ) Refusal → Result C Refusal
   with_second bytes file text = (text >>= accept) >>= λ b. Ok (make bytes file b)
 
-  abbrev with_first : List ℕ → Result File Refusal → Result (List ℕ) Refusal → Result C Refusal
+  abbrev with_first : List ℕ → Result File Refusal → Result (List ℕ) Refusal
+      → Result C Refusal
   with_first bytes file text = file >>= λ f. with_second bytes f text
 
   abbrev two_by : (r1cs : List ℕ) → Result (List ℕ) Refusal → Result (List ℕ) Refusal
@@ -166,7 +157,8 @@ module _ {B C : Type 0} (accept : List ℕ → Result B Refusal) (make : List �
         unread_second StoreFailed step = step
         unread_second OutOfMemory step = tt
 
-        module _ (text : List ℕ) (found : OfAll held (λ files. bytes_in files second ≡ Ok text))
+        module _ (text : List ℕ)
+            (found : OfAll held (λ files. bytes_in files second ≡ Ok text))
             (part : List ℕ) (is : part ≡ text) where
           both : (b : Result B Refusal) → accept part ≡ b
               → OfAll held (λ files. meaning files ≡ (b >>= λ x. Ok (make bytes file x)))
@@ -176,7 +168,8 @@ module _ {B C : Type 0} (accept : List ℕ → Result B Refusal) (make : List �
               (ap accept (sym is) ∙ gets)
 
           -- it is refused
-          pub bad_second : {V : Type 0} (view : V → B) (e : Stop) → Gets view (accept part) (Err e)
+          pub bad_second : {V : Type 0} (view : V → B) (e : Stop)
+              → Gets view (accept part) (Err e)
               → Steps (λ (c : C). c) held meaning failed (Err e)
           bad_second view (Refused r) gets = both (Err r) gets
           bad_second view StoreFailed gets = absurd gets
@@ -279,7 +272,8 @@ module _ (held : Contents → Type 0) (r1cs wtns : List ℕ) where
       (λ files. check_by files r1cs wtns)
 
   pub check_found : (w : Witness) (v : Verdict)
-      → OfAll held (λ files. witness_of files r1cs wtns ≡ Ok w) → v ≡ verdict w.file w.values
+      → OfAll held (λ files. witness_of files r1cs wtns ≡ Ok w)
+      → v ≡ verdict w.file w.values
       → OfAll held (λ files. check_of files r1cs wtns ≡ Ok v)
   check_found = ends_found verdict (λ files. check_of files r1cs wtns) held r1cs wtns
       (λ files. check_by files r1cs wtns)

@@ -1,5 +1,5 @@
 -- The status of a reply to a command is below 3.
-use Rattle.std.proofs.Common.{◌≡◌, ◌<◌, ℕ, List, Result, Ok, Err, arith, ap}
+use Rattle.std.proofs.Common.{◌≡◌, ◌<◌, ℕ, List, arith, ap}
 use Rattle.cir_determined.specs.declared.rule.Answer.{Answer}
 use Rattle.cir_determined.specs.declared.rule.Answer.TheVariants.{Shown, NotShown}
 use Rattle.cir_determined.specs.declared.rule.Confirm.{Confirm}
@@ -9,11 +9,10 @@ use Rattle.lig_proof.specs.declared.verdict.Verdict.TheVariants as audits
 use Rattle.circom_lines.specs.Determining.{confirmed_status}
 use Rattle.circom_lines.specs.Lines.{verdict_status}
 use Rattle.circom_lines.specs.Proving.{audit_status}
-use Rattle.circom_lines.specs.declared.answer.Refusal.{Refusal}
 use Rattle.circom_lines.specs.declared.answer.Verdict.{Verdict}
 use Rattle.circom_lines.specs.declared.answer.Verdict.TheVariants.{CountsDiffer, WireZero}
 use Rattle.circom_lines.specs.declared.answer.Verdict.TheVariants.{ConstraintFails, Satisfied}
-use Rattle.circom_files.specs.Reply.{Reply, Says, determined, proved, published, said}
+use Rattle.circom_files.specs.Reply.{Reply, determined, proved, published}
 use Rattle.circom_files.specs.Shown.{shown}
 use Rattle.circom_files.specs.declared.outcome.Outcome.{Outcome}
 use Rattle.circom_files.specs.declared.outcome.Outcome.TheVariants.{Made, Unmade}
@@ -58,15 +57,3 @@ confirmed_below (Short wire) = omega arith
 -- so is that of the program's own value
 pub below_by : (r : CodeReply) (s : Reply) → shown r ≡ s → s.status < 3 → r.status < 3
 below_by r s same below = omega (arith, ap (λ (x : Reply). x.status) same, below)
-
-said_below : {X : Type 0} (reply : X → Reply) (found : Result X Refusal)
-    → ((x : X) → (reply x).status < 3) → (said reply found).status < 3
-said_below reply (Ok x) below = below x
-said_below reply (Err refusal) below = omega arith
-
-pub says_below : {X : Type 0} (reply : X → Reply) (Finds : Result X Refusal → Type 0) (r : Reply)
-    → ((x : X) → (reply x).status < 3) → Says reply Finds r → r.status < 3
-says_below reply Finds r below says =
-    let low : (said reply says.0).status < 3 = said_below reply says.0 below in
-    let same : r.status ≡ (said reply says.0).status = ap (λ (x : Reply). x.status) says.2 in
-    omega (arith, low, same)

@@ -1,5 +1,5 @@
 -- What is said of the proofs that `prove` makes and `audit` accepts.
-use Rattle.std.specs.Prelude.{◌≡◌, ◌↔◌, ℕ, List, Option, Some, Ok}
+use Rattle.std.specs.Prelude.{◌≡◌, ◌↔◌, ℕ, List, Some, Ok}
 use Rattle.out_io.specs.Contents.{Contents}
 use Rattle.lig_layout.specs.Laws.{publics_of}
 use Rattle.lig_proof.specs.Acceptance.{IsVerdict}
@@ -32,11 +32,4 @@ pub record IsProofOf (files : Contents) (r1cs wtns proof : List ℕ) : Type 0 wh
 pub record WritesProof (files : Contents) (r1cs wtns out : List ℕ) (r : Reply) : Type 0 where
   pub bytes : List ℕ
   pub file : r.file ≡ Some (record { name = out; bytes = bytes })
-  pub proof : IsProofOf files r1cs wtns bytes
-
--- such bytes are there under the name
-pub record HoldsProof (files : Contents) (r1cs wtns : List ℕ) (found : Option (List ℕ))
-    : Type 0 where
-  pub bytes : List ℕ
-  pub there : found ≡ Some bytes
   pub proof : IsProofOf files r1cs wtns bytes

@@ -94,5 +94,6 @@ said reply (Ok x) = reply x
 said reply (Err refusal) = refused refusal
 
 -- the reply says what the command finds
-abbrev pub Says : {X : Type 0} → (X → Reply) → (Result X Refusal → Type 0) → Reply → Type 0
+abbrev pub Says : {X : Type 0} → (X → Reply) → (Result X Refusal → Type 0) → Reply
+    → Type 0
 Says {X} reply Finds r = (found : Result X Refusal) × Finds found × (r ≡ said reply found)

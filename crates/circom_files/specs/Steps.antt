@@ -28,7 +28,8 @@ Steps view held meaning failed (Err OutOfMemory) = ⊤
 
 -- The same where what the command finds is a relation.
 abbrev pub StepsTo : {X Y : Type 0} → (X → Y) → (held : Contents → Type 0)
-    → (Contents → Result Y Refusal → Type 0) → (failed : Type 0) → Result X Stop → Type 0
+    → (Contents → Result Y Refusal → Type 0) → (failed : Type 0) → Result X Stop
+    → Type 0
 StepsTo view held Finds failed (Ok x) = OfAll held (λ files. Finds files (Ok (view x)))
 StepsTo view held Finds failed (Err (Refused refusal)) =
     OfAll held (λ files. Finds files (Err refusal))

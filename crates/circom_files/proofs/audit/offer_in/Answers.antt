@@ -1,4 +1,4 @@
-use Rattle.std.proofs.Common.{◌≡◌, ◌∙◌, ℕ, None, Some, Ok, Err, Vec}
+use Rattle.std.proofs.Common.{◌≡◌, ℕ, None, Some, Ok, Err, Vec}
 use Rattle.std.specs.declared.alloc.Global.{Global}
 use Rattle.std.proofs.lemmas.Result.{err_from_is_err_and}
 use Rattle.out_io.specs.Faults.{Rose}
@@ -34,7 +34,8 @@ returns-in_err-text-clause-step g c =
     let p = err_from_is_err_and c.from_residual-in_err-text.result
     c.from_residual-in_err-text.ensures.1 in
     let held = g.S.Store.may_hold c.bytes_after.new.store in
-    let there : OfAll held (λ files. bytes_in files c.args.r1cs.now ≡ Ok c.in_ok-bytes.bytes.items) =
+    let there : OfAll held
+    (λ files. bytes_in files c.args.r1cs.now ≡ Ok c.in_ok-bytes.bytes.items) =
     λ files may. c.in_ok-bytes.ensures.step files (c.bytes_after.ensures.store.still files may) in
     let known =
     one_read held record { name = c.args.r1cs; bytes = c.as_slice-2.result }
@@ -57,7 +58,8 @@ returns-in_err-values-clause-step g c =
     let p = err_from_is_err_and c.from_residual-in_err-values.result
     c.from_residual-in_err-values.ensures.1 in
     let held = g.S.Store.may_hold c.bytes_after.new.store in
-    let there : OfAll held (λ files. bytes_in files c.args.r1cs.now ≡ Ok c.in_ok-bytes.bytes.items) =
+    let there : OfAll held
+    (λ files. bytes_in files c.args.r1cs.now ≡ Ok c.in_ok-bytes.bytes.items) =
     λ files may. c.in_ok-bytes.ensures.step files (c.bytes_after.ensures.store.still files may) in
     let known =
     one_read held record { name = c.args.r1cs; bytes = c.as_slice-2.result }

@@ -12,7 +12,8 @@ returns-in_ok-checked-in-Ok-clause-says g c = λ files may.
 
 pub returns-in_ok-checked-in-Ok-clause-status : goal.returns-in_ok-checked-in-Ok-clause-status
 returns-in_ok-checked-in-Ok-clause-status g c =
-    below_by c.in_ok-checked-in-Ok.field-0 _ c.in_ok-checked-in-Ok.ensures (verdict_below c.in-Ok.verdict)
+    below_by c.in_ok-checked-in-Ok.field-0 _ c.in_ok-checked-in-Ok.ensures
+    (verdict_below c.in-Ok.verdict)
 
 pub returns-in-Err-clause-says : goal.returns-in-Err-clause-says
 returns-in-Err-clause-says g c =

@@ -15,7 +15,8 @@ returns-in_ok-confirmed-in-Ok-clause-says g c = λ files may.
 
 pub returns-in_ok-confirmed-in-Ok-clause-status : goal.returns-in_ok-confirmed-in-Ok-clause-status
 returns-in_ok-confirmed-in-Ok-clause-status g c =
-    below_by c.in_ok-confirmed-in-Ok.field-0 _ c.in_ok-confirmed-in-Ok.ensures (confirmed_below c.in-Ok.verdict)
+    below_by c.in_ok-confirmed-in-Ok.field-0 _ c.in_ok-confirmed-in-Ok.ensures
+    (confirmed_below c.in-Ok.verdict)
 
 pub returns-in-Err-clause-says : goal.returns-in-Err-clause-says
 returns-in-Err-clause-says g c =

@@ -15,7 +15,8 @@ returns-in_ok-determined-in-Ok-clause-says g c = λ files may.
 
 pub returns-in_ok-determined-in-Ok-clause-status : goal.returns-in_ok-determined-in-Ok-clause-status
 returns-in_ok-determined-in-Ok-clause-status g c =
-    below_by c.in_ok-determined-in-Ok.field-0 _ c.in_ok-determined-in-Ok.ensures.reply (determined_below c.args.out.now c.in-Ok.answer)
+    below_by c.in_ok-determined-in-Ok.field-0 _ c.in_ok-determined-in-Ok.ensures.reply
+    (determined_below c.args.out.now c.in-Ok.answer)
 
 pub returns-in-Err-clause-says : goal.returns-in-Err-clause-says
 returns-in-Err-clause-says g c =
