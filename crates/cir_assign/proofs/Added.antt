@@ -1,6 +1,6 @@
 -- What is added to a variable, and where it is written.
-use Rattle.std.proofs.Common.{◌≡◌, ℕ, Bool, true, false, List, [], ◌∷◌, Option, Ok, refl, ap, sym}
-use Rattle.std.proofs.Common.{subst, ◌∙◌, Result, Err}
+use Rattle.std.proofs.Common.{◌≡◌, ℕ, Bool, true, false, List, [], ◌∷◌, Option, Ok}
+use Rattle.std.proofs.Common.{refl, ap, sym, subst, ◌∙◌, Result, Err}
 use Rattle.std.specs.Prelude.{count_by, not, IsErrAnd}
 use Rattle.gold_field.specs.declared.operators.Op2.TheVariants as op2
 use Rattle.cir_ast.specs.declared.program.Meant.{Meant}
@@ -38,7 +38,8 @@ whole_is v d old value e h = subst (λ (z : NewValue). IsNew old z value) e h
 
 pub sum_is : (v : NewValue) (y : CodeValue) (old value : Datum) → v ≡ new.Added y
     → IsNew old v value
-    → (f : Number) × (old ≡ single (Linear f)) × (value ≡ single (sum_of (Linear f) (meant y)))
+    → (f : Number) × (old ≡ single (Linear f))
+    × (value ≡ single (sum_of (Linear f) (meant y)))
 sum_is v y old value e h = subst (λ (z : NewValue). IsNew old z value) e h
 
 -- a sum with a linear number isn't known
@@ -100,7 +101,8 @@ written_number : (x y : Value) (r : Reach) → r.is_sure ≡ true → r.places �
     → written_datum (single x) r (single y) ≡ single y
 written_number x y r e h = rw (e, h) refl
 
-pub sum_stands : (old value : Datum) (v : NewValue) (r : Reach) (y : CodeValue) → v ≡ new.Added y
+pub sum_stands : (old value : Datum) (v : NewValue) (r : Reach) (y : CodeValue)
+    → v ≡ new.Added y
     → IsNew old v value → IsWritten v r → written_datum old r value ≡ value
 sum_stands old value v r y e h w =
     let s = sum_is v y old value e h in
@@ -129,16 +131,16 @@ whole_place q n e h = (
       ∙ ap (λ (l : List (CodeAccessor Meant)). Place q.name (Variable n) (as_accessors l)) h,
 )
 
-pub sum_whole : (n : ℕ) (whole a b : Expr Meant) → whole ≡ Binary binary.Add a b → IsWhole n a
-    → AddsTo n whole b
+pub sum_whole : (n : ℕ) (whole a b : Expr Meant) → whole ≡ Binary binary.Add a b
+    → IsWhole n a → AddsTo n whole b
 sum_whole n whole a b e h = (
   h.0,
   λ k w dark want s. ap (λ (x : Expr Meant). value_in k w dark want x s)
       (e ∙ ap (λ (y : Expr Meant). Binary binary.Add y b) h.1),
 )
 
-pub sum_compound : (n : ℕ) (whole a b : Expr Meant) → whole ≡ Binary binary.Add a (Parentheses b)
-    → IsWhole n a → AddsTo n whole b
+pub sum_compound : (n : ℕ) (whole a b : Expr Meant)
+    → whole ≡ Binary binary.Add a (Parentheses b) → IsWhole n a → AddsTo n whole b
 sum_compound n whole a b e h = (
   h.0,
   λ k w dark want s. ap (λ (x : Expr Meant). value_in k w dark want x s)
@@ -147,7 +149,8 @@ sum_compound n whole a b e h = (
 
 -- ---- the value of a sum
 pub new_refused : (n : ℕ) (s : State) (r : Result NewValue Fault) (e : Fault)
-    (m : Tried (Datum × State)) → IsErrAnd r (λ x. x ≡ e) → IsRefusal e m → GivesNew n s r m
+    (m : Tried (Datum × State)) → IsErrAnd r (λ x. x ≡ e) → IsRefusal e m
+    → GivesNew n s r m
 new_refused n s (Ok v) e m err h = absurd err
 new_refused n s (Err x) e m err h = rw err h
 

@@ -1,6 +1,6 @@
 -- An assignment to signals, in parts.
-use Rattle.std.proofs.Common.{◌≡◌, ℕ, ◌+◌, Bool, true, false, List, [], ◌∷◌, length, Ok, refl, ap}
-use Rattle.std.proofs.Common.{sym, subst, ◌∙◌, cond, arith}
+use Rattle.std.proofs.Common.{◌≡◌, ℕ, ◌+◌, Bool, true, false, List, [], ◌∷◌}
+use Rattle.std.proofs.Common.{length, Ok, refl, ap, sym, subst, ◌∙◌, cond, arith}
 use Rattle.cir_ast.specs.declared.program.Meant.{Meant}
 use Rattle.cir_ast.specs.declared.operators.Arrow.{Arrow}
 use Rattle.cir_ast.specs.declared.refusal.Kind.TheVariants.{ShapeDiffers}
@@ -56,7 +56,8 @@ module _ (k : Context) (w : Where) (written : Assign Meant) (m : Meant)
       (exits f (target_in k w m accessors s1) (shaped d) h))
 
   signal_shaped : (d : Datum) (s1 s2 : State) (x : Target) (b : Bool)
-      → value_in k w false Whole e s ≡ Ok (d, s1) → target_in k w m accessors s1 ≡ Ok (x, s2)
+      → value_in k w false Whole e s ≡ Ok (d, s1)
+      → target_in k w m accessors s1 ≡ Ok (x, s2)
       → same_dims x.reach.left d.dims ≡ b → set_signal k w written m accessors arrow e s
       ≡ next (needed b w ShapeDiffers (Ok record { value = d; target = x; state = s2 })) behind
   signal_shaped d s1 s2 x b p q h =
@@ -66,15 +67,16 @@ module _ (k : Context) (w : Where) (written : Assign Meant) (m : Meant)
       (Ok record { value = d; target = x; state = s2 })) behind) h
 
   pub signal_goes : (d : Datum) (s1 s2 : State) (x : Target)
-      → value_in k w false Whole e s ≡ Ok (d, s1) → target_in k w m accessors s1 ≡ Ok (x, s2)
+      → value_in k w false Whole e s ≡ Ok (d, s1)
+      → target_in k w m accessors s1 ≡ Ok (x, s2)
       → same_dims x.reach.left d.dims ≡ true → set_signal k w written m accessors arrow e s
       ≡ next (write_elements k w arrow x x.reach.places d.items s2)
       (wired k w (signal_cost k w written accessors e s) x.reach.places)
   signal_goes d s1 s2 x p q h = signal_shaped d s1 s2 x true p q h
 
   pub signal_differs : (d : Datum) (s1 s2 : State) (x : Target)
-      → value_in k w false Whole e s ≡ Ok (d, s1) → target_in k w m accessors s1 ≡ Ok (x, s2)
-      → same_dims x.reach.left d.dims ≡ false
+      → value_in k w false Whole e s ≡ Ok (d, s1)
+      → target_in k w m accessors s1 ≡ Ok (x, s2) → same_dims x.reach.left d.dims ≡ false
       → set_signal k w written m accessors arrow e s ≡ refused w ShapeDiffers
   signal_differs d s1 s2 x p q h = signal_shaped d s1 s2 x false p q h
 

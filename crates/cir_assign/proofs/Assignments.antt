@@ -48,8 +48,9 @@ indices_next k w dark n accessors rest e s s1 s2 d indices h i =
     ∙ ap (λ (z : Tried (List (Option ℕ) × (Accessors Meant × State))). next z
     (λ (indices, (rest, s2)). reaching w dark n d indices s2)) i
 
-pub reach_next : (k : Context) (w : Where) (dark : Bool) (n : ℕ) (accessors rest : Accessors Meant)
-    (e : Expr Meant) (s s1 s2 : State) (d : Datum) (indices : List (Option ℕ)) (r : Reach)
+pub reach_next : (k : Context) (w : Where) (dark : Bool) (n : ℕ)
+    (accessors rest : Accessors Meant) (e : Expr Meant) (s s1 s2 : State) (d : Datum)
+    (indices : List (Option ℕ)) (r : Reach)
     → value_in k w dark Whole e s ≡ Ok (d, s1)
     → indices_in k w dark [] accessors s1 indexed ≡ Ok (indices, (rest, s2))
     → reach w dark Whole (variable_at s2.frame n).dims indices ≡ Ok r

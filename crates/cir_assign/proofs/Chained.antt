@@ -1,6 +1,6 @@
 -- Costs, one after the other.
-use Rattle.std.proofs.Common.{◌≡◌, ◌+◌, List, [], ◌++◌, map, append_assoc, refl, ap, sym, ◌∙◌}
-use Rattle.std.proofs.Common.{arith}
+use Rattle.std.proofs.Common.{◌≡◌, ◌+◌, List, [], ◌++◌, map, append_assoc, refl, ap}
+use Rattle.std.proofs.Common.{sym, ◌∙◌, arith}
 use Rattle.std.proofs.lemmas.List.{append-nil}
 use Rattle.cir_meaning.specs.Limits.{nothing, standing}
 use Rattle.cir_meaning.specs.Source.{Equation}

@@ -1,6 +1,6 @@
 -- A cost is the same in each state that differs only in what is counted.
-use Rattle.std.proofs.Common.{◌≡◌, ℕ, Bool, List, [], ◌∷◌, ◌++◌, Option, Some, None, refl, ap, ◌∙◌}
-use Rattle.std.proofs.Common.{sym}
+use Rattle.std.proofs.Common.{◌≡◌, ℕ, Bool, List, [], ◌∷◌, ◌++◌, Option, Some}
+use Rattle.std.proofs.Common.{None, refl, ap, ◌∙◌, sym}
 use Rattle.std.specs.Prelude.{if◌then◌else◌}
 use Rattle.cir_ast.specs.declared.program.Meant.{Meant}
 use Rattle.cir_ast.specs.declared.program.Meant.TheVariants as meant
@@ -41,13 +41,14 @@ inner_counted w dark (Named (meant.Component n)) indices name f c = refl
 inner_counted w dark (Named (meant.Template n)) indices name f c = refl
 inner_counted w dark (Named (meant.Function n)) indices name f c = refl
 
-abbrev call_by : Context → Where → Bool → Meant → Option Datum → Cost → List (List ℕ) → Cost
+abbrev call_by : Context → Where → Bool → Meant → Option Datum → Cost
+    → List (List ℕ) → Cost
 call_by k w dark m o c shapes =
     if is_settled o then node 1 else above (both c
     record { nodes = 0; reads = []; calls = call_made k w dark m shapes })
 
-operand_same : (o : Option Bool) (f g : Bool → Cost) (n : ℕ) → ((dark : Bool) → f dark ≡ g dark)
-    → operand o f n ≡ operand o g n
+operand_same : (o : Option Bool) (f g : Bool → Cost) (n : ℕ)
+    → ((dark : Bool) → f dark ≡ g dark) → operand o f n ≡ operand o g n
 operand_same None f g n h = refl
 operand_same (Some dark) f g n h = h dark
 
@@ -80,7 +81,8 @@ module _ (k : Context) (w : Where) (s t : State) (same : uncounted s ≡ uncount
     cost_same dark (Call parallel name m arguments) =
         ap (λ (o : Option Datum). call_by k w dark m o (all_cost k w dark arguments s)
         (shapes_in k w dark arguments s)) (seen_same dark (Call parallel name m arguments))
-        ∙ ap (λ (c : Cost). call_by k w dark m (seen k w dark (Call parallel name m arguments) t) c
+        ∙ ap (λ (c : Cost). call_by k w dark m
+        (seen k w dark (Call parallel name m arguments) t) c
         (shapes_in k w dark arguments s)) (all_same dark arguments)
         ∙ ap (λ (x : List (List ℕ)). call_by k w dark m
         (seen k w dark (Call parallel name m arguments) t) (all_cost k w dark arguments t) x)
@@ -135,7 +137,8 @@ module _ (k : Context) (w : Where) (s t : State) (same : uncounted s ≡ uncount
         both_same _ _ _ _ (cost_same dark e)
         (ap (λ (o : Option Datum). place_cost k w dark m root
         (indices ++ known_number (value_of o) ∷ []) rest s) (seen_same dark e)
-        ∙ place_same dark m root (indices ++ known_number (value_of (seen k w dark e t)) ∷ []) rest)
+        ∙ place_same dark m root
+        (indices ++ known_number (value_of (seen k w dark e t)) ∷ []) rest)
     place_same dark m root indices (member name rest) =
         ap (λ (o : Tried Origin). place_cost k w dark m (root_of o) [] rest s)
         (inner_same dark root indices name)

@@ -1,7 +1,8 @@
 -- The terms of a constraint whose signals have numbers.
-use Rattle.std.proofs.Common.{◌≡◌, ℕ, zero, suc, ◌+◌, ◌-◌, ◌*◌, ◌%◌, ◌<◌, ◌≤◌, ◌&&◌, ◌==◌, Bool}
-use Rattle.std.proofs.Common.{cond, List, [], ◌∷◌, length, get_or, Option, Some, None, refl, ap}
-use Rattle.std.proofs.Common.{sym, ◌∙◌, arith, inl, inr}
+use Rattle.std.proofs.Common.{◌≡◌, ℕ, zero, suc, ◌+◌, ◌-◌, ◌*◌, ◌%◌}
+use Rattle.std.proofs.Common.{◌<◌, ◌≤◌, ◌&&◌, ◌==◌, Bool, cond, List, []}
+use Rattle.std.proofs.Common.{◌∷◌, length, get_or, Option, Some, None, refl, ap, sym}
+use Rattle.std.proofs.Common.{◌∙◌, arith, inl, inr}
 use Rattle.std.specs.Prelude.{filter, nat_lt}
 use Rattle.std.proofs.lemmas.List.Elements.{All-cons, All-head, All-tail, All-nil}
 use Rattle.std.proofs.lemmas.Bool.{cases_lt, lt-ltb, le-ltb}
@@ -35,7 +36,8 @@ numbered_other : (n : ℕ) (t : Term) (ts : List Term) → n ≤ t.signal
 numbered_other n t ts h =
     ap (λ (b : Bool). cond b (t ∷ numbered n ts) (numbered n ts)) (le-ltb t.signal n h)
 
-coef_numbered : (k n : ℕ) (ts : List Term) → k < n → coef_of k (numbered n ts) ≡ coef_of k ts
+coef_numbered : (k n : ℕ) (ts : List Term) → k < n
+    → coef_of k (numbered n ts) ≡ coef_of k ts
 coef_numbered k n [] h = refl
 coef_numbered k n (t ∷ ts) h =
     elim (cases_lt t.signal n) [
@@ -93,7 +95,8 @@ added_agrees : (n : ℕ) (f g h k : Number) → Agrees n f g → Agrees n h k
     → Agrees n (added f h) (added g k)
 unfolding added
 added_agrees n f g h k p q = record {
-  none = ap (λ (x : ℕ). (x + h origin) % P) p.none ∙ ap (λ (x : ℕ). (g origin + x) % P) q.none;
+  none = ap (λ (x : ℕ). (x + h origin) % P) p.none
+      ∙ ap (λ (x : ℕ). (g origin + x) % P) q.none;
   one = λ j l. ap (λ (x : ℕ). (x + h (unit j)) % P) (p.one j l)
       ∙ ap (λ (x : ℕ). (g (unit j) + x) % P) (q.one j l);
 }

@@ -1,5 +1,6 @@
 -- Indices first, and what follows them after.
-use Rattle.std.proofs.Common.{◌≡◌, ℕ, Bool, List, [], ◌∷◌, ◌++◌, Option, Ok, Err, refl}
+use Rattle.std.proofs.Common.{◌≡◌, ℕ, Bool, List, [], ◌∷◌, ◌++◌, Option, Ok, Err}
+use Rattle.std.proofs.Common.{refl}
 use Rattle.cir_ast.specs.declared.program.Meant.{Meant}
 use Rattle.cir_ast.specs.Tree.{Accessors, done, index, member}
 use Rattle.cir_meaning.specs.Tried.{Where, Tried, next}

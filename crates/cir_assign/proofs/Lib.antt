@@ -6,15 +6,11 @@ pub mod PaidCosts
 pub mod Indexed
 pub mod Strict
 pub mod Assignments
-pub mod Creations
 pub mod Stepping
 pub mod Wires
 pub mod Targeted
 pub mod Chained
-pub mod Turns
-pub mod Opened
 pub mod Placing
-pub mod Declarations
 pub mod Equations
 pub mod Assembled
 pub mod Assigned

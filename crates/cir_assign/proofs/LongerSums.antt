@@ -1,6 +1,7 @@
 -- Sums that grow by terms behind their own, and what is taken out of a variable.
-use Rattle.std.proofs.Common.{◌≡◌, ℕ, zero, suc, ◌+◌, ◌-◌, ◌*◌, ◌%◌, ◌<◌, ◌≤◌, List, [], ◌∷◌, ◌++◌}
-use Rattle.std.proofs.Common.{length, get_or, drop, map, Some, refl, ap, sym, ◌∙◌, arith}
+use Rattle.std.proofs.Common.{◌≡◌, ℕ, zero, suc, ◌+◌, ◌-◌, ◌*◌, ◌%◌}
+use Rattle.std.proofs.Common.{◌<◌, ◌≤◌, List, [], ◌∷◌, ◌++◌, length, get_or}
+use Rattle.std.proofs.Common.{drop, map, Some, refl, ap, sym, ◌∙◌, arith}
 use Rattle.std.specs.Prelude.{slice_get, slice_set, unwrap_or}
 use Rattle.std.proofs.Math.Nat.{mod-add-mod}
 use Rattle.gold_field.specs.declared.form.Term.{Term}
@@ -25,7 +26,8 @@ value_append f g = λ i s. at s i
   where
     at : (s : Assignment) → value_of (f ++ g) s ≡ added (value_of f) (value_of g) s
     at s =
-        value-total s (f ++ g) ∙ ap (λ (n : ℕ). n % P) (total-append s.at f g) ∙ added_at f g s
+        value-total s (f ++ g) ∙ ap (λ (n : ℕ). n % P) (total-append s.at f g)
+        ∙ added_at f g s
 
 -- both constant terms as one
 constant_added : (t m : Term) (ts ms : List Term) (k : ℕ) → t.signal ≡ 0 → m.signal ≡ 0
@@ -61,14 +63,16 @@ constant_added t m ts ms k e f h = λ i s. at s i
 pub constant_joined : (terms more : List Term) (old first : Term) (k : ℕ) → 0 < length terms
     → 0 < length more → old ≡ get_or terms 0 old → first ≡ get_or more 0 first
     → old.signal ≡ 0 → first.signal ≡ 0 → k ≡ (old.coef + first.coef) % P
-    → added (value_of (slice_set terms 0 record { signal = 0; coef = k })) (value_of (drop 1 more))
+    → added (value_of (slice_set terms 0 record { signal = 0; coef = k }))
+    (value_of (drop 1 more))
     ≡ added (value_of terms) (value_of more)
 constant_joined [] more old first k a b p q e f h = absurd (omega (arith, a))
 constant_joined (t ∷ ts) [] old first k a b p q e f h = absurd (omega (arith, b))
 constant_joined (t ∷ ts) (m ∷ ms) old first k a b p q e f h =
     constant_added t m ts ms k (ap (λ (x : Term). x.signal) (sym p) ∙ e)
     (ap (λ (x : Term). x.signal) (sym q) ∙ f)
-    (h ∙ ap (λ (x : Term). (x.coef + first.coef) % P) p ∙ ap (λ (x : Term). (t.coef + x.coef) % P) q)
+    (h ∙ ap (λ (x : Term). (x.coef + first.coef) % P) p
+    ∙ ap (λ (x : Term). (t.coef + x.coef) % P) q)
 
 -- terms behind the last one
 pub behind_last : (low : ℕ) (terms more : List Term) (d first : Term) → 0 < length terms
@@ -91,7 +95,8 @@ behind_last low (t ∷ (u ∷ us)) (m ∷ ms) d first a b q l h r =
     )
 
 pub linear_at : (vs : List Datum) (n : ℕ) (d : CodeDatum) (v : CodeValue) (f : List Term)
-    → d ≡ code_datum.Number v → v ≡ code_value.Linear f → Some (datum_of d) ≡ slice_get vs n
+    → d ≡ code_datum.Number v → v ≡ code_value.Linear f
+    → Some (datum_of d) ≡ slice_get vs n
     → IsLinear (unwrap_or (slice_get vs n) (single (Known 0)))
 linear_at vs n d v f e g there = (
   value_of f,

@@ -1,6 +1,6 @@
 -- What an assignment is said to cost, and what its parts cost.
-use Rattle.std.proofs.Common.{◌≡◌, ℕ, ◌+◌, Bool, List, [], ◌∷◌, ◌++◌, Option, false, refl, ap, sym}
-use Rattle.std.proofs.Common.{subst, ◌∙◌, arith}
+use Rattle.std.proofs.Common.{◌≡◌, ℕ, ◌+◌, Bool, List, [], ◌∷◌, ◌++◌, Option}
+use Rattle.std.proofs.Common.{false, refl, ap, sym, subst, ◌∙◌, arith}
 use Rattle.std.proofs.lemmas.List.{append-nil}
 use Rattle.cir_ast.specs.declared.program.Meant.{Meant}
 use Rattle.cir_ast.specs.declared.operators.Binary.{Binary as BinaryOperator}
@@ -63,7 +63,8 @@ module _ (k : Context) (w : Where) (dark : Bool) (s : State) where
       calls_among m (root_of (inner_origin w dark root is name s.frame)) [] rest
 
 pub compound_cost : (k : Context) (w : Where) (dark : Bool) (op : CompoundOperator)
-    (a e : Expr Meant) (s : State) → cost_of k w dark (Binary (compound_of op) a (Parentheses e)) s
+    (a e : Expr Meant) (s : State)
+    → cost_of k w dark (Binary (compound_of op) a (Parentheses e)) s
     ≡ above (both (cost_of k w dark a s) (above (cost_of k w dark e s)))
 compound_cost k w dark compound.Pow a e s = refl
 compound_cost k w dark compound.ShiftLeft a e s = refl
@@ -138,8 +139,8 @@ module _ (k : Context) (w : Where) (n : ℕ) (name : List ℕ) (m : Meant)
   step_alike : (b : BinaryOperator) (written : ℕ)
       → (cost_of k w false (Binary b (Place name m accessors) (Number 1)) s
       ≡ above (both (above place) (node 1))) → written ≡ 1 + indices.nodes
-      → Alike k.program (value_by (cost_of k w false (Binary b (Place name m accessors) (Number 1))
-      s)
+      → Alike k.program
+      (value_by (cost_of k w false (Binary b (Place name m accessors) (Number 1)) s)
       (node written)) (paid (both (node 1) place) (old_reads n a))
   step_alike b written e size =
       let end : place.reads ++ [] ≡ place.reads = append-nil place.reads in

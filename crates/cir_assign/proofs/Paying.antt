@@ -1,5 +1,6 @@
 -- What an assignment to a variable costs, by what is given.
-use Rattle.std.proofs.Common.{◌≡◌, ℕ, true, false, List, [], Ok, refl, ap, sym, subst, ◌∙◌}
+use Rattle.std.proofs.Common.{◌≡◌, ℕ, true, false, List, [], Ok, refl, ap, sym, subst}
+use Rattle.std.proofs.Common.{◌∙◌}
 use Rattle.std.specs.Prelude.{if◌then◌else◌, count_by, not, slice_set}
 use Rattle.cir_ast.specs.declared.program.Meant.{Meant}
 use Rattle.cir_ast.specs.declared.program.Meant.TheVariants.{Other, Variable}
@@ -107,15 +108,16 @@ pub pays : (k : Context) (w : Where) (c d : Cost) (cost : CodeCost) (cells count
 pays k w c d cost cells count is alike same =
     (d, is, λ t. sym (stepped_alike k w c d count t alike) ∙ same t)
 
-pub sure_reads : (n : ℕ) (x : VariableAssignment) → x.reach.is_sure ≡ true → old_reads n x ≡ []
+pub sure_reads : (n : ℕ) (x : VariableAssignment) → x.reach.is_sure ≡ true
+    → old_reads n x ≡ []
 sure_reads n x h = rw h refl
 
 pub sure_cells : (n : ℕ) (x : VariableAssignment) → x.reach.is_sure ≡ true
     → new_cells n x ≡ count_by (λ v. not (is_known v)) x.value.items
 sure_cells n x h = rw h refl
 
-pub unsure_reads : (n : ℕ) (x : VariableAssignment) → x.reach.is_sure ≡ false → old_reads n x
-    ≡ unknown_at n (variable_at x.state.frame n)
+pub unsure_reads : (n : ℕ) (x : VariableAssignment) → x.reach.is_sure ≡ false
+    → old_reads n x ≡ unknown_at n (variable_at x.state.frame n)
     (numbers_from 0 (elements (variable_at x.state.frame n).dims))
 unsure_reads n x h = rw h refl
 
@@ -164,8 +166,8 @@ pub write_goes : (n : ℕ) (x : VariableAssignment) (f new : CodeFrame) (world :
           (W.written_datum (variable_at (frame_of f (counts_of world.added)) n) x.reach d);
     } → W.write_variable n x ≡ state_of new world qs
 write_goes n x f new world qs d state value write =
-    ap (λ (z : State). W.put_variable n (W.written_datum (variable_at z.frame n) x.reach x.value) z)
-    state
+    ap (λ (z : State). W.put_variable n
+    (W.written_datum (variable_at z.frame n) x.reach x.value) z) state
     ∙ ap (λ (y : Datum). W.put_variable n (W.written_datum
     (variable_at (state_of f world qs).frame n) x.reach y) (state_of f world qs)) value
     ∙ ap (λ (z : Frame). with_frame z) (sym write)

@@ -54,7 +54,8 @@ abbrev shown_by : CodePlace Meant → Placed → Given → Assign Meant
 shown_by q p g = written_by q.name p.meant p.accessors.now g
 
 -- an assignment by its place that gives so
-placed_as : (q : CodePlace Meant) (p : Placed) (g : Given) (a : Assign Meant) → a ≡ shown_by q p g
+placed_as : (q : CodePlace Meant) (p : Placed) (g : Given) (a : Assign Meant)
+    → a ≡ shown_by q p g
     → IsPlaceOf q.name p.meant p.accessors.now g → p.given ≡ g → IsPlaced a p
 placed_as q p g a written place is = record {
   name = q.name;
@@ -80,7 +81,8 @@ set_placed a q e p b h m l g is =
 pub compound_placed : (a : CodeAssign Meant) (q : CodePlace Meant) (op : CompoundOperator)
     (e : CodeExpr Meant) (p : Placed) (r : Bor (CodePlace Meant)) (b : Bor (CodeExpr Meant))
     → a ≡ assign.Compound q op e → p.meant ≡ q.meant → p.accessors.now ≡ q.accessors
-    → p.given ≡ given.Compound op r b → r.now ≡ q → b.now ≡ e → IsPlaced (bare_assign a) p
+    → p.given ≡ given.Compound op r b → r.now ≡ q → b.now ≡ e
+    → IsPlaced (bare_assign a) p
 compound_placed a q op e p r b h m l g place is =
     placed_as q p (given.Compound op r b) (bare_assign a)
     (ap bare_assign h ∙ written_at q p (m, l) (λ m acc. Compound q.name m acc op (bare e))
@@ -135,7 +137,8 @@ module _ (k : Context) (w : Where) (dark : Bool) (g : Given) (op : CompoundOpera
       ∙ strict_first k w dark Whole (compound_of op) (strict_of op).0 (bare_place r.now)
       (Parentheses (bare b.now)) s (strict_of op).1
 
-  pub compound_left : (o : Op2) (x : Value) (s1 : State) → operator_of (compound_of op) ≡ Strict o
+  pub compound_left : (o : Op2) (x : Value) (s1 : State)
+      → operator_of (compound_of op) ≡ Strict o
       → place ≡ Ok (single x, s1) → value_in k w dark Whole (given_by g) s
       ≡ next (value_in k w dark Scalar (bare b.now) s1) (λ (d, s2).
       next (divided_at w dark (result_of o x (the_item d))) (λ v. answered v s2))

@@ -1,6 +1,6 @@
 -- One more constraint.
-use Rattle.std.proofs.Common.{◌≡◌, ℕ, ◌+◌, ◌*◌, ◌++◌, List, [], ◌∷◌, Some, Vec, Global, Ok, refl}
-use Rattle.std.proofs.Common.{ap, ◌∙◌}
+use Rattle.std.proofs.Common.{◌≡◌, ℕ, ◌+◌, ◌*◌, ◌++◌, List, [], ◌∷◌, Some}
+use Rattle.std.proofs.Common.{Vec, Global, Ok, refl, ap, ◌∙◌}
 use Rattle.gold_field.specs.declared.form.Constraint.{Constraint}
 use Rattle.cir_meaning.specs.Tried.{Where}
 use Rattle.cir_meaning.specs.Compile.{group_size}

@@ -1,7 +1,8 @@
 -- What is read or called once more changes no cost.
-use Rattle.std.proofs.Common.{◌≡◌, ℕ, ◌+◌, ◌==◌, ◌||◌, ◌&&◌, Bool, true, false, cond, List, [], ◌∷◌}
-use Rattle.std.proofs.Common.{◌++◌, Option, Some, None, Ok, map, length, arith, refl, ap, sym, ◌∙◌}
-use Rattle.std.proofs.Common.{◌⊎◌, inl, inr, append_assoc}
+use Rattle.std.proofs.Common.{◌≡◌, ℕ, ◌+◌, ◌==◌, ◌||◌, ◌&&◌, Bool, true}
+use Rattle.std.proofs.Common.{false, cond, List, [], ◌∷◌, ◌++◌, Option, Some, None, Ok}
+use Rattle.std.proofs.Common.{map, length, arith, refl, ap, sym, ◌∙◌, ◌⊎◌, inl, inr}
+use Rattle.std.proofs.Common.{append_assoc}
 use Rattle.std.specs.Prelude.{if◌then◌else◌, bytes_eq, is_none, not}
 use Rattle.std.specs.List.{list_any}
 use Rattle.std.proofs.lemmas.List.{map-append}
@@ -198,7 +199,8 @@ module _ {A : Type 0} (same : A → A → Bool) (itself : (a : A) → same a a �
   none_new known (y ∷ ys) h =
       let there : list_any (same y) known ≡ true =
       elim h.0 [ inl n ↦ absurd n | inr t ↦ t ] in
-      ap (λ (b : Bool). cond b (new_ones same known ys) (y ∷ new_ones same (y ∷ known) ys)) there
+      ap (λ (b : Bool). cond b (new_ones same known ys) (y ∷ new_ones same (y ∷ known) ys))
+      there
       ∙ none_new known ys h.1
 
   held_old : (known : List A) (x : A) (xs ys : List A) → list_any (same x) known ≡ true

@@ -1,5 +1,6 @@
 -- Steps of the code, one after the other.
-use Rattle.std.proofs.Common.{◌≡◌, ◌^◌, List, Result, Ok, Err, refl, sym, subst, Bor, false}
+use Rattle.std.proofs.Common.{◌≡◌, ◌^◌, List, Result, Ok, Err, refl, sym, subst, Bor}
+use Rattle.std.proofs.Common.{false}
 use Rattle.std.specs.Prelude.{IsErrAnd}
 use Rattle.cir_ast.specs.declared.program.Spot.{Spot}
 use Rattle.gold_field.specs.declared.form.Constraint.{Constraint}
@@ -29,8 +30,8 @@ pub lists_next : (qs es fs : List Equation) (old mid new : World) → Lists qs o
 lists_next qs es fs old mid new a b = record { listed = λ s. b.listed (a.listed s) }
 
 -- what it goes on from
-pub gone_on : {A B : Type 0} (m : Tried A) (go : A → B) (b : B) → next m (λ a. Ok (go a)) ≡ Ok b
-    → (a : A) × (m ≡ Ok a) × (go a ≡ b)
+pub gone_on : {A B : Type 0} (m : Tried A) (go : A → B) (b : B)
+    → next m (λ a. Ok (go a)) ≡ Ok b → (a : A) × (m ≡ Ok a) × (go a ≡ b)
 gone_on (Ok a) go b h = (a, refl, cc)
 gone_on (Err e) go b h = absurd (cc)
 

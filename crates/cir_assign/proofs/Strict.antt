@@ -35,7 +35,8 @@ module _ (k : Context) (w : Where) (dark : Bool) (want : Want) where
       ≡ next (divided_at w dark (result_of op x y)) (λ v. answered v s2)
   strict_goes b op a e s s1 s2 x y h p q =
       strict_value b op a e s h
-      ∙ ap (λ (z : Tried (Datum × State)). scalar z (λ x s1. scalar (value_in k w dark Scalar e s1)
+      ∙ ap (λ (z : Tried (Datum × State)). scalar z
+      (λ x s1. scalar (value_in k w dark Scalar e s1)
       (λ y s2. next (divided_at w dark (result_of op x y)) (λ v. answered v s2)))) p
       ∙ ap (λ (z : Tried (Datum × State)). scalar z
       (λ y s2. next (divided_at w dark (result_of op x y)) (λ v. answered v s2))) q
@@ -49,7 +50,8 @@ module _ (k : Context) (w : Where) (dark : Bool) (want : Want) where
       next (divided_at w dark (result_of op x (the_item d))) (λ v. answered v s2))
   strict_left b op a e s s1 x h p =
       strict_value b op a e s h
-      ∙ ap (λ (z : Tried (Datum × State)). scalar z (λ x s1. scalar (value_in k w dark Scalar e s1)
+      ∙ ap (λ (z : Tried (Datum × State)). scalar z
+      (λ x s1. scalar (value_in k w dark Scalar e s1)
       (λ y s2. next (divided_at w dark (result_of op x y)) (λ v. answered v s2)))) p
 
   pub strict_first : (b : BinaryOperator) (op : Op2) (a e : Expr Meant) (s : State)

@@ -1,6 +1,6 @@
 -- The elements that are found to be written.
-use Rattle.std.proofs.Common.{◌≡◌, ℕ, Bool, true, false, List, [], ◌∷◌, Option, Some, None, Result}
-use Rattle.std.proofs.Common.{Ok, Err, refl, ap, sym, subst, ◌∙◌}
+use Rattle.std.proofs.Common.{◌≡◌, ℕ, Bool, true, false, List, [], ◌∷◌, Option, Some}
+use Rattle.std.proofs.Common.{None, Result, Ok, Err, refl, ap, sym, subst, ◌∙◌}
 use Rattle.std.specs.Prelude.{IsErrAnd, is_some}
 use Rattle.cir_ast.specs.declared.program.Meant.{Meant}
 use Rattle.cir_ast.specs.declared.program.Meant.TheVariants as meant
@@ -111,8 +111,8 @@ part_goes k w n accessors rest s after is e =
     (λ (is, (rest, s1)). W.target_at k w n is rest s1)) e
 
 -- what follows the input that is found
-abbrev pub behind : Context → Where → Accessors Meant → State → Option ℕ → ℕ → SignalEntry
-    → Tried (Target × State)
+abbrev pub behind : Context → Where → Accessors Meant → State → Option ℕ → ℕ
+    → SignalEntry → Tried (Target × State)
 behind k w rest s j i e =
     indices_in k w false [] rest s (λ inner more_rest s1.
     next (targeted w j i e inner) (λ t. Ok (t, s1)))
@@ -167,7 +167,8 @@ member_goes k w n is name inner rest s h =
 
 pub not_member : (k : Context) (w : Where) (n : ℕ) (is : List (Option ℕ))
     (rest : List (CodeAccessor Meant)) (s : State)
-    → ((name : List ℕ) (inner : List (CodeAccessor Meant)) → rest ≡ Member name ∷ inner → ⊥)
+    → ((name : List ℕ) (inner : List (CodeAccessor Meant))
+    → rest ≡ Member name ∷ inner → ⊥)
     → W.target_at k w n is (as_accessors rest) s ≡ refused w WrongKind
 not_member k w n is [] s none = refl
 not_member k w n is (Index e ∷ rest) s none = refl

@@ -1,7 +1,8 @@
 -- The elements of a signal that are written, one by one.
-use Rattle.std.proofs.Common.{◌≡◌, ℕ, zero, suc, ◌+◌, ◌-◌, ◌<◌, ◌≤◌, ◌⊎◌, inl, inr, Bool, true}
-use Rattle.std.proofs.Common.{false, cond, List, [], ◌∷◌, length, get_or, set, drop, map, Option}
-use Rattle.std.proofs.Common.{Some, None, Ok, Err, refl, ap, sym, subst, ◌∙◌, add_assoc, arith}
+use Rattle.std.proofs.Common.{◌≡◌, ℕ, zero, suc, ◌+◌, ◌-◌, ◌<◌, ◌≤◌}
+use Rattle.std.proofs.Common.{◌⊎◌, inl, inr, Bool, true, false, cond, List, [], ◌∷◌}
+use Rattle.std.proofs.Common.{length, get_or, set, drop, map, Option, Some, None, Ok, Err, refl, ap}
+use Rattle.std.proofs.Common.{sym, subst, ◌∙◌, add_assoc, arith}
 use Rattle.std.specs.Prelude.{slice_get, unwrap_or, not}
 use Rattle.std.proofs.lemmas.List.{drop_all, drop_more, drop-set-lt}
 use Rattle.cir_ast.specs.declared.operators.Arrow.{Arrow}
@@ -38,7 +39,8 @@ use Rattle.cir_assign.proofs.Stepping.{gone_on, next_next}
 use Rattle.cir_arrays.proofs.Exits.{exits}
 
 -- one element, written and constrained
-abbrev pub element : Context → Where → Arrow → Target → ℕ → Value → State → Tried State
+abbrev pub element : Context → Where → Arrow → Target → ℕ → Value → State
+    → Tried State
 element k w arrow t place v s =
     next (write_element w t place s) (λ (e, s1). constrained_by k w arrow
     (Linear (signal (e.first + place))) v s1)
@@ -75,8 +77,8 @@ element_written k w t place v s after e h =
 
 pub element_constrained : (k : Context) (w : Where) (t : Target) (place : ℕ) (v : Value)
     (s after : State) (e : SignalEntry) (first number : ℕ) (f : Number)
-    → write_element w t place s ≡ Ok (e, after) → e.first ≡ first → number ≡ first + place
-    → f ≡ signal number
+    → write_element w t place s ≡ Ok (e, after) → e.first ≡ first
+    → number ≡ first + place → f ≡ signal number
     → element k w ConstrainArrow t place v s ≡ constrained k w (Linear f) v after
 element_constrained k w t place v s after e first number f h a b is =
     let same : e.first + place ≡ number = ap (λ (n : ℕ). n + place) a ∙ sym b in
@@ -272,7 +274,8 @@ wires_begin k w arrow t first count vs s =
     let a : first ≡ first + 0 = omega arith in
     let b : count ≡ count - 0 = omega arith in
     ap (λ (n : ℕ). write_elements k w arrow t (numbers_from n count) (map meant vs) s) a
-    ∙ ap (λ (n : ℕ). write_elements k w arrow t (numbers_from (first + 0) n) (map meant vs) s) b
+    ∙ ap (λ (n : ℕ). write_elements k w arrow t
+    (numbers_from (first + 0) n) (map meant vs) s) b
 
 module _ (k : Context) (w : Where) (arrow : Arrow) (t : Target) (first at count place : ℕ)
     (vs : List CodeValue) (v : CodeValue) (whole : Tried State) (s : State) where
@@ -292,7 +295,8 @@ module _ (k : Context) (w : Where) (arrow : Arrow) (t : Target) (first at count 
       (numbers_from (first + (at + 1)) (count - (at + 1))) (map meant (drop (at + 1) vs)))) same
 
   pub wires_step : (others : List CodeValue) (x : CodeValue) (after : State) → at < count
-      → at < length vs → others ≡ set vs at x → place ≡ first + at → v ≡ get_or vs at v
+      → at < length vs → others ≡ set vs at x → place ≡ first + at
+      → v ≡ get_or vs at v
       → whole ≡ write_elements k w arrow t (numbers_from (first + at) (count - at))
       (map meant (drop at vs)) s
       → element k w arrow t place (meant v) s ≡ Ok after

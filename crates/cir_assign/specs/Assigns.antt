@@ -22,8 +22,8 @@ use Rattle.cir_assign.specs.declared.assigning.Given.TheVariants as given
 use Rattle.cir_assign.specs.Grows.{IsNew, IsWritten}
 
 -- as in the meaning, also where it is only scanned
-abbrev pub assignment_in : Context → Where → (shaded : Bool) → ℕ → Accessors Meant → Expr Meant
-    → State → Tried VariableAssignment
+abbrev pub assignment_in : Context → Where → (shaded : Bool) → ℕ → Accessors Meant
+    → Expr Meant → State → Tried VariableAssignment
 assignment_in k w shaded n accessors e s =
     next (value_in k w shaded Whole e s) (λ (d, s1). indices_in k w shaded [] accessors s1
     (λ indices rest s2.
@@ -39,13 +39,15 @@ pub record IsAssignment (n : ℕ) (s : State) (a : Assignment) (x : VariableAssi
   pub indices : List (Option ℕ)
   pub reach : IsReach (variable_at s.frame n).dims indices a.reach x.reach
 
-abbrev pub Assigns : ℕ → State → Result Assignment Fault → Tried VariableAssignment → Type 0
+abbrev pub Assigns : ℕ → State → Result Assignment Fault → Tried VariableAssignment
+    → Type 0
 Assigns n s (Ok a) m = (x : VariableAssignment) × (m ≡ Ok x) × IsAssignment n s a x
 Assigns n s (Err f) m = IsRefusal f m
 
 -- the nodes of an assignment, as it is written, and what it reads; a new value that is made of the
 -- old one reads it at the place that is written
-abbrev pub assigned_cost : Context → Where → Bool → Accessors Meant → Given → State → Cost
+abbrev pub assigned_cost : Context → Where → Bool → Accessors Meant → Given
+    → State → Cost
 assigned_cost k w dark accessors (given.Plain e) s =
     both (node 1) (both (cost_of k w dark (bare e.now) s) (indices_cost k w dark accessors s))
 assigned_cost k w dark accessors (given.Compound op place e) s =

@@ -1,5 +1,6 @@
 -- Which elements of a signal are found to be written.
-use Rattle.std.specs.Prelude.{◌≡◌, ℕ, true, List, ◌∷◌, is_some, Option, Some, None, Result, Ok, Err}
+use Rattle.std.specs.Prelude.{◌≡◌, ℕ, true, List, ◌∷◌, is_some, Option, Some, None}
+use Rattle.std.specs.Prelude.{Result, Ok, Err}
 use Rattle.std.proofs.Common.{Bor}
 use Rattle.cir_ast.specs.declared.program.Meant.{Meant}
 use Rattle.cir_ast.specs.declared.marked.Accessor.{Accessor}
@@ -14,8 +15,8 @@ use Rattle.cir_arrays.specs.Stopped.{IsRefusal}
 use Rattle.cir_frame.specs.Targets.{IsTarget}
 
 -- a member comes first, or none does
-abbrev pub IsMember : List (Accessor Meant) → Option (Bor (List ℕ) × Bor (List (Accessor Meant)))
-    → Type 0
+abbrev pub IsMember : List (Accessor Meant)
+    → Option (Bor (List ℕ) × Bor (List (Accessor Meant))) → Type 0
 IsMember rest (Some m) = rest ≡ Member m.0.now ∷ m.1.now
 IsMember rest None =
     (name : List ℕ) (inner : List (Accessor Meant)) → rest ≡ Member name ∷ inner → ⊥

@@ -20,7 +20,8 @@ given_by (given.Increment place) = Binary binary.Add (bare_place place.now) (Num
 given_by (given.Decrement place) = Binary binary.Sub (bare_place place.now) (Number 1)
 
 -- the assignment as it is written
-abbrev pub written_by : (name : List ℕ) → Meant → List (Accessor Meant) → Given → Assign Meant
+abbrev pub written_by : (name : List ℕ) → Meant → List (Accessor Meant) → Given
+    → Assign Meant
 written_by name m accessors (given.Plain e) = Set name m (as_accessors accessors) (bare e.now)
 written_by name m accessors (given.Compound op place e) =
     Compound name m (as_accessors accessors) op (bare e.now)

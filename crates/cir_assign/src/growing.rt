@@ -96,7 +96,8 @@ pub fn new_value<C: Fn(Spot, u32, Vec<Datum>, &mut World) -> Result<Datum, Fault
 }
 
 fn is_linear(n: u32, frame: &Frame) -> bool
-    ensures { result ≡ true → (c : AnyCounts) → IsLinear (variable_at (frame_of frame.now c) n) }
+    ensures { result ≡ true → (c : AnyCounts)
+        → IsLinear (variable_at (frame_of frame.now c) n) }
 {
     match frame.variable(n) {
         Some(Datum::Number(Value::Linear(_))) => true,

@@ -40,7 +40,8 @@ fn recorded(alloc: Global, q: &Quad, world: &mut World) -> Result<(), Fault>
     ensures equation { (k : M.Context) (w : Where) (x y : AnyValue) (f : AnyFrame)
         (qs : List Equation) → k.group_size ≡ group_size
         → parts_of (difference_of x y) ≡ Some (parts_from q.now)
-        → Leads qs world.old f world.new result (W.constrained k w x y (state_of f world.old qs)) }
+        → Leads qs world.old f world.new result
+        (W.constrained k w x y (state_of f world.old qs)) }
     ensures world { (qs : List Equation) → world_of world.new qs ≡ world_of world.old qs }
 {
     let constraint = normal(alloc, q)?;

@@ -1,6 +1,6 @@
 //! The terms of a constraint.
-ghost use Rattle.std.specs.Prelude.{◌≡◌, ℕ, ◌+◌, ◌*◌, ◌^◌, ◌<◌, false, length, filter, nat_lt};
-ghost use Rattle.std.specs.Prelude.{IfOk};
+ghost use Rattle.std.specs.Prelude.{◌≡◌, ℕ, ◌+◌, ◌*◌, ◌^◌, ◌<◌, false};
+ghost use Rattle.std.specs.Prelude.{length, filter, nat_lt, IfOk};
 ghost use Rattle.gold_field.specs.declared.gold.TheConstants.{P};
 ghost use Rattle.gold_field.specs.Rises.{RisesFrom};
 ghost use Rattle.cir_lc.specs.Terms.{IsWithin};

@@ -1,5 +1,6 @@
 //! Assignments to signals: elements are written once, and may be constrained.
-ghost use Rattle.std.specs.Prelude.{◌≡◌, ◌+◌, ℕ, List, drop, map, false, IfOk, Ok, OnOk};
+ghost use Rattle.std.specs.Prelude.{◌≡◌, ◌+◌, ℕ, List, drop, map, false, IfOk};
+ghost use Rattle.std.specs.Prelude.{Ok, OnOk};
 ghost use Rattle.cir_ast.specs.Tree.{as_accessors, bare, Left as LeftAssign};
 ghost use Rattle.cir_values.specs.Meant.{meant};
 ghost use Rattle.cir_lc.specs.Number.{signal};

@@ -31,7 +31,7 @@ use Rattle.cir_frame.specs.Shown.{signals_of, state_of, world_of}
 use Rattle.cir_evaluate.specs.declared.context.Context.{Context as CodeContext}
 use Rattle.cir_evaluate.specs.Within.{Called, Kept, Means, at_spot, context_of, kept_of}
 use Rattle.cir_assign.specs.Leads.{IsListed}
-use Rattle.cir_assign.specs.Makes.{Creates}
+use Rattle.cir_create.specs.Makes.{Creates}
 use Rattle.cir_inst.proofs.Mains.{main_goes, opening, same_added, world_made}
 use Rattle.cir_inst.proofs.Openings.{Answers, calls_mean}
 use Rattle.cir_inst.specs.Made.{Makes}

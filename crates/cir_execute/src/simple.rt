@@ -12,15 +12,14 @@ ghost use Rattle.cir_lift.specs.Lifts.{IsLifted};
 ghost use Rattle.cir_lift.specs.Turned.{turned};
 ghost use Rattle.cir_evaluate.specs.Within.{Means, at_spot, context_at, where_at};
 ghost use Rattle.cir_assign.specs.Leads.{Leads};
-ghost use Rattle.cir_assign.specs.Makes.{BodyMeans, context_in};
+ghost use Rattle.cir_create.specs.Makes.{BodyMeans, context_in};
 ghost use Rattle.cir_execute.specs.Turned.{turned_all};
 
 use cir_arrays::{Datum, Fault};
-use cir_assign::{
-    Body, Wiring, components, created, equal, placed_of, set, set_signal, signals, variables,
-};
+use cir_assign::{Wiring, equal, placed_of, set_signal};
 use cir_ast::Kind;
 use cir_ast::program::{Arrow, Assign, Components, Expr, Simple, Slot, Source, Spot, Target, Vars};
+use cir_create::{Body, components, created, set, signals, variables};
 use cir_evaluate::{Here, datum};
 use cir_frame::{Frame, SignalEntry, World};
 use cir_lift::{Lifted, assign_holds, holds, lift_assign, lift_simple};

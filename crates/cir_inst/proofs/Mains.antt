@@ -36,7 +36,7 @@ use Rattle.cir_arrays.proofs.Exits.{exits}
 use Rattle.cir_evaluate.specs.declared.context.Context.{Context as CodeContext}
 use Rattle.cir_evaluate.specs.Within.{Called, Kept, Means, at_spot, context_of, kept_of}
 use Rattle.cir_assign.specs.Leads.{IsListed}
-use Rattle.cir_assign.specs.Makes.{Creates}
+use Rattle.cir_create.specs.Makes.{Creates}
 use Rattle.cir_inst.specs.Made.{Makes}
 use Rattle.cir_inst.specs.Opened.{template_made}
 use Rattle.cir_inst.proofs.Openings.{Answers, calls_mean}

@@ -43,9 +43,9 @@ use Rattle.cir_frame.specs.Shown.{frame_of, signals_of, state_of, world_of}
 use Rattle.cir_arrays.proofs.Exits.{exits}
 use Rattle.cir_evaluate.specs.declared.context.Context.{Context as CodeContext}
 use Rattle.cir_evaluate.specs.Within.{Called, Means, at_spot, context_of, kept_of}
-use Rattle.cir_assign.specs.declared.body.Body.{Body}
+use Rattle.cir_create.specs.declared.body.Body.{Body}
 use Rattle.cir_assign.specs.Leads.{Lists}
-use Rattle.cir_assign.specs.Makes.{BodyMeans, Creates, Creating, Made, context_in}
+use Rattle.cir_create.specs.Makes.{BodyMeans, Creates, Creating, Made, context_in}
 use Rattle.cir_execute.specs.declared.statement.Flow.{Flow}
 use Rattle.cir_execute.specs.declared.statement.Flow.TheVariants as flow
 use Rattle.cir_execute.specs.Flows.{Flows}

@@ -17,13 +17,13 @@ ghost use Rattle.cir_arrays.specs.Stopped.{Gives, where_of};
 ghost use Rattle.cir_arrays.specs.Shown.{datum_of};
 ghost use Rattle.cir_frame.specs.Shown.{group_by, part_of, signals_of, world_of};
 ghost use Rattle.cir_evaluate.specs.Within.{context_of, kept_of};
-ghost use Rattle.cir_assign.specs.Makes.{BodyMeans, Creates, context_in};
+ghost use Rattle.cir_create.specs.Makes.{BodyMeans, Creates, context_in};
 ghost use Rattle.cir_inst.specs.Opened.{function_answer, maker_of, template_made};
 
 use cir_arrays::{Counts, Datum, Fault, Site};
-use cir_assign::Body;
 use cir_ast::program::{Function, Program, Spot, Template};
 use cir_ast::{Kind, Text};
+use cir_create::Body;
 use cir_declare::{Room, begun};
 use cir_evaluate::Context;
 use cir_execute::{Flow, execute_all};

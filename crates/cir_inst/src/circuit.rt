@@ -15,7 +15,7 @@ ghost use Rattle.cir_arrays.specs.Shown.{datum_of};
 ghost use Rattle.cir_arrays.specs.Stopped.{Gives, refused_of};
 ghost use Rattle.cir_frame.specs.Shown.{frame_of, world_of};
 ghost use Rattle.cir_evaluate.specs.Within.{Means, at_spot, context_of, kept_of};
-ghost use Rattle.cir_assign.specs.Makes.{Creates};
+ghost use Rattle.cir_create.specs.Makes.{Creates};
 ghost use Rattle.cir_inst.specs.Compiled.{Instantiates, IsCircuitOf, IsWithinLimits};
 ghost use Rattle.cir_inst.specs.Made.{Compiles, IsMade, Makes, Shows};
 

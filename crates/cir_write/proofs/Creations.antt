@@ -17,13 +17,13 @@ use Rattle.cir_arrays.proofs.Exits.{exits}
 use Rattle.cir_frame.specs.declared.world.World.{World}
 use Rattle.cir_frame.specs.Shown.{state_of}
 use Rattle.cir_evaluate.specs.Within.{Kept, kept_of}
-use Rattle.cir_assign.proofs.Opened.{making}
+use Rattle.cir_create.proofs.Opened.{making}
 use Rattle.cir_assign.specs.Leads.{IsListed}
 use Rattle.cir_meaning.specs.Arrays.{Datum}
 use Rattle.cir_arrays.specs.declared.stop.Fault.TheVariants.{OutOfMemory, Refused}
 use Rattle.cir_arrays.specs.Shown.{datum_of}
-use Rattle.cir_assign.specs.Declares.{IsCreation}
-use Rattle.cir_assign.specs.declared.creating.Creation.{Creation as CodeCreation}
+use Rattle.cir_create.specs.Declares.{IsCreation}
+use Rattle.cir_create.specs.declared.creating.Creation.{Creation as CodeCreation}
 use Rattle.cir_steps.specs.Emission.{Emission, Emitted, behind, known_in, quiet}
 use Rattle.cir_steps.specs.Making.{Cast as AnyCast, Emitting, freed_at, with_cast}
 use Rattle.cir_steps.specs.Step.{Step}

@@ -13,8 +13,8 @@ ghost use Rattle.cir_make.specs.Means.{BodyMeans, emitting_in};
 ghost use Rattle.cir_make.specs.Shows.{SameBody, Shows};
 
 use cir_arrays::{Datum, Fault};
-use cir_assign::declared_number;
 use cir_ast::program::{DeclaredComponent, Spot};
+use cir_create::declared_number;
 use cir_declare::declare_component;
 use cir_evaluate::{Here, dims_in};
 use cir_frame::{Frame, World};

@@ -14,8 +14,9 @@ ghost use Rattle.cir_make.specs.Shows.{Shows};
 
 use crate::setting::set;
 use cir_arrays::{Datum, Fault, Filling};
-use cir_assign::{Given, Placed, declared_number};
+use cir_assign::{Given, Placed};
 use cir_ast::program::{DeclaredVariable, Spot};
+use cir_create::declared_number;
 use cir_declare::declare_variable;
 use cir_evaluate::{Here, dims_in};
 use cir_frame::{Frame, World};

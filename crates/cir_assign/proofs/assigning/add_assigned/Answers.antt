@@ -55,7 +55,8 @@ returns-in_ok-add-in-Compound-clause-cost g c = λ m qs.
 
 pub returns-in_ok-add-in-Compound-clause-same : goal.returns-in_ok-add-in-Compound-clause-same
 returns-in_ok-add-in-Compound-clause-same g c = λ m f qs.
-    c.in_ok-add-in-Compound.ensures.same m f qs ∙ c.in_ok-add_place-in-Compound.ensures.same m f qs
+    c.in_ok-add-in-Compound.ensures.same m f qs
+    ∙ c.in_ok-add_place-in-Compound.ensures.same m f qs
 
 pub returns-in_ok-add_place-in-Increment-clause-cost :
     goal.returns-in_ok-add_place-in-Increment-clause-cost

@@ -88,4 +88,5 @@ returns-clause-pays g c = λ m name qs s x shaded place is counted.
     pays k w cost (paid (assigned_cost k w false accessors given s) (old_reads n x))
     c.read_variable.new.self (new_cells n x) c.elements-cells.result total
     (variable_alike k w n name c.args.accessors.now x s given place)
-    (λ t. ap (λ (j : ℕ). stepped k w cost j t) cells ∙ stepped_standing k w cost (new_cells n x) t)
+    (λ t. ap (λ (j : ℕ). stepped k w cost j t) cells
+    ∙ stepped_standing k w cost (new_cells n x) t)

@@ -11,4 +11,5 @@ returns-then-n-len-clause-rest c = λ k d.
 
 pub returns-clause-number : goal.returns-clause-number
 returns-clause-number c = λ k.
-    none_at c.args.frame.now.variables.items c.args.n (omega (arith, c.if-n-len.false, c.len.ensures))
+    none_at c.args.frame.now.variables.items c.args.n
+    (omega (arith, c.if-n-len.false, c.len.ensures))

@@ -1,4 +1,5 @@
-use Rattle.std.proofs.Common.{◌≡◌, ◌∙◌, ap, sym, subst, refl, arith, ℕ, List, true, Ok}
+use Rattle.std.proofs.Common.{◌≡◌, ◌∙◌, ap, sym, subst, refl, arith, ℕ, List, true}
+use Rattle.std.proofs.Common.{Ok}
 use Rattle.cir_ast.specs.Tree.{Left, as_accessors, bare}
 use Rattle.cir_meaning.specs.Arrays.{same_dims}
 use Rattle.cir_meaning.specs.Frame.{State}
@@ -114,7 +115,12 @@ returns g c = λ m name qs s s1 x shaded p q found uncounts.
     (state_of f w2 qs) s uncounts)
     (c.in_ok-cost.ensures.cost m name qs shaded) in
     let some : (run_of c.args.target.now.reach.part).1 ≡ 0 → ⊥ =
-    λ z. omega (arith, c.if-count-eq0.false, ap (λ (r : ℕ × ℕ). r.1) c.run-count.ensures, z) in
+    λ z. omega (
+      arith,
+      c.if-count-eq0.false,
+      ap (λ (r : ℕ × ℕ). r.1) c.run-count.ensures,
+      z,
+    ) in
     leads_behind qs w2 w3 h c.stepped.new.world c.stepped.result _ _ goes
     (ap (λ (x : Kept). x.constraints) (c.in_ok-cost.ensures.keeps m))
     (leads_next qs w3 w4 h h c.stepped.new.world c.stepped.result _ _

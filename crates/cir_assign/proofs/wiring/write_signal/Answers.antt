@@ -1,4 +1,5 @@
-use Rattle.std.proofs.Common.{◌≡◌, ◌∙◌, ap, sym, subst, refl, arith, ℕ, List, [], ◌∷◌, Ok}
+use Rattle.std.proofs.Common.{◌≡◌, ◌∙◌, ap, sym, subst, refl, arith, ℕ, List, []}
+use Rattle.std.proofs.Common.{◌∷◌, Ok}
 use Rattle.cir_values.specs.Meant.{meant}
 use Rattle.cir_meaning.specs.Source.{Equation}
 use Rattle.cir_meaning.specs.Writing.{write_elements}
@@ -33,7 +34,8 @@ returns-then-count-gt0 g c = λ k x qs size found.
     vs s)) (ap contents_of (sym c.in-Number.is) ∙ c.into_contents.ensures)
     (leads_as qs c.args.world.now c.wire.new.frame c.wire.new.world c.wire.result _ _
     (run_places k (where_at c.args.here.now) c.args.arrow c.args.target.now x
-    (meant c.in-Number.v ∷ []) s c.args.frame.now (counts_of c.args.world.now.added) refl found _ _
+    (meant c.in-Number.v ∷ []) s c.args.frame.now (counts_of c.args.world.now.added) refl
+    found _ _
     c.run-first.result c.run-first.ensures refl refl
     ∙ wires_one k (where_at c.args.here.now) c.args.arrow (target_by c.args.target.now x.reach)
     _ _ (meant c.in-Number.v) s c.if-count-gt0.true)
@@ -43,7 +45,8 @@ pub returns-else-count-gt0 : goal.returns-else-count-gt0
 returns-else-count-gt0 g c = λ k x qs size found.
     let s = state_of c.args.frame.now c.args.world.now qs in
     let none : (run_of c.args.target.now.reach.part).1 ≡ 0 =
-    sym (ap (λ (r : ℕ × ℕ). r.1) c.run-first.ensures) ∙ omega (arith, c.if-count-gt0.false) in
+    sym (ap (λ (r : ℕ × ℕ). r.1) c.run-first.ensures)
+    ∙ omega (arith, c.if-count-gt0.false) in
     subst (λ vs. (es : List Equation) × (write_elements k (where_at c.args.here.now) c.args.arrow
     x x.reach.places vs s ≡ Ok (state_of c.args.frame.now c.args.world.now es))
     × Lists qs c.args.world.now es c.args.world.now)

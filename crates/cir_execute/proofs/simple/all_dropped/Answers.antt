@@ -2,7 +2,7 @@ use Rattle.std.proofs.Common.{refl}
 use Rattle.cir_ast.specs.Tree.{bare}
 use Rattle.cir_meaning.specs.Simple.{dropped}
 use Rattle.cir_evaluate.specs.Within.{context_at, where_at}
-use Rattle.cir_assign.proofs.Turns.{turn_goes, turn_refused, turns_end}
+use Rattle.cir_create.proofs.Turns.{turn_goes, turn_refused, turns_end}
 use Rattle.cir_execute.proofs.simple.all_dropped.Goals as goal
 
 pub loop-e-init : goal.loop-e-init

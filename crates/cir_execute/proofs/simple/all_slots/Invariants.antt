@@ -5,7 +5,7 @@ use Rattle.cir_meaning.specs.Source.{Equation}
 use Rattle.cir_meaning.specs.Simple as S
 use Rattle.cir_frame.specs.Shown.{state_of}
 use Rattle.cir_evaluate.specs.Within.{Means, context_at, where_at}
-use Rattle.cir_assign.proofs.Turns.{Left}
+use Rattle.cir_create.proofs.Turns.{Left}
 use Rattle.cir_execute.proofs.Tuples.{slots_from}
 use Rattle.cir_execute.proofs.simple.all_slots.Given as goal
 

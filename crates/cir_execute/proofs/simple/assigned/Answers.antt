@@ -5,7 +5,7 @@ use Rattle.cir_ast.proofs.Rows.{accessors_are}
 use Rattle.cir_meaning.specs.Simple as S
 use Rattle.cir_frame.specs.Shown.{state_of}
 use Rattle.cir_evaluate.specs.Within.{at_spot}
-use Rattle.cir_assign.specs.Makes.{context_in}
+use Rattle.cir_create.specs.Makes.{context_in}
 use Rattle.cir_assign.proofs.Stepping.{leads_as}
 use Rattle.cir_execute.proofs.Scanning.{assign_placed}
 use Rattle.cir_execute.proofs.simple.assigned.Goals as goal

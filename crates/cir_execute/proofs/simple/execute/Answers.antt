@@ -9,7 +9,7 @@ use Rattle.cir_meaning.specs.Simple as S
 use Rattle.cir_frame.specs.Shown.{state_of}
 use Rattle.cir_evaluate.specs.Within.{at_spot}
 use Rattle.cir_lift.specs.Turned.{turned}
-use Rattle.cir_assign.specs.Makes.{context_in}
+use Rattle.cir_create.specs.Makes.{context_in}
 use Rattle.cir_assign.proofs.Stepping.{leads_as}
 use Rattle.cir_execute.proofs.Tuples.{tuple_of}
 use Rattle.cir_execute.proofs.simple.execute.Goals as goal

@@ -4,9 +4,9 @@ use Rattle.cir_meaning.specs.Simple.{execute_counted}
 use Rattle.cir_frame.specs.Shown.{state_of}
 use Rattle.cir_arrays.proofs.Exits.{exits}
 use Rattle.cir_lift.specs.Turned.{turned}
-use Rattle.cir_assign.specs.Makes.{context_in}
+use Rattle.cir_create.specs.Makes.{context_in}
 use Rattle.cir_assign.proofs.Stepping.{leads_as, leads_exit, leads_next}
-use Rattle.cir_assign.proofs.Turns.{turn_goes, turns_end}
+use Rattle.cir_create.proofs.Turns.{turn_goes, turns_end}
 use Rattle.cir_execute.proofs.Going.{refusal}
 use Rattle.cir_execute.proofs.Scanning.{each_first}
 use Rattle.cir_execute.proofs.Lifting.{lifted_by}

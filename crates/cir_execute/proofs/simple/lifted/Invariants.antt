@@ -5,8 +5,8 @@ use Rattle.cir_meaning.specs.Source.{Equation}
 use Rattle.cir_meaning.specs.Simple.{each, execute_counted}
 use Rattle.cir_frame.specs.Shown.{state_of}
 use Rattle.cir_lift.specs.Turned.{turned}
-use Rattle.cir_assign.specs.Makes.{BodyMeans, context_in}
-use Rattle.cir_assign.proofs.Turns.{Left}
+use Rattle.cir_create.specs.Makes.{BodyMeans, context_in}
+use Rattle.cir_create.proofs.Turns.{Left}
 use Rattle.cir_execute.proofs.simple.lifted.Given as goal
 
 abbrev pub invariant-loop-before : goal.invariant-loop-before

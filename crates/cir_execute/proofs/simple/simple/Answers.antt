@@ -3,7 +3,7 @@ use Rattle.cir_ast.specs.Tree.{bare_simple}
 use Rattle.cir_ast.specs.Program.{bare_program}
 use Rattle.cir_meaning.specs.Anonymous.{lift_simple}
 use Rattle.cir_frame.specs.Shown.{state_of}
-use Rattle.cir_assign.specs.Makes.{context_in}
+use Rattle.cir_create.specs.Makes.{context_in}
 use Rattle.cir_assign.proofs.Stepping.{leads_as}
 use Rattle.cir_execute.proofs.Lifting.{lifting_is}
 use Rattle.cir_execute.proofs.simple.simple.Goals as goal

@@ -3,7 +3,7 @@ use Rattle.cir_ast.specs.Tree.{Assigned, bare_assign}
 use Rattle.cir_ast.specs.Program.{bare_program}
 use Rattle.cir_meaning.specs.Anonymous.{lift_simple}
 use Rattle.cir_frame.specs.Shown.{state_of}
-use Rattle.cir_assign.specs.Makes.{context_in}
+use Rattle.cir_create.specs.Makes.{context_in}
 use Rattle.cir_assign.proofs.Stepping.{leads_as, leads_exit, leads_next}
 use Rattle.cir_execute.proofs.Going.{counted_leads}
 use Rattle.cir_execute.proofs.Lifting.{assign_plain, lifting_is}

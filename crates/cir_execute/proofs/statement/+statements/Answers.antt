@@ -8,7 +8,7 @@ use Rattle.cir_meaning.specs.Unknown.{fault_of}
 use Rattle.cir_meaning.specs.Scan.{undecided}
 use Rattle.cir_meaning.specs.Statement.{Flow, Going, exec, exec_all, goes, most_turns, turns}
 use Rattle.cir_frame.specs.Shown.{state_of}
-use Rattle.cir_assign.specs.Makes.{context_in}
+use Rattle.cir_create.specs.Makes.{context_in}
 use Rattle.cir_assign.proofs.Stepping.{lists_kept}
 use Rattle.cir_execute.specs.declared.statement.Flow.TheVariants as flow
 use Rattle.cir_execute.specs.Rests.{turn_of}

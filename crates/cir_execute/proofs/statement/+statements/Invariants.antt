@@ -3,7 +3,7 @@ use Rattle.cir_ast.specs.Tree.{bare, bare_statement}
 use Rattle.cir_meaning.specs.Source.{Equation}
 use Rattle.cir_meaning.specs.Statement.{most_turns, turns}
 use Rattle.cir_frame.specs.Shown.{state_of}
-use Rattle.cir_assign.specs.Makes.{BodyMeans, context_in}
+use Rattle.cir_create.specs.Makes.{BodyMeans, context_in}
 use Rattle.cir_execute.specs.Rests.{turn_of}
 use Rattle.cir_execute.proofs.Branching.{Rests, TurnsLeft, all_from}
 use Rattle.cir_execute.proofs.Flowing.{unknown_by}

@@ -3,7 +3,7 @@ use Rattle.cir_ast.specs.Tree.{bare_first}
 use Rattle.cir_meaning.specs.Simple.{simple}
 use Rattle.cir_meaning.specs.Statement.{first_simple}
 use Rattle.cir_frame.specs.Shown.{state_of}
-use Rattle.cir_assign.specs.Makes.{context_in}
+use Rattle.cir_create.specs.Makes.{context_in}
 use Rattle.cir_assign.proofs.Stepping.{leads_as}
 use Rattle.cir_execute.proofs.statement.first_statement.Goals as goal
 

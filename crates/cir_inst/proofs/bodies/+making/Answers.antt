@@ -14,7 +14,7 @@ use Rattle.cir_arrays.specs.Stopped.{where_of}
 use Rattle.cir_arrays.specs.Shown.{datum_of}
 use Rattle.cir_frame.specs.Shown.{group_by, world_of}
 use Rattle.cir_evaluate.specs.Within.{context_of}
-use Rattle.cir_assign.specs.Makes.{Creates}
+use Rattle.cir_create.specs.Makes.{Creates}
 use Rattle.cir_inst.specs.declared.bodies.Opening.{Opening}
 use Rattle.cir_inst.specs.Opened.{template_made}
 use Rattle.cir_inst.proofs.Openings.{all_open, made_found, template_ran, exit_creates}

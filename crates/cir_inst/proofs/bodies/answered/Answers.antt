@@ -4,7 +4,7 @@ use Rattle.cir_arrays.specs.Counted.{counts_of}
 use Rattle.cir_arrays.specs.Shown.{datum_of}
 use Rattle.cir_frame.specs.Shown.{world_of}
 use Rattle.cir_arrays.proofs.Exits.{exit_gives}
-use Rattle.cir_assign.specs.Makes.{context_in}
+use Rattle.cir_create.specs.Makes.{context_in}
 use Rattle.cir_inst.proofs.Openings.{body_answers}
 use Rattle.cir_inst.proofs.bodies.answered.Goals as goal
 

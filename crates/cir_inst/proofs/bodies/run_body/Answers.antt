@@ -8,7 +8,7 @@ use Rattle.cir_arrays.specs.Stopped.{IsRefusal}
 use Rattle.cir_arrays.specs.Shown.{datum_of}
 use Rattle.cir_frame.specs.Shown.{state_of}
 use Rattle.cir_arrays.proofs.Exits.{exits}
-use Rattle.cir_assign.specs.Makes.{Creates, context_in}
+use Rattle.cir_create.specs.Makes.{Creates, context_in}
 use Rattle.cir_inst.proofs.Openings.{body_begins, body_going, body_returned, exit_creates}
 use Rattle.cir_inst.proofs.bodies.run_body.Goals as goal
 

@@ -9,7 +9,7 @@ use Rattle.cir_meaning.specs.Compile.{group_size, main_group}
 use Rattle.cir_arrays.specs.Shown.{datum_of}
 use Rattle.cir_frame.specs.Shown.{world_of}
 use Rattle.cir_evaluate.specs.Within.{at_spot}
-use Rattle.cir_assign.specs.Makes.{Creates}
+use Rattle.cir_create.specs.Makes.{Creates}
 use Rattle.cir_inst.specs.Opened.{template_made}
 use Rattle.cir_inst.proofs.Mains.{opening_found}
 use Rattle.cir_inst.proofs.circuit.open_main.Goals as goal

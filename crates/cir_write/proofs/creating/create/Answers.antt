@@ -4,8 +4,8 @@ use Rattle.cir_arrays.specs.Shown.{datum_of}
 use Rattle.cir_frame.specs.Shown.{state_of}
 use Rattle.cir_evaluate.specs.Within.{at_spot}
 use Rattle.cir_evaluate.proofs.Steps.{refusal}
-use Rattle.cir_assign.proofs.Creations.{arguments_go, arguments_refused, placed_goes}
-use Rattle.cir_assign.proofs.Creations.{placed_refused}
+use Rattle.cir_create.proofs.Creations.{arguments_go, arguments_refused, placed_goes}
+use Rattle.cir_create.proofs.Creations.{placed_refused}
 use Rattle.cir_make.specs.Means.{emitting_in}
 use Rattle.cir_make.specs.Shows.{equations_in}
 use Rattle.cir_write.proofs.Creations.{created_emits, created_stops, evaluated_listed}

@@ -6,8 +6,8 @@ use Rattle.cir_frame.specs.Shown.{component_of, signals_of, state_of}
 use Rattle.cir_evaluate.proofs.Steps.{refusal}
 use Rattle.cir_evaluate.specs.Within.{at_spot}
 use Rattle.cir_make.specs.Means.{emitting_in}
-use Rattle.cir_assign.proofs.Opened.{is_made, made_goes, mixed, part_found, part_put, second_write}
-use Rattle.cir_assign.proofs.Opened.{template_found, too_deep}
+use Rattle.cir_create.proofs.Opened.{is_made, made_goes, mixed, part_found, part_put, second_write}
+use Rattle.cir_create.proofs.Opened.{template_found, too_deep}
 use Rattle.cir_meaning.specs.Frame.{Frame}
 use Rattle.cir_arrays.specs.Shown.{datum_of}
 use Rattle.cir_steps.specs.Making.{freed_at, with_cast}

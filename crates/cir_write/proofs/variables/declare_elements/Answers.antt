@@ -5,7 +5,7 @@ use Rattle.cir_meaning.specs.Frame.{State}
 use Rattle.cir_frame.specs.Shown.{state_of}
 use Rattle.cir_evaluate.specs.Within.{Kept, context_at, where_at}
 use Rattle.cir_assign.proofs.Stepping.{lists_kept}
-use Rattle.cir_assign.proofs.Declarations.{declared_goes}
+use Rattle.cir_create.proofs.Declarations.{declared_goes}
 use Rattle.cir_write.proofs.variables.declare_elements.Goals as goal
 
 pub returns-clause-leads : goal.returns-clause-leads

@@ -1,0 +1,4 @@
+pub mod Creations
+pub mod Turns
+pub mod Opened
+pub mod Declarations
