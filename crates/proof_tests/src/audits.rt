@@ -1,6 +1,7 @@
 use crate::checks::same;
 use crate::proving::{proof_of, wrong_product, wrong_side};
-use crate::samples::{PRODUCT, bytes_of, file_of, golds, put};
+use crate::samples::{PRODUCT, bytes_of, file_of, put};
+use field_tests::golds;
 use gold_field::P;
 use lig_auditor::audit;
 use lig_proof::{Verdict, Version};
@@ -16,7 +17,7 @@ pub fn audited<R: Threads + AllocGlobal + Sync + Abort>(
 ) -> Verdict {
     let bytes = bytes_of(rt, circuit);
     let file = file_of(rt, circuit);
-    let values = golds(rt, publics);
+    let values = golds(rt.alloc(), publics).expect(rt, "memory");
     audit(rt, &bytes, &file, &values, proof).expect(rt, "memory")
 }
 

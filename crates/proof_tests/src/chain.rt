@@ -4,7 +4,7 @@
 use crate::audits::audited;
 use crate::checks::same;
 use crate::proving::{have_digests, proof_of};
-use crate::samples::{bytes_of, hex_of};
+use crate::samples::bytes_of;
 use gold_field::{Gold, P};
 use lig_proof::{Verdict, Version};
 use std::process::Abort;
@@ -58,7 +58,7 @@ fn circuit<R: AllocGlobal + Abort>(rt: &R) -> String {
         out.extend_from_slice(&wire.to_le_bytes())
             .expect(rt, "memory");
     }
-    hex_of(rt, &out)
+    hex::encode(rt.alloc(), &out).expect(rt, "memory")
 }
 
 // The value after square `i`.

@@ -1,5 +1,6 @@
 use crate::checks::same;
-use crate::samples::{BITS, EMPTY, PRODUCT, file_of, gold, golds};
+use crate::samples::{BITS, EMPTY, PRODUCT, file_of};
+use field_tests::{gold, golds};
 use gold_field::{Gold, P};
 use lig_layout::{Params, combine, vectors};
 use lig_proof::equation_count;
@@ -39,7 +40,7 @@ fn sizes(rt: HostRuntime) {
 #[test]
 fn values_of_the_sides(rt: HostRuntime) {
     let file = file_of(&rt, PRODUCT);
-    let w = golds(&rt, &[1, 33, 3, 11]);
+    let w = golds(rt.alloc(), &[1, 33, 3, 11]).expect(&rt, "memory");
     assert_eq!(rt; file.wires, 4);
     assert_eq!(rt; w.len(), 4);
     let values = vectors(rt.alloc(), &file, &w).expect(&rt, "memory");

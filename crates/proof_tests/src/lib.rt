@@ -1,5 +1,4 @@
-//! Tests of proofs and of the crates below them: the field, transforms, trees, layouts, proof
-//! bytes, prover and auditor. The expected numbers come from other programs.
+//! Tests of layouts, proof bytes, prover and auditor, with expected numbers of other programs.
 #![tactic(auto)]
 
 #[cfg(test)]
@@ -8,8 +7,6 @@ mod audits;
 mod chain;
 #[cfg(test)]
 mod checks;
-#[cfg(test)]
-mod field;
 #[cfg(test)]
 mod forged;
 #[cfg(test)]
@@ -20,7 +17,3 @@ mod proofs;
 mod proving;
 #[cfg(test)]
 mod samples;
-#[cfg(test)]
-mod transforms;
-#[cfg(test)]
-mod trees;

@@ -2,7 +2,8 @@ ghost use Rattle.std.specs.Prelude.{◌≡◌, length};
 ghost use Rattle.lig_proof.specs.ProofBytes.{opened_count};
 
 use crate::checks::same;
-use crate::samples::{PRODUCT, bytes_of, gold, hex_of, put};
+use crate::samples::{PRODUCT, bytes_of, put};
+use field_tests::gold;
 use gold_field::{Gold, P};
 use lig_layout::Params;
 use lig_proof::{
@@ -76,7 +77,7 @@ pub fn first_key<R: AllocGlobal + Abort>(rt: &R) -> [u8; 32] {
 #[test]
 fn numbers_from_the_first_key(rt: HostRuntime) {
     let drawn = drawn(&rt);
-    let first = hex_of(&rt, &drawn.first);
+    let first = hex::encode(rt.alloc(), &drawn.first).expect(&rt, "memory");
     same(&rt, first.as_str(), FIRST);
     same(&rt, drawn.r.len(), 10);
     begin(&rt, drawn.alpha.as_slice(), &ALPHA);

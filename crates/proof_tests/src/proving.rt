@@ -2,7 +2,8 @@ ghost use Rattle.std.specs.Prelude.{◌≡◌, IsTrue, length};
 ghost use Rattle.iden_files.specs.File.{InLimits};
 
 use crate::checks::same;
-use crate::samples::{BITS, EMPTY, PRODUCT, bytes_of, file_of, golds, hex_of};
+use crate::samples::{BITS, EMPTY, PRODUCT, bytes_of, file_of};
+use field_tests::golds;
 use gold_field::{Gold, P};
 use iden_files::R1cs;
 use items::Items;
@@ -43,7 +44,7 @@ pub fn proof_of<R: Threads + AllocGlobal + Sync + Abort>(
 ) -> Vec<u8> {
     let bytes = bytes_of(rt, circuit);
     let file = file_of(rt, circuit);
-    let w = golds(rt, values);
+    let w = golds(rt.alloc(), values).expect(rt, "memory");
     let proof = proof_from(rt, version, &bytes, &file, &w, seed);
     proof.ok().expect(rt, "a proof")
 }
@@ -51,7 +52,7 @@ pub fn proof_of<R: Threads + AllocGlobal + Sync + Abort>(
 /// Ends the test unless the proof's SHA-256 is this, in hexadecimal.
 pub fn has_digest<R: AllocGlobal + Abort>(rt: &R, proof: &[u8], digest: &str) {
     let hash = Sha256::digest(proof);
-    let text = hex_of(rt, &hash);
+    let text = hex::encode(rt.alloc(), &hash).expect(rt, "memory");
     same(rt, text.as_str(), digest);
 }
 
@@ -152,13 +153,13 @@ fn proofs_of_one_wire_by_another_seed(rt: HostRuntime) {
 
 // One number.
 fn one<R: AllocGlobal + Abort>(rt: &R, number: u64) -> Items<Gold> {
-    Items::of(golds(rt, &[number]))
+    Items::of(golds(rt.alloc(), &[number]).expect(rt, "memory"))
 }
 
 // The values of the sides of `c <== a * b`, which are one number each.
 fn sides<R: AllocGlobal + Abort>(rt: &R, w: &[u64], x: u64, y: u64, z: u64) -> Vectors {
     Vectors {
-        w: Items::of(golds(rt, w)),
+        w: Items::of(golds(rt.alloc(), w).expect(rt, "memory")),
         x: one(rt, x),
         y: one(rt, y),
         z: one(rt, z),
@@ -235,7 +236,7 @@ fn proofs_of_a_wrong_product(rt: HostRuntime) {
 // What is said of values that are refused.
 fn refusal<R: Threads + AllocGlobal + Sync + Abort>(rt: &R, values: &[u64]) -> Option<ProveFault> {
     let file = file_of(rt, PRODUCT);
-    let w = golds(rt, values);
+    let w = golds(rt.alloc(), values).expect(rt, "memory");
     prove(rt, &[], &file, &w, [0; 32]).err()
 }
 

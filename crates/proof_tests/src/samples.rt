@@ -1,6 +1,5 @@
 ghost use Rattle.iden_files.specs.File.{InLimits};
 
-use gold_field::Gold;
 use iden_files::{R1cs, read_r1cs};
 use std::process::Abort;
 
@@ -59,28 +58,11 @@ pub fn bytes_of<R: AllocGlobal + Abort>(rt: &R, text: &str) -> Vec<u8> {
     hex::decode(rt.alloc(), text).ok().expect(rt, "hexadecimal")
 }
 
-pub fn hex_of<R: AllocGlobal + Abort>(rt: &R, bytes: &[u8]) -> String {
-    hex::encode(rt.alloc(), bytes).expect(rt, "memory")
-}
-
 pub fn file_of<R: AllocGlobal + Abort>(rt: &R, text: &str) -> R1cs
     ensures { InLimits result }
 {
     let bytes = bytes_of(rt, text);
     read_r1cs(rt.alloc(), &bytes).ok().expect(rt, "a file")
-}
-
-/// A number below p.
-pub fn gold(n: u64) -> Gold {
-    Gold::from_wide(u128::from(n))
-}
-
-pub fn golds<R: AllocGlobal + Abort>(rt: &R, numbers: &[u64]) -> Vec<Gold> {
-    let mut values = Vec::new(rt.alloc());
-    for number in numbers {
-        values.push(gold(*number)).expect(rt, "memory");
-    }
-    values
 }
 
 /// Writes other bytes from a place on.

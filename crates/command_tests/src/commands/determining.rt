@@ -1,7 +1,7 @@
 // `determine` and `confirm`.
-use super::checks::same;
-use super::compiling::with_library;
-use super::{R1CS, put_file, run_words, says, store};
+use super::checks::{same, says};
+use super::{R1CS, store};
+use command_samples::{put_file, run_words, with_library};
 use out_io::MemStore;
 use std::process::Abort;
 use std::sync::Wait;
@@ -45,12 +45,9 @@ fn is_found<R: Threads + Wait + AllocGlobal + Sync + Abort>(
     status: u8,
     line: &str,
 ) {
-    let mut store = with_library(rt, main);
-    same(
-        rt,
-        run_words(rt, "compile t.circom m.r1cs", &mut store).status,
-        0,
-    );
+    let mut store = with_library(rt.alloc(), main).expect(rt, "memory");
+    let compiled = run_words(rt, "compile t.circom m.r1cs", &mut store).expect(rt, "memory");
+    same(rt, compiled.status, 0);
     says(rt, "determine m.r1cs m.cert", &mut store, status, line);
     same(rt, store.files.contains_key("m.cert"), status == 0);
     if status == 0 {
@@ -96,7 +93,7 @@ static RULES: [(&str, u8, &str); 11] = [
 fn rules_are_confirmed_or_not(rt: HostRuntime) {
     for (rules, status, line) in RULES.as_slice() {
         let mut store = store(&rt, &R1CS, &[1, 33, 3, 11]);
-        put_file(&rt, &mut store, "m.cert", rules.as_bytes());
+        put_file(rt.alloc(), &mut store, "m.cert", rules.as_bytes()).expect(&rt, "memory");
         says(&rt, "confirm m.r1cs m.cert", &mut store, *status, line);
     }
 }

@@ -1,6 +1,7 @@
 // `prove`, `public` and `audit` on the circuit c = a * b, whose one public value is c.
-use super::checks::same;
-use super::{R1CS, put_file, run_words, says, store};
+use super::checks::{same, says};
+use super::{R1CS, store};
+use command_samples::{put_file, run_words};
 use out_io::MemStore;
 use std::process::Abort;
 use std::sync::Wait;
@@ -24,7 +25,7 @@ fn makes_a_proof<R: Threads + Wait + AllocGlobal + Sync + Abort>(
     words: &str,
     store: &mut MemStore,
 ) -> usize {
-    let ran = run_words(rt, words, store);
+    let ran = run_words(rt, words, store).expect(rt, "memory");
     same(rt, (ran.status, ran.puts), (0, 1));
     let bytes = proof_in(rt, store).len();
     let line = format!(in rt.alloc(); "proved: bytes {bytes}\n").expect(rt, "memory");
@@ -50,15 +51,19 @@ fn is_rejected<R: Threads + Wait + AllocGlobal + Sync + Abort>(
     proof: &[u8],
     line: &str,
 ) {
-    put_file(rt, store, "m.json", publics.as_bytes());
-    put_file(rt, store, "m.proof", proof);
+    put_file(rt.alloc(), store, "m.json", publics.as_bytes()).expect(rt, "memory");
+    put_file(rt.alloc(), store, "m.proof", proof).expect(rt, "memory");
     says(rt, "audit m.r1cs m.json m.proof", store, 2, line);
 }
 
 // A store with the proof of the values 1, 33, 3 and 11, and that proof.
 fn proved<R: Threads + Wait + AllocGlobal + Sync + Abort>(rt: &R) -> (MemStore, Vec<u8>) {
     let mut store = store(rt, &R1CS, &[1, 33, 3, 11]);
-    same(rt, run_words(rt, FIRST, &mut store).status, 0);
+    same(
+        rt,
+        run_words(rt, FIRST, &mut store).expect(rt, "memory").status,
+        0,
+    );
     let proof = proof_in(rt, &store);
     (store, proof)
 }
@@ -99,9 +104,11 @@ fn status_on<R: Threads + Wait + AllocGlobal + Sync + Abort>(
     publics: &str,
     proof: &[u8],
 ) -> u8 {
-    put_file(rt, store, "m.json", publics.as_bytes());
-    put_file(rt, store, "m.proof", proof);
-    run_words(rt, "audit m.r1cs m.json m.proof", store).status
+    put_file(rt.alloc(), store, "m.json", publics.as_bytes()).expect(rt, "memory");
+    put_file(rt.alloc(), store, "m.proof", proof).expect(rt, "memory");
+    run_words(rt, "audit m.r1cs m.json m.proof", store)
+        .expect(rt, "memory")
+        .status
 }
 
 #[test]
@@ -147,8 +154,8 @@ static UNPROVED: [(&str, &[u64], u8, &str); 7] = [
 fn what_is_not_proved_or_audited_is_said(rt: HostRuntime) {
     for (words, values, status, line) in UNPROVED.as_slice() {
         let mut store = store(&rt, &R1CS, values);
-        put_file(&rt, &mut store, "bad.json", b"[1, 2.5]");
-        put_file(&rt, &mut store, "good.json", b"[\"33\"]");
+        put_file(rt.alloc(), &mut store, "bad.json", b"[1, 2.5]").expect(&rt, "memory");
+        put_file(rt.alloc(), &mut store, "good.json", b"[\"33\"]").expect(&rt, "memory");
         says(&rt, words, &mut store, *status, line);
         same(&rt, store.files.contains_key("m.proof"), false);
     }

@@ -1,6 +1,6 @@
 use Rattle.std.proofs.Common.{ℕ, zero, suc, ◌+◌, ◌<◌, List, [], ◌∷◌, slice_index, arith, lit<}
 use Rattle.std.proofs.lemmas.List.Elements.{All-nil, All-cons}
-use Rattle.proof_tests.proofs.trees.nodes_that_leaves_share.Goals as goal
+use Rattle.field_tests.proofs.trees.nodes_that_leaves_share.Goals as goal
 
 -- three numbers, and two, each below the next
 three : (a b c : ℕ) → a < b → b < c → (k : ℕ) → k + 1 < 3

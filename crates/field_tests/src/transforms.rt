@@ -2,7 +2,7 @@ ghost use Rattle.std.specs.Prelude.{◌≡◌, ◌≤◌, ◌^◌, length};
 ghost use Rattle.gold_ntt.specs.Transform.{IsLength};
 
 use crate::checks::same;
-use crate::samples::gold;
+use crate::numbers::{fill, gold};
 use gold_field::Gold;
 use gold_ntt::{Coset, eval, intt, mul, ntt, root};
 use std::process::Abort;
@@ -109,13 +109,6 @@ static ROOTS: [(u32, u64); 9] = [
     (31, 4614640910117430873),
     (32, 1753635133440165772),
 ];
-
-/// The places take numbers below p, as far as the list goes.
-pub fn fill(room: &mut [Gold], list: &[u64]) {
-    for (place, n) in room.iter_mut().zip(list) {
-        *place = gold(*n);
-    }
-}
 
 fn are(rt: &impl Abort, room: &[Gold], list: &[u64]) {
     same(rt, room.len(), list.len());

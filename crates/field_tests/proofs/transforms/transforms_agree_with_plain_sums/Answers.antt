@@ -1,5 +1,5 @@
 use Rattle.std.proofs.Common.{refl, lit≤}
-use Rattle.proof_tests.proofs.transforms.transforms_agree_with_plain_sums.Goals as goal
+use Rattle.field_tests.proofs.transforms.transforms_agree_with_plain_sums.Goals as goal
 
 pub agree-requires : goal.agree-requires
 agree-requires g c = record { log = 3; small = lit≤ tt; power = refl }

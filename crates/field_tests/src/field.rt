@@ -1,5 +1,5 @@
 use crate::checks::same;
-use crate::samples::gold;
+use crate::numbers::gold;
 use gold_field::{Gold, Op1, Op2, binary, unary};
 
 // The number p - 1.

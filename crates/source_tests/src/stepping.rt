@@ -1,7 +1,7 @@
 // `witness` of one body after the other: what its steps give, and where they stop.
-use super::compiling::with_library;
-use super::running::{are_accepted, is_stopped, writes_values};
-use super::{put_file, says, sources};
+use crate::checks::says;
+use crate::running::{are_accepted, is_stopped, writes_values};
+use command_samples::{put_file, sources, with_library};
 use out_io::MemStore;
 use std::process::Abort;
 use std::sync::Wait;
@@ -37,7 +37,7 @@ signal input a; signal input b; signal input v[3]; signal output o;
         ("t.circom", source.as_str()),
         ("i.json", input.as_str()),
     ];
-    sources(rt, files.as_slice())
+    sources(rt.alloc(), files.as_slice()).expect(rt, "memory")
 }
 
 // A body, the inputs a and b, and the output o.
@@ -173,8 +173,8 @@ static SIGNALS: [(&str, &str, &[u64]); 3] = [
 #[test]
 fn every_signal_has_its_value(rt: HostRuntime) {
     for (main, input, values) in SIGNALS.as_slice() {
-        let mut store = with_library(&rt, main);
-        put_file(&rt, &mut store, "i.json", input.as_bytes());
+        let mut store = with_library(rt.alloc(), main).expect(&rt, "memory");
+        put_file(rt.alloc(), &mut store, "i.json", input.as_bytes()).expect(&rt, "memory");
         writes_values(&rt, "--O0", &mut store, "", values);
     }
 }

@@ -1,9 +1,8 @@
 // `witness` and `generate`.
-use super::checks::same;
-use super::compiling::with_library;
-use super::{DIFFERENT, PRODUCT, put_file, run_words, says, sources, split, wtns};
-use circom_gold::run_plain;
-use out_io::{MemSink, MemStore};
+use crate::checks::{same, says};
+use crate::compiling::{DIFFERENT, PRODUCT};
+use command_samples::{put_file, run_words, sources, with_library, wtns};
+use out_io::MemStore;
 use std::process::Abort;
 use std::sync::Wait;
 use std::thread::Threads;
@@ -49,7 +48,7 @@ pub fn writes_values<R: Threads + Wait + AllocGlobal + Sync + Abort>(
     let text = format!(in rt.alloc(); "{log}witness: values {count}\n").expect(rt, "memory");
     says(rt, words.as_str(), store, 0, text.as_str());
     let bytes = store.files.get("w.wtns").expect(rt, "a file");
-    let wanted = wtns(rt, values);
+    let wanted = wtns(rt.alloc(), values).expect(rt, "memory");
     same(rt, bytes.as_slice(), wanted.as_slice());
 }
 
@@ -60,7 +59,7 @@ pub fn are_accepted<R: Threads + Wait + AllocGlobal + Sync + Abort>(
     store: &mut MemStore,
 ) {
     let words = format!(in rt.alloc(); "compile t.circom m.r1cs {level}").expect(rt, "memory");
-    let compiled = run_words(rt, words.as_str(), store);
+    let compiled = run_words(rt, words.as_str(), store).expect(rt, "memory");
     same(rt, compiled.status, 0);
     says(rt, "check m.r1cs w.wtns", store, 0, "satisfied\n");
 }
@@ -73,7 +72,9 @@ fn writes<R: Threads + Wait + AllocGlobal + Sync + Abort>(
     log: &str,
     values: &[u64],
 ) {
-    let mut store = sources(rt, &[("t.circom", source), ("i.json", input)]);
+    let mut store = sources(rt.alloc(), &[("t.circom", source), ("i.json", input)]).expect(
+        rt, "memory",
+    );
     writes_values(rt, options, &mut store, log, values);
     are_accepted(rt, "", &mut store);
 }
@@ -98,7 +99,9 @@ fn stops<R: Threads + Wait + AllocGlobal + Sync + Abort>(
     options: &str,
     text: &str,
 ) {
-    let mut store = sources(rt, &[("t.circom", source), ("i.json", input)]);
+    let mut store = sources(rt.alloc(), &[("t.circom", source), ("i.json", input)]).expect(
+        rt, "memory",
+    );
     is_stopped(rt, options, &mut store, text);
 }
 
@@ -147,8 +150,8 @@ static WITNESSES: [(&str, &str, &[u64]); 5] = [
 #[test]
 fn circuits_of_the_whole_language_have_witnesses(rt: HostRuntime) {
     for (main, input, values) in WITNESSES.as_slice() {
-        let mut store = with_library(&rt, main);
-        put_file(&rt, &mut store, "i.json", input.as_bytes());
+        let mut store = with_library(rt.alloc(), main).expect(&rt, "memory");
+        put_file(rt.alloc(), &mut store, "i.json", input.as_bytes()).expect(&rt, "memory");
         writes_values(&rt, "", &mut store, "", values);
         are_accepted(&rt, "", &mut store);
     }
@@ -159,8 +162,8 @@ fn circuits_of_the_whole_language_have_witnesses(rt: HostRuntime) {
 fn the_bits_of_0_are_0(rt: HostRuntime) {
     let mut values = [0; 66];
     values[0] = 1;
-    let mut store = with_library(&rt, "= Num2Bits(64)");
-    put_file(&rt, &mut store, "i.json", b"{\"in\":0}");
+    let mut store = with_library(rt.alloc(), "= Num2Bits(64)").expect(&rt, "memory");
+    put_file(rt.alloc(), &mut store, "i.json", b"{\"in\":0}").expect(&rt, "memory");
     writes_values(&rt, "", &mut store, "", &values);
     are_accepted(&rt, "", &mut store);
 }
@@ -211,11 +214,11 @@ fn witness_refuses_bad_inputs(rt: HostRuntime) {
 
 #[test]
 fn a_source_is_no_input_and_is_read_once(rt: HostRuntime) {
-    let mut store = sources(&rt, &[("t.circom", PRODUCT)]);
+    let mut store = sources(rt.alloc(), &[("t.circom", PRODUCT)]).expect(&rt, "memory");
     let text = "refused: I1 NotJson\n";
     says(&rt, "witness t.circom t.circom w.wtns", &mut store, 1, text);
     same(&rt, store.calls, 1);
-    let mut none = sources(&rt, &[("t.circom", PRODUCT)]);
+    let mut none = sources(rt.alloc(), &[("t.circom", PRODUCT)]).expect(&rt, "memory");
     let missing = "refused: i.json: no such file\n";
     says(&rt, "witness t.circom i.json w.wtns", &mut none, 1, missing);
 }
@@ -241,24 +244,4 @@ fn generate_says_what_its_circuit_comes_to(rt: HostRuntime) {
         says(&rt, words, &mut store, 0, text);
         same(&rt, store.calls, 0);
     }
-}
-
-// Whether the part of the program that waits for nobody leaves the words to the other part.
-fn is_left<R: Threads + AllocGlobal + Sync + Abort>(rt: &R, words: &str) -> bool {
-    let words = split(rt, words);
-    let mut store = MemStore::new(rt.alloc());
-    let mut out = MemSink::new(rt.alloc());
-    let status = run_plain(rt, rt.alloc(), words.as_slice(), &mut store, &mut out);
-    let left = status.expect(rt, "memory").is_none();
-    same(rt, left && (store.calls > 0 || out.calls > 0), false);
-    left
-}
-
-#[test]
-fn the_plain_part_leaves_what_runs_a_circuit(rt: HostRuntime) {
-    same(&rt, is_left(&rt, "witness a b c"), true);
-    same(&rt, is_left(&rt, "witness"), true);
-    same(&rt, is_left(&rt, "generate 7 0"), true);
-    same(&rt, is_left(&rt, "check a b"), false);
-    same(&rt, is_left(&rt, "other"), false);
 }

@@ -2,15 +2,15 @@ ghost use Rattle.std.specs.Prelude.{◌≡◌, ◌<◌, ◌^◌, length, vec_len
 ghost use Rattle.lig_merkle.specs.Shared.{AreOpened};
 
 use crate::checks::same;
-use crate::samples::{gold, golds, hex_of};
+use crate::numbers::{gold, golds};
 use lig_merkle::{Hash, Tree, leaf, root_of, root_of_many, shared};
 use std::process::Abort;
 
 const EIGHT: &str = "395bbca6997cb818846dcfa25e7d49f02e6cc5bcccb39351d639ecd266a02797";
 
 fn hash_of<R: AllocGlobal + Abort>(rt: &R, words: &[u64]) -> String {
-    let hash = leaf(&golds(rt, words));
-    hex_of(rt, &hash)
+    let column = golds(rt.alloc(), words).expect(rt, "memory");
+    hex::encode(rt.alloc(), &leaf(&column)).expect(rt, "memory")
 }
 
 // The tree over the columns of one value each, 0 to `2^depth - 1`.
@@ -31,7 +31,7 @@ fn root_text<R: AllocGlobal + Abort>(rt: &R, depth: u32) -> String
     requires { depth < 32 }
 {
     let tree = tree_of(rt, depth);
-    hex_of(rt, &tree.root())
+    hex::encode(rt.alloc(), &tree.root()).expect(rt, "memory")
 }
 
 // The hashes of the columns 0, 1 2 3, and p - 1, 0, 2^32.
@@ -81,7 +81,7 @@ fn text_of<R: AllocGlobal + Abort>(rt: &R, path: &[[u8; 32]]) -> String {
     for sibling in path {
         bytes.extend_from_slice(sibling).expect(rt, "memory");
     }
-    hex_of(rt, &bytes)
+    hex::encode(rt.alloc(), &bytes).expect(rt, "memory")
 }
 
 // The path of leaf 5 of 8, and where it leads.
@@ -98,7 +98,7 @@ fn path_of_a_leaf(rt: HostRuntime) {
          9656f8043dfd7640896c81198d4fd347e03483cce7a1bfb081cd1fa3f7f916b1",
     );
     let root = root_of(&leaf(&[gold(5)]), 5, &path);
-    let found = hex_of(&rt, &root);
+    let found = hex::encode(rt.alloc(), &root).expect(&rt, "memory");
     same(&rt, found.as_str(), EIGHT);
 }
 
@@ -127,7 +127,7 @@ fn share<R: AllocGlobal + Abort>(rt: &R, opened: &[u32], count: u32, text: &str)
     same(rt, spelled.as_str(), text);
     let leaves = leaves_at(rt, opened);
     let root = root_of_many(rt.alloc(), 3, opened, &leaves, &nodes).expect(rt, "memory");
-    let spelled_root = hex_of(rt, &root);
+    let spelled_root = hex::encode(rt.alloc(), &root).expect(rt, "memory");
     same(rt, spelled_root.as_str(), EIGHT);
 }
 
