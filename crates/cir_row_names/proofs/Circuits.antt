@@ -1,5 +1,6 @@
 -- The table of a circuit's signals, from its rows.
-use Rattle.std.proofs.Common.{◌≡◌, ℕ, zero, suc, ◌+◌, ◌≤◌, Bool, true, false, cond, List, []}
+use Rattle.std.proofs.Common.{◌≡◌, ℕ, zero, suc, ◌+◌, ◌≤◌, Bool, true, false}
+use Rattle.std.proofs.Common.{cond, List, []}
 use Rattle.std.proofs.Common.{◌∷◌, ◌++◌, length, map, Ok, refl, subst, arith}
 use Rattle.std.specs.Prelude.{filter, sum_by}
 use Rattle.std.specs.List.{AllByRecursion}
@@ -79,30 +80,31 @@ module _ (p : List ℕ → Bool) (count : ℕ) where
   each_row (row ∷ rows) h =
       (places row h.0 (elements row.dims) 0 (omega arith), each_row rows h.1)
 
-module _ (p : List ℕ → Bool) (fits : (name : List ℕ) → p name ≡ true → IsLineText name) where
-  circuit_named : (size : ℕ) (w : World) → NamedWorld p fits w → all_signals w ≤ 1048575
-      → IsNamedCircuit p (circuit_of size w)
-  circuit_named size w h few =
-      let count : ℕ = length w.instances in record {
-        signals = all_joined (IsNamedSignal p count) names_of_row (in_order w.rows)
-            (each_row p count (in_order w.rows)
-            (ordered p count w.rows (small_rows p count 1048575 w.rows (omega arith) few h.0)));
-        paths = h.1;
-      }
+module _ (p : List ℕ → Bool) (fits : (name : List ℕ) → p name ≡ true → IsLineText name)
+  where
+    circuit_named : (size : ℕ) (w : World) → NamedWorld p fits w → all_signals w ≤ 1048575
+        → IsNamedCircuit p (circuit_of size w)
+    circuit_named size w h few =
+        let count : ℕ = length w.instances in record {
+          signals = all_joined (IsNamedSignal p count) names_of_row (in_order w.rows)
+              (each_row p count (in_order w.rows)
+              (ordered p count w.rows (small_rows p count 1048575 w.rows (omega arith) few h.0)));
+          paths = h.1;
+        }
 
-  with_named : (size : ℕ) (program : Program) → IsNamedProgram p program
-      → OnGood (IsNamedCircuit p) (compiled_with size program)
-  with_named size program named =
-      good_on (IsNamedCircuit p) (the_main program) _ (λ m.
-      good_next (λ x. NamedWorld p fits x.1 × (all_signals x.1 ≤ 1048575)) (IsNamedCircuit p)
-      (exec_main program size m m.meant) _
-      (good_both (λ x. NamedWorld p fits x.1) (λ x. all_signals x.1 ≤ 1048575)
-      (exec_main program size m m.meant) (main_named p fits program size m m.meant named)
-      (few_signals program size m m.meant))
-      (λ x g. good_ok (IsNamedCircuit p) (circuit_of size x.1)
-      (circuit_named size x.1 g.0 g.1)))
+    with_named : (size : ℕ) (program : Program) → IsNamedProgram p program
+        → OnGood (IsNamedCircuit p) (compiled_with size program)
+    with_named size program named =
+        good_on (IsNamedCircuit p) (the_main program) _ (λ m.
+        good_next (λ x. NamedWorld p fits x.1 × (all_signals x.1 ≤ 1048575)) (IsNamedCircuit p)
+        (exec_main program size m m.meant) _
+        (good_both (λ x. NamedWorld p fits x.1) (λ x. all_signals x.1 ≤ 1048575)
+        (exec_main program size m m.meant) (main_named p fits program size m m.meant named)
+        (few_signals program size m m.meant))
+        (λ x g. good_ok (IsNamedCircuit p) (circuit_of size x.1)
+        (circuit_named size x.1 g.0 g.1)))
 
-  pub compiled_named : (program : Program) (c : Circuit) → IsNamedProgram p program
-      → compiled program ≡ Ok c → IsNamedCircuit p c
-  compiled_named program c named e =
-      good_is (IsNamedCircuit p) (compiled program) c e (with_named group_size program named)
+    pub compiled_named : (program : Program) (c : Circuit) → IsNamedProgram p program
+        → compiled program ≡ Ok c → IsNamedCircuit p c
+    compiled_named program c named e =
+        good_is (IsNamedCircuit p) (compiled program) c e (with_named group_size program named)

@@ -31,8 +31,8 @@ pub record Closes (p : List ℕ → Bool) (k : Context) (Q : State → Type 0) :
   pub component : (i : ℕ) (c : ComponentEntry) (s : State) → IsLineText c.name → Q s
       → Q (in_frame (λ f. record f { components = put_at i c f.components }) s)
   pub written : (part : Option ℕ) (number place : ℕ) (e : SignalEntry) (s : State) → Q s
-      → Q (in_frame (λ f. with_signals part (put_at number (marked e place) (signals_of part f)) f)
-      s)
+      → Q (in_frame (λ f.
+      with_signals part (put_at number (marked e place) (signals_of part f)) f) s)
   pub equation : (w : Where) (arrow : Arrow) (x y : Value) (s : State) → Q s
       → OnGood Q (constrained_by k w arrow x y s)
   pub signal : (spot : Spot) (direction : Direction) (i : ℕ) (name dims : List ℕ) (s : State)

@@ -1,5 +1,6 @@
 -- What statements keep, and what a body that returns leaves.
-use Rattle.std.proofs.Common.{◌≡◌, ℕ, zero, suc, Bool, true, false, List, [], ◌∷◌, length, Option}
+use Rattle.std.proofs.Common.{◌≡◌, ℕ, zero, suc, Bool, true, false, List, [], ◌∷◌}
+use Rattle.std.proofs.Common.{length, Option}
 use Rattle.std.proofs.Common.{Some, None}
 use Rattle.std.proofs.Common.{Ok}
 use Rattle.std.specs.Prelude.{⊤, ◌==◌}
@@ -127,7 +128,8 @@ module _ (p : List ℕ → Bool) (fits : (name : List ℕ) → p name ≡ true �
       (settled_kept (at k spot) x.1 (closed.like s x.1 l h))
       (λ t g. good_ok (λ y. Q y.1) (the_item x.0, t) g))
 
-  branch_kept : (spot : Spot) (c : Expr Meant) (x y z : State → Tried Flow) → Keeps x → Keeps y
+  branch_kept : (spot : Spot) (c : Expr Meant) (x y z : State → Tried Flow) → Keeps x
+      → Keeps y
       → Keeps z → Keeps (branch k spot c x y z)
   branch_kept spot c x y z h g f s e =
       good_next Q FlowKept (counted (at k spot) s) _ (counted_kept (at k spot) s e)

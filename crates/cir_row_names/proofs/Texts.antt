@@ -1,5 +1,6 @@
 -- Text of one line.
-use Rattle.std.proofs.Common.{◌≡◌, ◌≢◌, ℕ, zero, suc, ◌+◌, ◌%◌, ◌<◌, Bool, true, false, cond, List}
+use Rattle.std.proofs.Common.{◌≡◌, ◌≢◌, ℕ, zero, suc, ◌+◌, ◌%◌, ◌<◌, Bool}
+use Rattle.std.proofs.Common.{true, false, cond, List}
 use Rattle.std.proofs.Common.{[], ◌∷◌, ◌++◌, arith, sym, subst}
 use Rattle.std.specs.Prelude.{nat_lt, ◌==◌, ◌/◌, codes}
 use Rattle.std.specs.Fmt.{digit_glyph, digits_onto, digits, decimal}

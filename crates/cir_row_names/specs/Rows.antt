@@ -1,5 +1,6 @@
 -- Names of the signals that a program makes, and paths of the instances in which it makes them.
-use Rattle.std.specs.Prelude.{◌≡◌, ◌≢◌, ℕ, ◌<◌, ◌≤◌, ◌++◌, List, length, Bool, true}
+use Rattle.std.specs.Prelude.{◌≡◌, ◌≢◌, ℕ, ◌<◌, ◌≤◌, ◌++◌, List, length}
+use Rattle.std.specs.Prelude.{Bool, true}
 use Rattle.std.specs.List.{AllByRecursion}
 use Rattle.cir_ast.specs.Program.{Program, Template}
 use Rattle.cir_tree_names.specs.Named.{AreNamedStatements}

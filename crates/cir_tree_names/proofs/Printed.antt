@@ -300,9 +300,11 @@ module _ (p : List ℕ → Bool) where
       → AreNamedStatements p ss
   block ss h = statements ss (front (statements_tokens ss) _ h.1)
 
-  public_names : (xs : List (List ℕ)) → Tokens (public_tokens xs) → AllByRecursion (Passes p) xs
+  public_names : (xs : List (List ℕ)) → Tokens (public_tokens xs)
+      → AllByRecursion (Passes p) xs
   public_names [] h = tt
-  public_names (x ∷ xs) h = names (x ∷ xs) (front (list_tokens name_tokens (x ∷ xs)) _ h.1.1.1)
+  public_names (x ∷ xs) h =
+      names (x ∷ xs) (front (list_tokens name_tokens (x ∷ xs)) _ h.1.1.1)
 
   definition : {S N : Type 0} (name : List ℕ) (parameters : List (List ℕ)) (ss : Statements S N)
       → Tokens (token.Name name ∷ (enclosed (list_tokens name_tokens parameters)
