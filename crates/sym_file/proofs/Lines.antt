@@ -1,6 +1,8 @@
 -- Lines of symbols: what their parts say is what is said of them, and what is written reads back.
-use Rattle.std.proofs.Common.{◌≡◌, ◌≢◌, ℕ, ◌<◌, ◌≤◌, ◌^◌, Bool, true, false, cond, List, [], ◌∷◌}
-use Rattle.std.proofs.Common.{◌++◌, length, map, Option, Some, None, Result, Ok, Err, refl, ap, ◌∙◌}
+use Rattle.std.proofs.Common.{◌≡◌, ◌≢◌, ℕ, ◌<◌, ◌≤◌, ◌^◌, Bool, true}
+use Rattle.std.proofs.Common.{false, cond, List, [], ◌∷◌}
+use Rattle.std.proofs.Common.{◌++◌, length, map, Option, Some, None, Result, Ok, Err, refl, ap}
+use Rattle.std.proofs.Common.{◌∙◌}
 use Rattle.std.proofs.Common.{sym, arith, decimal, ◌↔◌, get_or, ltb}
 use Rattle.std.specs.Prelude.{codes, bytes_eq, option_map}
 use Rattle.std.specs.Int.{IsInRange}
@@ -27,7 +29,8 @@ use Rattle.sym_file.specs.Line.{said_by, in_parts, at_comma, said, symbols_of, S
 use Rattle.sym_file.specs.Line.{IsWritten}
 
 -- numbers
-number_again : (bound n : ℕ) → n < bound → bound ≤ 2 ^ 64 → number_below bound (decimal n) ≡ Some n
+number_again : (bound n : ℕ) → n < bound → bound ≤ 2 ^ 64
+    → number_below bound (decimal n) ≡ Some n
 number_again bound n small wide =
     let value : digits_value 10 (decimal n) ≡ n = digits_value-decimal own n (omega arith) in
     let s : Spells bound (decimal n) = record {
@@ -78,7 +81,8 @@ numbered byte None digits wire e outside h = cc
 numbered byte (Some n) digits wire e outside h =
     spelled_without byte (2 ^ 32) n digits outside e
 
-wire_by : (byte : ℕ) (t : Bool) (text : List ℕ) (wire : Option ℕ) → byte ≢ 45 → byte ≢ 49
+wire_by : (byte : ℕ) (t : Bool) (text : List ℕ) (wire : Option ℕ) → byte ≢ 45
+    → byte ≢ 49
     → (IsInRange 48 57 byte → ⊥) → bytes_eq text (codes "-1") ≡ t
     → cond t (Some None) (option_map Some (number_below (2 ^ 32) text)) ≡ Some wire
     → HasNo byte text
@@ -88,14 +92,16 @@ wire_by byte true text wire first second outside e h =
 wire_by byte false text wire first second outside e h =
     numbered byte (number_below (2 ^ 32) text) text wire refl outside h
 
-wire_without : (text : List ℕ) (wire : Option ℕ) → wire_of text ≡ Some wire → HasNo 44 text
+wire_without : (text : List ℕ) (wire : Option ℕ) → wire_of text ≡ Some wire
+    → HasNo 44 text
 wire_without text wire h =
     wire_by 44 (bytes_eq text (codes "-1")) text wire (λ e. omega (arith, e))
     (λ e. omega (arith, e)) no_comma refl h
 
 -- what the parts say
 with_all : (a : Option ℕ) (b : Option (Option ℕ)) (c : Option ℕ) (s : SymLine)
-    → a ≡ Some s.label → b ≡ Some s.wire → c ≡ Some s.instance → is_name s.name ≡ true
+    → a ≡ Some s.label → b ≡ Some s.wire → c ≡ Some s.instance
+    → is_name s.name ≡ true
     → with_parts a b c s.name ≡ Some s
 with_all a b c s p q r named =
     ap (λ (o : Option ℕ). with_parts o b c s.name) p
@@ -103,7 +109,8 @@ with_all a b c s p q r named =
     ∙ (ap (λ (o : Option ℕ). with_parts (Some s.label) (Some s.wire) o s.name) r
     ∙ cond-true (is_name s.name) (Some s) None named))
 
-split_as : (front rest : List ℕ) (says : List ℕ → List ℕ → Option SymLine) → HasNo 44 front
+split_as : (front rest : List ℕ) (says : List ℕ → List ℕ → Option SymLine)
+    → HasNo 44 front
     → at_comma (front ++ 44 ∷ rest) says ≡ says front rest
 split_as front rest says h = ap (in_parts says) (split_again 44 front rest h)
 
@@ -137,7 +144,9 @@ if_named line label wire instance name s true l w i t p q r e h =
       wire = wire;
       instance = instance;
       parts =
-          e ∙ ap (λ (n : List ℕ). label ++ 44 ∷ (wire ++ 44 ∷ (instance ++ 44 ∷ n))) name_is;
+          e
+          ∙ ap (λ (n : List ℕ). label ++ 44 ∷ (wire ++ 44 ∷ (instance ++ 44 ∷ n)))
+          name_is;
       label_is = p ∙ ap (λ (x : SymLine). Some x.label) same;
       wire_is = q ∙ ap (λ (x : SymLine). Some x.wire) same;
       instance_is = r ∙ ap (λ (x : SymLine). Some x.instance) same;
@@ -145,9 +154,11 @@ if_named line label wire instance name s true l w i t p q r e h =
     }
 
 if_numbers : (line label wire instance name : List ℕ) (s : SymLine) (a : Option ℕ)
-    (b : Option (Option ℕ)) (c : Option ℕ) → number_below (2 ^ 64) label ≡ a → wire_of wire ≡ b
+    (b : Option (Option ℕ)) (c : Option ℕ) → number_below (2 ^ 64) label ≡ a
+    → wire_of wire ≡ b
     → number_below (2 ^ 64) instance ≡ c
-    → line ≡ label ++ 44 ∷ (wire ++ 44 ∷ (instance ++ 44 ∷ name)) → with_parts a b c name ≡ Some s
+    → line ≡ label ++ 44 ∷ (wire ++ 44 ∷ (instance ++ 44 ∷ name))
+    → with_parts a b c name ≡ Some s
     → Says line s
 if_numbers line label wire instance name s None b c p q r e h = cc
 if_numbers line label wire instance name s (Some l) None c p q r e h = cc
@@ -157,7 +168,8 @@ if_numbers line label wire instance name s (Some l) (Some w) (Some i) p q r e h 
 
 if_split : (text : List ℕ) (says : List ℕ → List ℕ → Option SymLine) (s : SymLine)
     (Goal : Type 0) (o : Option (List ℕ × List ℕ)) → split_once 44 text ≡ o
-    → ((front rest : List ℕ) → text ≡ front ++ 44 ∷ rest → says front rest ≡ Some s → Goal)
+    → ((front rest : List ℕ) → text ≡ front ++ 44 ∷ rest → says front rest ≡ Some s
+    → Goal)
     → in_parts says o ≡ Some s → Goal
 if_split text says s Goal None e f h = cc
 if_split text says s Goal (Some parts) e f h =
@@ -165,7 +177,8 @@ if_split text says s Goal (Some parts) e f h =
 
 if_comma : (text : List ℕ) (says : List ℕ → List ℕ → Option SymLine) (s : SymLine)
     (Goal : Type 0)
-    → ((front rest : List ℕ) → text ≡ front ++ 44 ∷ rest → says front rest ≡ Some s → Goal)
+    → ((front rest : List ℕ) → text ≡ front ++ 44 ∷ rest → says front rest ≡ Some s
+    → Goal)
     → at_comma text says ≡ Some s → Goal
 if_comma text says s Goal f h = if_split text says s Goal (split_once 44 text) refl f h
 
@@ -216,7 +229,8 @@ one_line : (s : SymLine) → IsWritten s → HasNo 10 (line_of s)
 one_line s h =
     behind_comma (decimal s.label) _ (digits_have_no 10 s.label no_feed h.narrow.label)
     (behind_comma (wire_text s.wire) _ (wire_one_line s.wire h.narrow.wire)
-    (behind_comma (decimal s.instance) s.name (digits_have_no 10 s.instance no_feed h.narrow.instance)
+    (behind_comma (decimal s.instance) s.name
+    (digits_have_no 10 s.instance no_feed h.narrow.instance)
     h.one_line))
 
 pub symbols_again : (lines : List SymLine) → All IsWritten lines → length lines ≤ 16777216

@@ -1,6 +1,8 @@
 -- The lines of a circuit's signals: wires, names, and that they can be written.
-use Rattle.std.proofs.Common.{◌≡◌, ◌≢◌, ℕ, zero, suc, ◌+◌, ◌*◌, ◌-◌, ◌/◌, ◌%◌, ◌<◌, ◌≤◌, ◌^◌, Bool, true, false}
-use Rattle.std.proofs.Common.{cond, List, [], ◌∷◌, ◌++◌, length, take, get_or, Option, Some, None}
+use Rattle.std.proofs.Common.{◌≡◌, ◌≢◌, ℕ, zero, suc, ◌+◌, ◌*◌, ◌-◌}
+use Rattle.std.proofs.Common.{◌/◌, ◌%◌, ◌<◌, ◌≤◌, ◌^◌, Bool, true, false}
+use Rattle.std.proofs.Common.{cond, List, [], ◌∷◌, ◌++◌, length, take, get_or, Option}
+use Rattle.std.proofs.Common.{Some, None}
 use Rattle.std.proofs.Common.{Ok, refl, sym, ap, ◌∙◌, subst, arith, append_assoc, ltb, eqb}
 use Rattle.std.proofs.Common.{decimal, ◌⊎◌, inl, inr}
 use Rattle.std.specs.Prelude.{codes, slice_get, map, All, AllPairs}
@@ -35,7 +37,8 @@ use Rattle.sym_file.specs.Table.{AreLinesFrom, AreLinesOf, HasWritten, IsTextOf,
 use Rattle.sym_file.proofs.Lines.{symbols_again}
 
 -- wires
-pub wire_found : (kept : List ℕ) (place n : ℕ) → place < length kept → get_or kept place 0 ≡ n
+pub wire_found : (kept : List ℕ) (place n : ℕ) → place < length kept
+    → get_or kept place 0 ≡ n
     → IsSplit kept place n → wire_among kept n ≡ Some place
 wire_found kept place n within here split =
     let first : position_or_len (λ s. eqb s n) kept ≡ place =
@@ -49,11 +52,14 @@ far : (kept : List ℕ) (i j : ℕ) → IsStrictlyIncreasing kept → i < j → 
     → get_or kept i 0 < get_or kept j 0
 far kept i j rise low within = AllPairs-from_increasing kept rise i j 0 low within
 
-not_kept : (kept : List ℕ) (place n k : ℕ) → IsStrictlyIncreasing kept → IsSplit kept place n
-    → (place < length kept → get_or kept place 0 ≢ n) → k < length kept → get_or kept k 0 ≢ n
+not_kept : (kept : List ℕ) (place n k : ℕ) → IsStrictlyIncreasing kept
+    → IsSplit kept place n
+    → (place < length kept → get_or kept place 0 ≢ n) → k < length kept
+    → get_or kept k 0 ≢ n
 not_kept kept place n k rise split other within = cases (cases_lt k place) (cases_lt place k)
   where
-    cases : (k < place) ⊎ (place ≤ k) → (place < k) ⊎ (k ≤ place) → get_or kept k 0 ≢ n
+    cases : (k < place) ⊎ (place ≤ k) → (place < k) ⊎ (k ≤ place)
+        → get_or kept k 0 ≢ n
     cases (inl low) more = λ e. omega (arith, e, split.below k low)
     cases (inr high) (inl above) =
         let l : get_or kept place 0 < get_or kept k 0 = far kept place k rise above within in
@@ -73,7 +79,8 @@ wire_missing kept place n rise split other =
     ap (λ (k : ℕ). cond (ltb k (length kept)) (Some k) None) all
     ∙ cond-false _ _ _ (le-ltb (length kept) (length kept) (omega arith))
 
-pub split_behind : (kept : List ℕ) (place n : ℕ) → IsStrictlyIncreasing kept → place < length kept
+pub split_behind : (kept : List ℕ) (place n : ℕ) → IsStrictlyIncreasing kept
+    → place < length kept
     → get_or kept place 0 ≡ n → IsSplit kept place n → IsSplit kept (place + 1) (n + 1)
 split_behind kept place n rise within here split = record {
   below = λ k low. below k (cases_lt k place) low;
@@ -81,7 +88,8 @@ split_behind kept place n rise within here split = record {
       omega (arith, here, far kept place k rise (omega arith) inside);
 }
   where
-    below : (k : ℕ) → (k < place) ⊎ (place ≤ k) → k < place + 1 → get_or kept k 0 < n + 1
+    below : (k : ℕ) → (k < place) ⊎ (place ≤ k) → k < place + 1
+        → get_or kept k 0 < n + 1
     below k (inl low) l = omega (arith, split.below k low)
     below k (inr high) l =
         let e : k ≡ place = omega arith in
@@ -113,8 +121,10 @@ split_first signals kept h = record {
 
 -- a line
 pub line_added : (old label wire instance name s1 s2 s3 s4 s5 s6 s7 s8 : List ℕ)
-    → s1 ≡ old ++ label → s2 ≡ s1 ++ 44 ∷ [] → s3 ≡ s2 ++ wire → s4 ≡ s3 ++ 44 ∷ []
-    → s5 ≡ s4 ++ instance → s6 ≡ s5 ++ 44 ∷ [] → s7 ≡ s6 ++ name → s8 ≡ s7 ++ 10 ∷ []
+    → s1 ≡ old ++ label → s2 ≡ s1 ++ 44 ∷ [] → s3 ≡ s2 ++ wire
+    → s4 ≡ s3 ++ 44 ∷ []
+    → s5 ≡ s4 ++ instance → s6 ≡ s5 ++ 44 ∷ [] → s7 ≡ s6 ++ name
+    → s8 ≡ s7 ++ 10 ∷ []
     → s8 ≡ old ++ ((label ++ 44 ∷ (wire ++ 44 ∷ (instance ++ 44 ∷ name))) ++ 10 ∷ [])
 line_added old label wire instance name s1 s2 s3 s4 s5 s6 s7 s8 h1 h2 h3 h4 h5 h6 h7 h8 =
     h8 ∙ rw (h7, h6, h5, h4, h3, h2, h1) (simp append_assoc)
@@ -159,7 +169,8 @@ local_is signals n h entry local there named =
     (placed h.named.dims h.entry.place h.named.inside)
 
 -- text of one line
-whole_line : (front rest : List ℕ) → IsInLine front → IsInLine rest → IsInLine (front ++ rest)
+whole_line : (front rest : List ℕ) → IsInLine front → IsInLine rest
+    → IsInLine (front ++ rest)
 whole_line front rest f r = record {
   utf8 = IsUtf8-append front rest f.utf8 r.utf8;
   one_line = All-append (λ b. b ≢ 10) front rest f.one_line r.one_line;
@@ -232,8 +243,11 @@ path_is instances i j p q e a b =
     let same : p ≡ q = cc in same
 
 entry_is : (signals : Signals) (n : ℕ) (a b : SignalName)
-    → slice_get signals.names (n - 1) ≡ Some a → slice_get signals.names (n - 1) ≡ Some b → a ≡ b
-entry_is signals n a b p q = let some : Some a ≡ Some b = sym p ∙ q in let same : a ≡ b = cc in same
+    → slice_get signals.names (n - 1) ≡ Some a → slice_get signals.names (n - 1) ≡ Some b
+    → a ≡ b
+entry_is signals n a b p q =
+    let some : Some a ≡ Some b = sym p ∙ q in
+    let same : a ≡ b = cc in same
 
 -- what is the name of the signal
 abbrev full : (signals : Signals) (instances : List (List ℕ)) (n : ℕ)
@@ -248,8 +262,9 @@ full_is : (signals : Signals) (instances : List (List ℕ)) (n : ℕ) (wire : Op
 full_is signals instances n wire line c is =
     let same : is.entry ≡ c.name.entry = entry_is signals n is.entry c.name.entry is.there
     c.name.there in
-    let path : is.path ≡ c.path = path_is instances is.entry.instance c.name.entry.instance is.path
-    c.path (ap (λ (e : SignalName). e.instance) same) is.instance_there c.instance in
+    let path : is.path ≡ c.path =
+    path_is instances is.entry.instance c.name.entry.instance is.path c.path
+    (ap (λ (e : SignalName). e.instance) same) is.instance_there c.instance in
     let local : is.local ≡ c.name.named.declared
     ++ brackets (index_of c.name.named.dims c.name.entry.place) =
     local_is signals n c.name is.entry is.local is.there (is.named is.entry is.there) in
@@ -342,7 +357,8 @@ module _ (signals : Signals) (instances : List (List ℕ)) (kept : List ℕ) whe
   from_all named count e m low high = named m (omega arith) (omega (arith, high, e))
 
   pub one_answer : CanAllBeNamed signals instances → (as' bs : List SymLine)
-      → AreLinesOf signals instances kept as' → AreLinesOf signals instances kept bs → as' ≡ bs
+      → AreLinesOf signals instances kept as' → AreLinesOf signals instances kept bs
+      → as' ≡ bs
   one_answer named as' bs a b =
       all_same 1 as' bs (a.many ∙ sym b.many) a.are b.are (from_all named (length as') a.many)
 
@@ -378,10 +394,12 @@ module _ (signals : Signals) (instances : List (List ℕ)) (kept : List ℕ) whe
         are = lines_more 1 h.lines line h.are
             (subst (λ (m : ℕ). IsLineOf signals instances m (wire_among kept m) line) number is);
         narrow = All-push IsNarrowLine h.lines line h.narrow narrow;
-        text_is = e ∙ (ap (λ (l : List ℕ). l ++ (line_of line ++ 10 ∷ [])) h.text_is ∙ sym all);
+        text_is =
+            e ∙ (ap (λ (l : List ℕ). l ++ (line_of line ++ 10 ∷ [])) h.text_is ∙ sym all);
       }
 
-  pub text_done : (text : List ℕ) → HasWritten signals instances kept (length signals.names) text
+  pub text_done : (text : List ℕ)
+      → HasWritten signals instances kept (length signals.names) text
       → IsTextOf signals instances kept text
   text_done text h = record {
     lines = h.lines;

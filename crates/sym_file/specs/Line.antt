@@ -1,6 +1,8 @@
 -- Files of symbols: lines `LABEL,WIRE,INSTANCE,NAME`.
-use Rattle.std.specs.Prelude.{◌≡◌, ℕ, ◌<◌, ◌^◌, ◌&&◌, true, Bool, List, ◌∷◌, ◌++◌, length, map}
-use Rattle.std.specs.Prelude.{nat_lt, codes, decimal, bytes_eq, if◌then◌else◌, Option, Some, None}
+use Rattle.std.specs.Prelude.{◌≡◌, ℕ, ◌<◌, ◌^◌, ◌&&◌, true, Bool, List}
+use Rattle.std.specs.Prelude.{◌∷◌, ◌++◌, length, map}
+use Rattle.std.specs.Prelude.{nat_lt, codes, decimal, bytes_eq, if◌then◌else◌, Option, Some}
+use Rattle.std.specs.Prelude.{None}
 use Rattle.std.specs.Prelude.{option_map, Result}
 use Rattle.std.specs.Str.{is_utf8, IsUtf8}
 use Rattle.text_lines.specs.Lines.{split_once, text_of, HasNo}
@@ -15,7 +17,8 @@ wire_text (Some wire) = decimal wire
 
 -- the line that is written
 abbrev pub line_of : SymLine → List ℕ
-line_of l = decimal l.label ++ 44 ∷ (wire_text l.wire ++ 44 ∷ (decimal l.instance ++ 44 ∷ l.name))
+line_of l =
+    decimal l.label ++ 44 ∷ (wire_text l.wire ++ 44 ∷ (decimal l.instance ++ 44 ∷ l.name))
 
 abbrev pub symbols_text : List SymLine → List ℕ
 symbols_text lines = text_of (map line_of lines)
@@ -31,7 +34,8 @@ is_name bytes = nat_lt 0 (length bytes) && is_utf8 bytes
 
 -- what is said of a line whose parts between commas are these; behind the third comma everything is
 -- the name
-abbrev pub with_parts : Option ℕ → Option (Option ℕ) → Option ℕ → (name : List ℕ) → Option SymLine
+abbrev pub with_parts : Option ℕ → Option (Option ℕ) → Option ℕ → (name : List ℕ)
+    → Option SymLine
 with_parts None wire instance name = None
 with_parts (Some label) None instance name = None
 with_parts (Some label) (Some wire) None name = None

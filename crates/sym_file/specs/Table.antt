@@ -1,5 +1,6 @@
 -- The lines of a circuit's signals.
-use Rattle.std.specs.Prelude.{◌≡◌, ◌==◌, ℕ, ◌+◌, ◌-◌, ◌<◌, ◌≤◌, List, [], ◌∷◌, ◌++◌, length, All}
+use Rattle.std.specs.Prelude.{◌≡◌, ◌==◌, ℕ, ◌+◌, ◌-◌, ◌<◌, ◌≤◌, List}
+use Rattle.std.specs.Prelude.{[], ◌∷◌, ◌++◌, length, All}
 use Rattle.std.specs.Prelude.{codes, position, slice_get, slice_index, Option, Some}
 use Rattle.std.specs.List.Sorted.{IsStrictlyIncreasing}
 use Rattle.std.specs.Str.{IsUtf8}
@@ -54,7 +55,8 @@ pub record IsLineOf (signals : Signals) (instances : List (List ℕ)) (n : ℕ) 
   pub name : line.name ≡ path ++ (codes "." ++ local)
 
 -- the lines of the signals from n on
-abbrev pub AreLinesFrom : Signals → (instances : List (List ℕ)) → (kept : List ℕ) → (n : ℕ)
+abbrev pub AreLinesFrom : Signals → (instances : List (List ℕ)) → (kept : List ℕ)
+    → (n : ℕ)
     → List SymLine → Type 0
 AreLinesFrom signals instances kept n [] = Unit {0}
 AreLinesFrom signals instances kept n (line ∷ lines) =
@@ -75,8 +77,8 @@ pub record IsTextOf (signals : Signals) (instances : List (List ℕ)) (kept : Li
   pub text_is : text ≡ symbols_text lines
 
 -- the lines of so many signals are written
-pub record HasWritten (signals : Signals) (instances : List (List ℕ)) (kept : List ℕ) (count : ℕ)
-    (text : List ℕ) : Type 0 where
+pub record HasWritten (signals : Signals) (instances : List (List ℕ)) (kept : List ℕ)
+    (count : ℕ) (text : List ℕ) : Type 0 where
   pub lines : List SymLine
   pub many : length lines ≡ count
   pub are : AreLinesFrom signals instances kept 1 lines

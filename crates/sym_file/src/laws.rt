@@ -1,5 +1,6 @@
 //! Laws of files of symbols, as functions that do nothing: the law is what each ensures.
-ghost use Rattle.std.specs.Prelude.{◌≡◌, ◌↔◌, ℕ, ◌≤◌, List, All, length, Some, Ok};
+ghost use Rattle.std.specs.Prelude.{◌≡◌, ◌↔◌, ℕ, ◌≤◌, List, All, length, Some};
+ghost use Rattle.std.specs.Prelude.{Ok};
 ghost use Rattle.sym_file.specs.declared.line.SymLine.{SymLine as ASymLine};
 ghost use Rattle.cir_values.specs.declared.signals.Signals.{Signals as AnySignals};
 ghost use Rattle.sym_file.specs.Line.{IsWritten, Says, said, symbols_of, symbols_text};

@@ -1,4 +1,5 @@
-ghost use Rattle.std.specs.Prelude.{◌≡◌, ◌+◌, ◌≤◌, ◌∷◌, ◌++◌, [], List, length, codes, Ok};
+ghost use Rattle.std.specs.Prelude.{◌≡◌, ◌+◌, ◌≤◌, ◌∷◌, ◌++◌, [], List};
+ghost use Rattle.std.specs.Prelude.{length, codes, Ok};
 ghost use Rattle.std.specs.Prelude.{IfOk, OnOk, is_some, if◌then◌else◌};
 ghost use Rattle.std.specs.List.Sorted.{IsStrictlyIncreasing};
 ghost use Rattle.sym_file.specs.declared.line.SymLine.{SymLine as ASymLine};

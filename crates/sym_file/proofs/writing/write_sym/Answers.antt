@@ -1,11 +1,13 @@
-use Rattle.std.proofs.Common.{◌≡◌, ◌+◌, ◌≤◌, ℕ, Bool, true, false, cond, Option, List, length, subst}
+use Rattle.std.proofs.Common.{◌≡◌, ◌+◌, ◌≤◌, ℕ, Bool, true, false, cond, Option}
+use Rattle.std.proofs.Common.{List, length, subst}
 use Rattle.std.proofs.Common.{sym, arith}
 use Rattle.std.specs.Option.{is_some}
 use Rattle.sym_file.specs.Table.{HasWritten, IsLineOf, IsSplit, wire_among}
 use Rattle.sym_file.proofs.Table.{split_first, text_first, text_more, text_done, text_back}
 use Rattle.sym_file.proofs.writing.write_sym.Goals as goal
 
-step_within : (b : Bool) (next most after : ℕ) → after ≡ cond b (next + 1) next → next ≤ most
+step_within : (b : Bool) (next most after : ℕ) → after ≡ cond b (next + 1) next
+    → next ≤ most
     → after ≤ most + 1
 step_within true next most after e h = omega (arith, e)
 step_within false next most after e h = omega (arith, e)
@@ -22,10 +24,12 @@ loop-place-init c = record {
 pub loop-place-preserved : goal.loop-place-preserved
 loop-place-preserved c =
     let n : ℕ = c.loop-place.place + 1 in
-    let wire : c.wire_at-wire.result ≡ wire_among c.args.wires.now n = c.wire_at-wire.ensures.wire in
+    let wire : c.wire_at-wire.result ≡ wire_among c.args.wires.now n =
+    c.wire_at-wire.ensures.wire in
     let line : IsLineOf c.args.signals.now c.args.instances.now n
     (wire_among c.args.wires.now n) c.in_ok-line.line =
-    subst (λ (w : Option ℕ). IsLineOf c.args.signals.now c.args.instances.now n w c.in_ok-line.line)
+    subst (λ (w : Option ℕ).
+    IsLineOf c.args.signals.now c.args.instances.now n w c.in_ok-line.line)
     wire c.in_ok-line.ensures.line in record {
       within = step_within (is_some c.wire_at-wire.result) c.loop-place.next n
           c.behind-next.result c.behind-next.ensures c.loop-place.invariant.within;
