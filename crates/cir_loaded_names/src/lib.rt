@@ -1,0 +1,4 @@
+//! The names of a program that loading gives are identifiers.
+#![tactic(auto)]
+
+pub mod laws;
