@@ -27,10 +27,7 @@ import time
 from cases import BAD_PARAMETERS, FILES, NOT_SHOWN, P
 
 HERE = os.path.dirname(os.path.abspath(__file__))
-TOP = HERE
-while not os.path.exists(os.path.join(TOP, "circom_gold")):
-    TOP = os.path.dirname(TOP)
-PROGRAM = os.path.abspath(os.environ.get("PROGRAM", os.path.join(TOP, "circom_gold")))
+PROGRAM = os.path.abspath(os.environ.get("PROGRAM", os.path.join(HERE, "..", "circom_gold")))
 # So many changed witnesses of a case and level are given to `check`.
 CHECKED = int(os.environ.get("CHECKED", "6"))
 # Whether only --O1, one size, one number of workers and few inputs of each template are tried.

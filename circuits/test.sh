@@ -8,8 +8,6 @@
 #
 # It ends with 1 where anything is wrong.
 here=$(dirname "$(readlink -f "$0")")
-top=$here
-until [ -e "$top/allocator.sh" ]; do top=$(dirname "$top"); done
-. "$top/allocator.sh"
+. "$here/../allocator.sh"
 # No folder of compiled Python is left beside the circuits.
 PYTHONDONTWRITEBYTECODE=1 exec python3 "$here/test.py" "$@"

@@ -1,3 +1,0 @@
-include "merkle.circom";
-
-component main {public [root]} = AssertPoseidonMember(2, 2);

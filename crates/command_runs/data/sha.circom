@@ -1,3 +1,0 @@
-include "sha256.circom";
-
-component main = Sha256(3);

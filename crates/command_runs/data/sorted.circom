@@ -1,3 +1,0 @@
-include "sort.circom";
-
-component main = Sort(5, 8);
