@@ -1,5 +1,5 @@
 -- A flow, its start values and each step's fuel, and what its strands read and answer
-use Rattle.std.specs.Prelude.{◌≡◌, ℕ, ◌<◌, List, length, slice_index}
+use Rattle.std.specs.Prelude.{◌≡◌, ℕ, ◌*◌, ◌^◌, ◌<◌, All, List, length, slice_index}
 use Rattle.flow_core.specs.Net.{reads_of}
 use Rattle.flow_core.specs.Flow.{Flow, Answer, Refuses, Gives, HasValue}
 use Rattle.wit_flow.specs.declared.StrandOut.{StrandOut}
@@ -7,6 +7,8 @@ use Rattle.wit_flow.specs.declared.StrandOut.TheVariants.{Values, Refused}
 use Rattle.wit_flow.specs.Plan.{Plan, IsPlan}
 use Rattle.wit_flow.specs.Cells.{Cells, numbers_at}
 use Rattle.wit_flow.specs.Run.{End}
+use Rattle.wit_flow.specs.declared.Outcome.{Outcome}
+use Rattle.wit_flow.specs.OneThread.{IsOutcome, one_thread}
 use Rattle.wit_flow.specs.Answers.{start_cells, strand_end, cells_before, flow_of}
 
 pub record Task : Type 0 where
@@ -21,6 +23,12 @@ task p start fuel = record { plan = p; start = start; fuel = fuel }
 pub record IsTask (t : Task) : Type 0 where
   pub plan : IsPlan t.plan
   pub starts_each : length t.start ≡ length t.plan.starts
+
+-- tasks of so many strands each: the strand k of the task i has the number i * strands + k, and all
+-- these numbers have 32 bits
+pub record AreNumbered (strands : ℕ) (ts : List Task) : Type 0 where
+  pub each : All (λ t. t.plan.graph.strands ≡ strands) ts
+  pub few : length ts * strands < 2 ^ 32
 
 abbrev pub answers_of : Task → Flow
 answers_of t = flow_of t.plan t.start t.fuel
@@ -47,3 +55,7 @@ pub record AreRead (f : Flow) (k : ℕ) (xs : List ℕ) : Type 0 where
 -- the numbers that the strand k reads once those below it have answered
 abbrev pub read_at : Task → ℕ → List ℕ
 read_at t k = numbers_at (cells_at t k) (reads_of t.plan.graph k)
+
+-- the outcome is that of one thread
+abbrev pub IsOneThread : Task → Outcome → Type 0
+IsOneThread t o = IsOutcome t.plan.graph.cells o (one_thread t.plan t.start t.fuel)

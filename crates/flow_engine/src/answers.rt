@@ -45,6 +45,17 @@ impl<'s> FlowAnswers<'s> {
         FlowAnswers { flow, start, fuel }
     }
 
+    /// The same once more. Takes no memory.
+    pub(crate) fn again(&self) -> FlowAnswers<'s>
+        ensures { result ≡ self.now }
+    {
+        FlowAnswers {
+            flow: self.flow,
+            start: self.start,
+            fuel: self.fuel,
+        }
+    }
+
     /// Does nothing: its clauses tell a caller what the type keeps.
     pub fn facts(&self)
         ensures { IsTask self.now }

@@ -1,7 +1,9 @@
-//! Runs the strands of a flow on many threads over one board, with the answer of one thread.
+//! Runs the strands of flows on many threads, each flow over a board of its own, with the answers
+//! of one thread.
 #![tactic(auto)]
 
 mod answers;
+mod boards;
 mod gate;
 mod lend;
 mod many;
@@ -10,4 +12,4 @@ mod work;
 
 pub use answers::FlowAnswers;
 pub use gate::{Gate, OpenGate};
-pub use many::run_many;
+pub use many::{run_each, run_many};

@@ -1,16 +1,13 @@
-ghost use Rattle.std.specs.Prelude.{◌≡◌, ℕ, ◌<◌, ◌≤◌, IfOk, length};
-ghost use Rattle.flow_core.specs.Flow.{start_of};
-ghost use Rattle.flow_board.specs.Seats.{ListsStarts};
+ghost use Rattle.std.specs.Prelude.{◌≡◌, ◌+◌, ◌<◌, ◌≤◌, ◌^◌, IfOk, length};
+ghost use Rattle.std.specs.List.{AllZip};
 ghost use Rattle.wit_flow.specs.OneThread.{IsOutcome, one_thread};
-ghost use Rattle.flow_engine.specs.Task.{answers_of};
-ghost use Rattle.flow_engine.specs.Sweep.{AreClosed};
+ghost use Rattle.flow_engine.specs.Task.{AreNumbered, IsOneThread};
 
 use crate::answers::FlowAnswers;
+use crate::boards::{Boards, close_boards, make_boards};
 use crate::gate::Gate;
-use crate::lend::{cut_seats, lend_all, take_back};
-use crate::sweep::sweep;
-use crate::work::Job;
-use flow_board::{Board, Words};
+use crate::lend::lend_all;
+use crate::work::Batch;
 use flow_core::Graph;
 use flow_pool::{Pool, PoolState};
 use gold_field::Gold;
@@ -19,64 +16,67 @@ use std::sync::Wait;
 use std::thread::Threads;
 use wit_flow::{Flow, Outcome};
 
-// The start cells with their values.
-fn pairs(alloc: Global, answers: &FlowAnswers<'_>) -> Result<Vec<(u32, Gold)>, AllocError>
-    ensures { IfOk result (λ v. ListsStarts (answers_of answers.now) v.items) }
+// Adds the items of a graph's strands without predecessors. The last to go in is the first to come
+// out, so they go in from the last one down: neighbours lie side by side in memory.
+fn put_ready(state: &mut PoolState, graph: &Graph, base: u32)
+    requires { base + graph.now.strands ≤ 2 ^ 32 }
 {
-    answers.facts();
-    let cells = answers.flow().starts.as_slice();
-    let values = answers.start();
-    let mut pairs = Vec::with_capacity(alloc, cells.len())?;
-    for i in 0..cells.len() {
-        pairs.push((cells[i], values[i]))?;
-    }
-    Ok(pairs)
-}
-
-// A pool in which the strands without predecessors are ready. The last to go in is the first to
-// come out, so the strands go in from the last one down: neighbours lie side by side in memory.
-fn first_pool(alloc: Global, graph: &Graph, workers: u32) -> Result<Pool, AllocError> {
     let strands = graph.strands;
-    let mut state = PoolState::make(alloc, strands, &[])?;
     for above in 0..strands {
         let strand = strands - 1 - above;
         if graph.preds_of(strand).is_empty() {
-            let _has_room = state.put(strand);
+            let _has_room = state.put(base + strand);
         }
+    }
+}
+
+// A pool of all tasks' items in which those of the strands without predecessors are ready, those of
+// the first task first.
+fn first_pool(
+    alloc: Global,
+    tasks: &[FlowAnswers<'_>],
+    strands: u32,
+    workers: u32,
+) -> Result<Pool, AllocError>
+    requires { AreNumbered strands tasks.now }
+{
+    let items = tasks.len() * strands as usize;
+    let mut state = PoolState::make(alloc, items as u32, &[])?;
+    for above in 0..tasks.len() {
+        let task = tasks.len() - 1 - above;
+        let base = task * strands as usize;
+        put_ready(&mut state, tasks[task].graph(), base as u32);
     }
     Ok(Pool::make(state, workers))
 }
 
-// Runs workers over a board, and closes it.
-fn run_board<R: Threads + Wait + Sync, G: Gate>(
+/// Runs the strands of all tasks on 1 to 64 workers, over one pool. Each outcome is that of one
+/// thread on its task, whatever the workers' number and whatever comes first in time; want of
+/// memory in a worker is want of memory of the call.
+pub fn run_each<R: Threads + Wait + AllocGlobal + Sync, G: Gate>(
     rt: &R,
-    alloc: Global,
-    answers: &FlowAnswers<'_>,
-    own: FlowAnswers<'_>,
+    tasks: &[FlowAnswers<'_>],
+    strands: u32,
     workers: u32,
     gate: &G,
-) -> Result<Words, AllocError>
-    requires same { own ≡ answers.now }
+) -> Result<Vec<Outcome>, AllocError>
+    requires items { AreNumbered strands tasks.now }
+    requires some { 0 < workers }
     requires few { workers ≤ 64 }
-    ensures { IfOk result (AreClosed (answers_of answers.now)) }
+    ensures { IfOk result (λ outcomes. AllZip IsOneThread tasks.now outcomes.items) }
 {
-    answers.facts();
-    let graph = answers.graph();
-    let start = pairs(alloc, answers)?;
-    let pool = first_pool(alloc, graph, workers)?;
-    let (board, mut seat) = Board::make(alloc, graph, start.as_slice(), own)?;
-    let seats = cut_seats(alloc, &board, &mut seat, workers)?;
-    let job = Job {
-        board: &board,
-        answers,
+    let alloc = rt.alloc();
+    let pool = first_pool(alloc, tasks, strands, workers)?;
+    let Boards { boards, own, hands } = make_boards(alloc, tasks, workers)?;
+    let batch = Batch {
+        boards: boards.as_slice(),
+        tasks,
+        strands,
         pool: &pool,
         gate,
     };
-    let seats = lend_all(rt, alloc, &job, seats)?;
-    if take_back(&board, &mut seat, seats).is_none() {
-        return Err(AllocError);
-    }
-    Ok(board.close(seat))
+    let hands = lend_all(rt, alloc, &batch, hands)?;
+    close_boards(alloc, tasks, boards, own, hands)
 }
 
 /// Runs a flow's strands on 1 to 64 workers. The answer is that of one thread, whatever the
@@ -96,10 +96,12 @@ pub fn run_many<R: Threads + Wait + AllocGlobal + Sync, G: Gate>(
     ensures { IfOk result (λ o. IsOutcome flow.now.graph.cells o
         (one_thread flow.now start.now fuel)) }
 {
-    let alloc = rt.alloc();
-    // The board keeps one, and the workers share the other.
-    let answers = FlowAnswers::of(flow, start, fuel);
-    let own = FlowAnswers::of(flow, start, fuel);
-    let words = run_board(rt, alloc, &answers, own, workers, gate)?;
-    sweep(alloc, &answers, &words)
+    let task = FlowAnswers::of(flow, start, fuel);
+    let graph = task.graph();
+    graph.facts();
+    let mut outcomes = run_each(rt, &[task], graph.strands, workers, gate)?;
+    match outcomes.pop() {
+        Some(outcome) => Ok(outcome),
+        None => unreachable!(),
+    }
 }

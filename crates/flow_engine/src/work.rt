@@ -1,9 +1,10 @@
 // What one worker does.
-ghost use Rattle.std.specs.Prelude.{◌≡◌, ◌<◌, None, Some, OnOk, IsTrue};
+ghost use Rattle.std.specs.Prelude.{◌≡◌, ◌+◌, ◌<◌, ◌≤◌, ◌^◌, None, Some, OnOk};
 ghost use Rattle.flow_core.specs.Flow.{Gives, answer_of};
 ghost use Rattle.flow_core.specs.Events.{hold};
 ghost use Rattle.flow_board.specs.Seats.{place_of};
-ghost use Rattle.flow_engine.specs.Task.{answers_of, AreRead};
+ghost use Rattle.flow_engine.specs.Task.{answers_of, AreRead, AreNumbered};
+ghost use Rattle.flow_engine.specs.Lent.{AreBoards, IsHand, IsHandBack};
 
 use crate::answers::FlowAnswers;
 use crate::gate::Gate;
@@ -15,19 +16,32 @@ use std::sync::Wait;
 use wit_code::Room;
 use wit_flow::StrandOut;
 
-/// What all workers of a run share.
+/// What all workers of a run share: a board for each task. In the pool the strand k of the task i
+/// is the item `i * strands + k`.
 #[derive(Drop)]
-pub struct Job<'a, 'g, 's, G> {
-    pub board: &'a Board<'g, FlowAnswers<'s>>,
-    pub answers: &'a FlowAnswers<'s>,
+pub struct Batch<'a, 'g, 's, G> {
+    pub boards: &'a [Board<'g, FlowAnswers<'s>>],
+    pub tasks: &'a [FlowAnswers<'s>],
+    /// How many strands each task has.
+    pub strands: u32,
     pub pool: &'a Pool,
     pub gate: &'a G,
+}
+
+// One task of them, and the item of its strand 0.
+#[derive(Drop)]
+struct Job<'a, 'g, 's, G> {
+    board: &'a Board<'g, FlowAnswers<'s>>,
+    answers: &'a FlowAnswers<'s>,
+    base: u32,
+    pool: &'a Pool,
+    gate: &'a G,
 }
 
 /// What a worker keeps from strand to strand.
 #[derive(Drop)]
 struct Desk {
-    // The strands that it runs next, the last one first: those that it made ready, and those that it
+    // The items that it runs next, the last one first: those that it made ready, and those that it
     // took from the pool.
     mine: Vec<u32>,
     // The values of the cells that its strand reads.
@@ -62,7 +76,7 @@ fn gather(
     Ok(())
 }
 
-// Where the pool has too few strands for the other workers, it gets this one's, but for the later
+// Where the pool has too few items for the other workers, it gets this one's, but for the later
 // half if the others find enough. Those that became ready first go first: behind them the most may
 // stand.
 fn share_out<R: Wait>(rt: &R, pool: &Pool, mine: &mut Vec<u32>) {
@@ -86,6 +100,7 @@ fn hand_in<R: Wait, G: Gate>(
     ready: &mut Vec<u32>,
 )
     requires flow { job.now.board.now.flow ≡ answers_of job.now.answers.now }
+    requires items { job.now.base + job.now.answers.now.plan.graph.strands ≤ 2 ^ 32 }
     requires own { place_of seat.old ≡ job.now.board.now }
     requires near { strand < job.now.answers.now.plan.graph.strands }
     requires held { seat.old.view.holding ≡ Some (hold strand 0 0) }
@@ -96,13 +111,15 @@ fn hand_in<R: Wait, G: Gate>(
 {
     let board = job.board;
     let graph = job.answers.graph();
+    graph.facts();
     for i in 0..values.len() {
         board.publish(seat, values[i]);
     }
     for told in 0..graph.succs_of(strand).len() {
         let released = board.release(seat);
-        if released.ready && ready.push(released.strand).is_err() {
-            job.pool.put(rt, released.strand);
+        let item = job.base + released.strand;
+        if released.ready && ready.push(item).is_err() {
+            job.pool.put(rt, item);
         }
     }
     board.finish(seat);
@@ -118,6 +135,7 @@ fn run_taken<R: Wait, G: Gate>(
     desk: &mut Desk,
 ) -> Result<(), AllocError>
     requires flow { job.now.board.now.flow ≡ answers_of job.now.answers.now }
+    requires items { job.now.base + job.now.answers.now.plan.graph.strands ≤ 2 ^ 32 }
     requires own { place_of seat.old ≡ job.now.board.now }
     requires near { strand < job.now.answers.now.plan.graph.strands }
     requires held { seat.old.view.holding ≡ Some (hold strand 0 0) }
@@ -125,7 +143,7 @@ fn run_taken<R: Wait, G: Gate>(
     ensures free { OnOk result (seat.new.view.holding ≡ None) }
     ensures share { seat.new.view.share ≡ seat.old.view.share }
 {
-    job.gate.enter(strand);
+    job.gate.enter(job.base + strand);
     gather(job.board, job.answers, seat, strand, &mut desk.reads)?;
     match job
         .answers
@@ -149,19 +167,16 @@ fn give_up<R: Wait>(rt: &R, pool: &Pool) {
     }
 }
 
-// Whether a strand is in range and below the least refusal that the seat sees.
+// Whether a strand is below the least refusal that the seat sees.
 fn is_wanted<G: Gate>(job: &Job<'_, '_, '_, G>, seat: &mut WorkSeat, strand: u32) -> bool
-    requires flow { job.now.board.now.flow ≡ answers_of job.now.answers.now }
     requires own { place_of seat.old ≡ job.now.board.now }
-    ensures near { IsTrue result → strand < job.now.answers.now.plan.graph.strands }
     ensures own { place_of seat.new ≡ job.now.board.now }
     ensures held { seat.new.view.holding ≡ seat.old.view.holding }
     ensures share { seat.new.view.share ≡ seat.old.view.share }
 {
-    let graph = job.answers.graph();
     match job.board.least(seat) {
         Some(least) => strand < least,
-        None => strand < graph.strands,
+        None => true,
     }
 }
 
@@ -175,7 +190,9 @@ fn attend<R: Wait, G: Gate>(
     desk: &mut Desk,
 ) -> Result<(), AllocError>
     requires flow { job.now.board.now.flow ≡ answers_of job.now.answers.now }
+    requires items { job.now.base + job.now.answers.now.plan.graph.strands ≤ 2 ^ 32 }
     requires own { place_of seat.old ≡ job.now.board.now }
+    requires near { strand < job.now.answers.now.plan.graph.strands }
     requires free { seat.old.view.holding ≡ None }
     ensures own { place_of seat.new ≡ job.now.board.now }
     ensures free { OnOk result (seat.new.view.holding ≡ None) }
@@ -188,35 +205,72 @@ fn attend<R: Wait, G: Gate>(
     }
 }
 
-// The strand that comes next.
+// Runs the strand of an item, with the seat at its board. What isn't an item of the run is dropped.
+fn attend_item<R: Wait, G: Gate>(
+    rt: &R,
+    alloc: Global,
+    batch: &Batch<'_, '_, '_, G>,
+    hand: &mut [WorkSeat],
+    item: u32,
+    desk: &mut Desk,
+) -> Result<(), AllocError>
+    requires boards { AreBoards batch.now.tasks.now batch.now.boards.now }
+    requires items { AreNumbered batch.now.strands batch.now.tasks.now }
+    requires free { IsHand batch.now.boards.now hand.old }
+    ensures free { OnOk result (IsHand batch.now.boards.now hand.new) }
+    ensures back { IsHandBack batch.now.boards.now hand.new }
+{
+    let strands = batch.strands;
+    let boards = batch.boards;
+    if strands == 0 || (item / strands) as usize >= boards.len() {
+        return Ok(());
+    }
+    let at = (item / strands) as usize;
+    let strand = item % strands;
+    let tasks = batch.tasks;
+    let job = Job {
+        board: &boards[at],
+        answers: &tasks[at],
+        base: item - strand,
+        pool: batch.pool,
+        gate: batch.gate,
+    };
+    attend(rt, alloc, &job, &mut hand[at], strand, desk)
+}
+
+// The item that comes next.
 fn next<R: Wait>(rt: &R, pool: &Pool, mine: &mut Vec<u32>) -> Option<u32> {
     match mine.pop() {
-        Some(strand) => Some(strand),
+        Some(item) => Some(item),
         None => pool.next_some(rt, mine),
     }
 }
 
-/// Runs strands until the pool is closed: those that this worker made ready first. Where memory
-/// runs out the seat is left with its strand.
-pub fn work<R: Wait, G: Gate>(rt: &R, alloc: Global, job: &Job<'_, '_, '_, G>, seat: &mut WorkSeat)
-    requires flow { job.now.board.now.flow ≡ answers_of job.now.answers.now }
-    requires own { place_of seat.old ≡ job.now.board.now }
-    requires free { seat.old.view.holding ≡ None }
-    ensures own { place_of seat.new ≡ job.now.board.now }
-    ensures share { seat.new.view.share ≡ seat.old.view.share }
+/// Runs strands until the pool is closed: those that this worker made ready first. The hand has a
+/// seat at each board. Where memory runs out a seat is left with its strand.
+pub fn work<R: Wait, G: Gate>(
+    rt: &R,
+    alloc: Global,
+    batch: &Batch<'_, '_, '_, G>,
+    hand: &mut [WorkSeat],
+)
+    requires boards { AreBoards batch.now.tasks.now batch.now.boards.now }
+    requires items { AreNumbered batch.now.strands batch.now.tasks.now }
+    requires free { IsHand batch.now.boards.now hand.old }
+    ensures { IsHandBack batch.now.boards.now hand.new }
 {
-    job.pool.enter(rt);
+    batch.pool.enter(rt);
     let mut desk = Desk {
         mine: Vec::new(alloc),
         reads: Vec::new(alloc),
         room: Room::new(alloc),
     };
     for _ in rt.forever() {
-        let Some(strand) = next(rt, job.pool, &mut desk.mine) else {
+        let Some(item) = next(rt, batch.pool, &mut desk.mine) else {
             break;
         };
-        if attend(rt, alloc, job, seat, strand, &mut desk).is_err() {
-            give_up(rt, job.pool);
+        if attend_item(rt, alloc, batch, hand, item, &mut desk).is_err() {
+            give_up(rt, batch.pool);
             break;
         }
     }

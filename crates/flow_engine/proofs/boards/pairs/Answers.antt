@@ -1,7 +1,7 @@
 use Rattle.std.proofs.Common.{◌≡◌, ◌∙◌, ap, ℕ, List, length, get_or, arith}
 use Rattle.wit_flow.specs.Plan.{Plan}
 use Rattle.flow_engine.proofs.Starts.{lists_starts}
-use Rattle.flow_engine.proofs.many.pairs.Goals as goal
+use Rattle.flow_engine.proofs.boards.pairs.Goals as goal
 
 pub returns : goal.returns
 returns c =

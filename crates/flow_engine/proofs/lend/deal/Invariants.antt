@@ -1,0 +1,18 @@
+use Rattle.std.proofs.Common.{◌≡◌, ◌+◌, ◌++◌, ◌∷◌, [], None, length}
+use Rattle.std.specs.Prelude.{All}
+use Rattle.flow_board.specs.Seats.{place_of}
+use Rattle.flow_engine.specs.Lent.{IsHand}
+use Rattle.flow_engine.proofs.lend.deal.Given as goal
+
+abbrev pub invariant-loop-hand : goal.invariant-loop-hand
+invariant-loop-hand l = record {
+  own : place_of l.seat ≡ l.board;
+  free : l.seat.view.holding ≡ None;
+  share : l.seat.view.share + length l.dealt.items ≡ 65;
+  each : length l.dealt.items + length l.hands.items ≡ length l.fn.hands.items;
+  hands : All (λ h. IsHand l.boards h.items) l.hands.items;
+  dealt : All (λ h. IsHand (l.boards ++ l.board ∷ []) h.items) l.dealt.items;
+}
+
+abbrev pub decreases-loop-hand : goal.decreases-loop-hand
+decreases-loop-hand l = length l.hands.items
