@@ -15,7 +15,8 @@ pub reply_of : (files : Contents) (source out : List ℕ) (options : Options) (r
     (found : Result File Refusal) → Answers files (Some (compile source out options)) r
     → CompilesTo files source options found → r ≡ said (constraints_written out) found
 reply_of files source out options r found answers is =
-    one_reply files (Some (compile source out options)) r (said (constraints_written out) found) answers
+    one_reply files (Some (compile source out options)) r
+    (said (constraints_written out) found) answers
     (found, is, refl)
 
 pub status_of : (files : Contents) (source out : List ℕ) (options : Options) (r : Reply)

@@ -1,7 +1,7 @@
 -- What a run does with the answer to its command.
 use Rattle.std.proofs.Common.{◌≡◌, ◌≢◌, ◌∙◌, ◌⊎◌, ◌++◌, ℕ, List, []}
 use Rattle.std.proofs.Common.{Option, Some, None, Result}
-use Rattle.std.proofs.Common.{Ok, Err, IfOk, IfSome, OnErr, ap, refl, subst, sym, inl, inr, arith}
+use Rattle.std.proofs.Common.{Ok, Err, IfOk, IfSome, ap, refl, subst, sym, inl, inr, arith}
 use Rattle.std.proofs.lemmas.List.{append-nil, append_cancel_left}
 use Rattle.std.proofs.lemmas.Result.{IfOk-weaker}
 use Rattle.std.specs.Result.{result_ok}
@@ -11,7 +11,7 @@ use Rattle.out_io.specs.Faults.{Rose}
 use Rattle.out_io.specs.declared.fault.IoFault.{IoFault}
 use Rattle.out_io.specs.declared.fault.IoFault.TheVariants.{Failed}
 use Rattle.circom_words.specs.Words.{Command}
-use Rattle.circom_files.specs.Given.{Exits, IsFront, Puts, PutsFault}
+use Rattle.circom_files.specs.Given.{Exits, Puts, PutsFault}
 use Rattle.circom_files.specs.Held.{Becomes, OfAll}
 use Rattle.circom_files.specs.Reply.{Reply, store_failed}
 use Rattle.circom_files.specs.Shown.{shown}
@@ -19,8 +19,7 @@ use Rattle.circom_files.specs.declared.reply.Reply.{Reply as CodeReply}
 use Rattle.circom_gold.specs.Answering.{ExitsBy, Fits, IsAnswered, IsReply, PutsAnswer, Writing}
 use Rattle.circom_gold.specs.Course.{Course, Device, HasFailed, IsUnasked, course}
 use Rattle.circom_gold.specs.Means.{Means}
-use Rattle.circom_gold.specs.Reply.{Answers}
-use Rattle.circom_gold.specs.Run.{Did, Does, Ends, Gives, IsReplied, MeansIn, Stays}
+use Rattle.circom_gold.specs.Run.{Did, Does, Ends, IsReplied, MeansIn, Stays}
 use Rattle.circom_gold.proofs.Replies.{in_part, no_fault_status, usage_alone}
 
 some_of : (result : Result ℕ AllocError) (P : ℕ → Type 0) → IfOk result P
@@ -33,7 +32,8 @@ module _ (command : Option Command) (store : Course Contents) (sink : Course (Li
   Meaning exit = IfSome command (λ c. exit ≢ 3 → MeansIn c store sink exit)
 
   -- nothing was put or written
-  pub did_nothing : store.new ≡ store.old → sink.new ≡ sink.old → Did command store sink None
+  pub did_nothing : store.new ≡ store.old → sink.new ≡ sink.old
+      → Did command store sink None
   did_nothing still unput = record {
     ended = tt;
     kept = inl (record { text = inl unput; files = still });
@@ -283,7 +283,8 @@ module _ (command : Option Command) (store : Device Contents) (sink : Device (Li
       (had : sink.new now) (one : (c : Contents) → store.old c → c ≡ files)
       (only : (text : List ℕ) → sink.old text → text ≡ was) where
     abbrev Replied : ℕ → Type 0
-    Replied exit = (text : List ℕ) × (now ≡ was ++ text) × IsReplied command files after exit text
+    Replied exit = (text : List ℕ) × (now ≡ was ++ text)
+        × IsReplied command files after exit text
 
     replied_so : (exit : ℕ) → Does command store sink (Some exit) → Replied exit
     replied_so exit h =

@@ -11,7 +11,6 @@ use Rattle.out_io.specs.declared.fault.IoFault.{IoFault}
 use Rattle.cir_simplify.specs.declared.types.Level.TheVariants.{O1}
 use Rattle.wit_run.specs.Task.{IsTask}
 use Rattle.circom_lines.specs.Generated.{generated_input, generated_text}
-use Rattle.circom_lines.specs.declared.answer.Refusal.{Refusal}
 use Rattle.circom_files.specs.Reply.{Says}
 use Rattle.circom_files.specs.Running.{generated}
 use Rattle.circom_files.specs.Shown.{shown}
@@ -91,7 +90,8 @@ small_input seed few =
     )
 
 module _ (x : Coded) (coded : IsCoded O1 x) (seed : ℕ) (start : List ℕ)
-    (begins : start ≡ 1 ∷ generated_input seed) (publics : x.circuit.signals.public_inputs ≡ 0)
+    (begins : start ≡ 1 ∷ generated_input seed)
+    (publics : x.circuit.signals.public_inputs ≡ 0)
     (privates : x.circuit.signals.private_inputs ≡ 9) where
   pub made_task : IsTask (program_of x) x.code start (generated_input seed)
   made_task =
@@ -116,14 +116,19 @@ module _ (x : Coded) (coded : IsCoded O1 x) (seed : ℕ) (start : List ℕ)
   made_so size fuel found few knows runs = record {
     program = program_of x;
     file = x.file;
-    compiled = record { loaded = (knows (generated_files size) refl).loaded; written = coded.written };
+    compiled = record {
+      loaded =
+          (knows (generated_files size) refl).loaded;
+      written = coded.written;
+    };
     run = runs (generated_input seed) made_task (small_input seed few);
   }
 
 module _ (seed size fuel : ℕ) where
   pub generate_stopped : (stop : Stop) (result : Result CodeReply IoFault)
       → MakesGenerated seed size fuel (Err stop) → EndsBy stop result
-      → IfOk result (λ r. Says (generated size) (λ found. Generates seed size fuel found) (shown r))
+      → IfOk result (λ r. Says (generated size) (λ found. Generates seed size fuel found)
+      (shown r))
   generate_stopped (Refused refusal) (Ok r) h e = (Err refusal, h, e)
   generate_stopped StoreFailed (Ok r) h e = absurd e
   generate_stopped OutOfMemory (Ok r) h e = absurd e

@@ -173,7 +173,8 @@ module _ (f : File) (values : List ℕ) where
         tests.2,
       )
 
-  published_so : IsAssignment f values → published_values f values ≡ Values (publics_of f values)
+  published_so : IsAssignment f values
+      → published_values f values ≡ Values (publics_of f values)
   published_so a =
       chosen_so (length values == f.wires) (slice_index values 0 == 1)
       ((Decides-eqb (length values) f.wires).1 a.counts)
@@ -218,7 +219,8 @@ module _ (files : Contents) (r1cs wtns out : List ℕ) where
           record { witness = p.witness; read = p.read; so = p.assignment },
       λ a. ap (λ (x : Reply). x.status)
           (answers.2 ∙ ap (said (published out)) (sym answers.1 ∙ public_by files r1cs wtns
-          ∙ ap (λ (x : Result Witness Refusal). x >>= λ w. Ok (published_values w.file w.values))
+          ∙ ap
+          (λ (x : Result Witness Refusal). x >>= λ w. Ok (published_values w.file w.values))
           a.read
           ∙ ap Ok (published_so a.witness.file a.witness.values a.so))),
     )
@@ -266,7 +268,8 @@ module _ (files : Contents) (r1cs : List ℕ) where
     answer_shown (Err r) (Err s) is zero = absurd (omega (arith, zero))
 
     shown_answer : (read : Result File Refusal) (found : Result Answer Refusal) (f : File)
-        (rules : List Rule) → FoundIn IsSearched read found → read ≡ Ok f → AreCertificate f rules
+        (rules : List Rule) → FoundIn IsSearched read found → read ≡ Ok f
+        → AreCertificate f rules
         → (said (determined out) found).status ≡ 0
     shown_answer (Ok g) (Ok (Shown rs)) f rules is e c = refl
     shown_answer (Ok g) (Ok (NotShown wire)) f rules is e c =
@@ -288,7 +291,8 @@ module _ (files : Contents) (r1cs : List ℕ) where
           (sym (ap (λ (x : Reply). x.status) e) ∙ zero) in
           record { file = a.0; read = a.2; rules = a.1; certificate = a.3 },
       λ has. ap (λ (x : Reply). x.status) e
-          ∙ shown_answer (r1cs_in files r1cs) found has.file has.rules is has.read has.certificate,
+          ∙ shown_answer (r1cs_in files r1cs) found has.file has.rules is has.read
+          has.certificate,
     )
 
   module _ (certificate : List ℕ) where

@@ -63,7 +63,8 @@ usage_alone None r fits is = refl
 usage_alone (Some command) r fits is = absurd (omega (arith, fits, is))
 
 -- no reply has the status 3
-pub no_fault_status : (command : Option Command) (r : Reply) → Fits command r → r.status ≡ 3 → ⊥
+pub no_fault_status : (command : Option Command) (r : Reply) → Fits command r → r.status ≡ 3
+    → ⊥
 no_fault_status None r fits is = omega (arith, ap (λ (x : Reply). x.status) fits, is)
 no_fault_status (Some command) r fits is = omega (arith, fits, is)
 

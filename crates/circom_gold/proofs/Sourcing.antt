@@ -1,7 +1,7 @@
 -- What a source comes to, and what is read as its program's input.
 use Rattle.std.proofs.Common.{◌≡◌, ◌∙◌, ℕ, List, Option, None, Some, Result, Ok, Err}
 use Rattle.std.proofs.Common.{Vec, true}
-use Rattle.std.proofs.Common.{false, refl, sym, ap, subst, inl, inr}
+use Rattle.std.proofs.Common.{refl, sym, ap, subst, inl, inr}
 use Rattle.std.specs.declared.alloc.Global.{Global}
 use Rattle.std.specs.Str.{IsUtf8}
 use Rattle.std.specs.BTreeSet.{contains_text}
@@ -22,7 +22,6 @@ use Rattle.cir_inst.specs.declared.circuit.InstFault.{InstFault}
 use Rattle.cir_inst.specs.declared.circuit.InstFault.TheVariants as instance
 use Rattle.cir_names.specs.declared.loading.Loaded.{Loaded}
 use Rattle.cir_names.specs.Loading.{Loads}
-use Rattle.cir_names.specs.Resting.{IsLoadedWithout}
 use Rattle.cir_names.proofs.Resting.{file_read}
 use Rattle.cir_simplify.specs.declared.types.Level.{Level}
 use Rattle.cir_values.specs.declared.signals.InputShape.{InputShape}
@@ -49,7 +48,8 @@ abbrev pub Compiling : (Contents → Type 0) → List ℕ → Options → (faile
 Compiling held source options failed =
     StepsTo (λ (f : File). f) held (λ files found. CompilesTo files source options found) failed
 
-module _ (held : Contents → Type 0) (source : List ℕ) (options : Options) (failed : Type 0) where
+module _ (held : Contents → Type 0) (source : List ℕ) (options : Options)
+    (failed : Type 0) where
   -- why it doesn't compile, by the store's own contents where it failed
   pub not_compiled : (contents : Option Contents) (e : CompileFault)
       → Compilation contents (task_of source options) failed (Err e)
@@ -164,7 +164,8 @@ module _ (held : Contents → Type 0) (source : List ℕ) (options : Options) (x
     input_unread StoreFailed step = step
     input_unread OutOfMemory step = tt
 
-    pub input_given : (bytes text : List ℕ) (result : Result (Vec ℕ Global) Stop) → text ≡ bytes
+    pub input_given : (bytes text : List ℕ) (result : Result (Vec ℕ Global) Stop)
+        → text ≡ bytes
         → OfAll held (λ files. bytes_in files name ≡ Ok bytes)
         → Gets (λ (v : Vec ℕ Global). v.items)
         (accepted_input inputs (input_of text inputs)) result

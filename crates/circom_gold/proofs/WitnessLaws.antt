@@ -153,7 +153,8 @@ module _ (files : Contents) (source input out : List ℕ) (options : Options) (f
   }
 
 -- the reply that says so writes them
-pub written_witness : (files : Contents) (source input out : List ℕ) (options : Options) (fuel : ℕ)
+pub written_witness : (files : Contents) (source input out : List ℕ) (options : Options)
+    (fuel : ℕ)
     (r : Reply) → Says (witnessed out)
     (λ found. Witnesses files source input options fuel found) r → r.status ≡ 0
     → (bytes : List ℕ) × (r.file ≡ Some (record { name = out; bytes = bytes }))

@@ -1,6 +1,6 @@
 -- The numbers that a run starts from fit the program, and its end is what a command finds.
 use Rattle.std.proofs.Common.{◌≡◌, ◌∙◌, ℕ, ◌∷◌, ◌+◌, List, [], length}
-use Rattle.std.proofs.Common.{Option, Some, None, Result}
+use Rattle.std.proofs.Common.{Some, Result}
 use Rattle.std.proofs.Common.{Ok, Err, Vec, sym, ap, subst, slice_get, inl, inr}
 use Rattle.std.specs.Prelude.{unwrap_or}
 use Rattle.std.specs.declared.alloc.Global.{Global}
@@ -66,7 +66,8 @@ module _ (level : Level) (x : Coded) (coded : IsCoded level x) where
       record { meaning = main; compiles = compiles; are = coded.instantiated.2.inputs }
 
   pub task_of_start : (start inputs : List ℕ) → start ≡ 1 ∷ inputs
-      → length inputs ≡ main.public_inputs + main.private_inputs → IsTask p x.code start inputs
+      → length inputs ≡ main.public_inputs + main.private_inputs
+      → IsTask p x.code start inputs
   task_of_start start inputs begins each = record {
     resolved = coded.resolved;
     places = coded.places;
@@ -101,7 +102,8 @@ module _ (level : Level) (x : Coded) (coded : IsCoded level x) where
 
     pub witnessed_by : (source : List ℕ) (options : Options) (fuel : ℕ) (r : Ran)
         → options.level ≡ level → IsLoaded files source options.folder p
-        → ((inputs : List ℕ) → IsTask p x.code start inputs → IsRunOf p x.file fuel inputs r)
+        → ((inputs : List ℕ) → IsTask p x.code start inputs
+        → IsRunOf p x.file fuel inputs r)
         → IsWitnessed files source name options fuel r
     witnessed_by source options fuel r same loaded runs = record {
       program = p;

@@ -43,7 +43,8 @@ Fits (Some command) r = r.status < 3
 -- nothing was written, or a prefix of the file of a reply to the command
 abbrev pub Writing : Option Command → (files after : Contents) → Type 0
 Writing command files after =
-    (after ≡ files) ⊎ ((r : Reply) × Answers files command r × LeavesInPart r.file files after)
+    (after ≡ files) ⊎ ((r : Reply) × Answers files command r
+    × LeavesInPart r.file files after)
 
 -- the reply answers the command, its file is written, and it means what is said of the command
 pub record IsReply (command : Option Command) (r : Reply) (files after : Contents) : Type 0 where

@@ -19,7 +19,8 @@ MakesGenerated seed size fuel (Err OutOfMemory) = ⊤
 -- what the made source comes to, or why it doesn't compile
 abbrev pub SourcesGenerated : (size : ℕ) → Result Coded Stop → Type 0
 SourcesGenerated size (Ok x) =
-    IsLoadedFrom (λ files. files ≡ generated_files size) generated_name generated_options x.loaded
+    IsLoadedFrom (λ files. files ≡ generated_files size) generated_name generated_options
+    x.loaded
 SourcesGenerated size (Err (Refused r)) =
     CompilesTo (generated_files size) generated_name generated_options (Err r)
 SourcesGenerated size (Err StoreFailed) = ⊥

@@ -17,7 +17,8 @@ use Rattle.circom_gold.specs.Witness.{Witnesses, Generates}
 
 -- the file of constraints is written under the name
 abbrev pub constraints_written : List ℕ → File → Reply
-constraints_written out f = written (compiled_line f.wires (length f.constraints)) out (r1cs_bytes f)
+constraints_written out f = written (compiled_line f.wires (length f.constraints)) out
+    (r1cs_bytes f)
 
 -- the reply answers the command over these files
 abbrev pub Answers : Contents → Option Command → Reply → Type 0

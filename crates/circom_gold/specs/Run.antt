@@ -1,6 +1,6 @@
 -- What a run of the program does to the store and the sink.
-use Rattle.std.specs.Prelude.{◌≡◌, ◌≢◌, ℕ, List, [], ◌++◌, ◌⊎◌, Option}
-use Rattle.std.specs.Prelude.{None, Some, Result, Ok}
+use Rattle.std.specs.Prelude.{◌≡◌, ◌≢◌, ℕ, List, ◌++◌, ◌⊎◌, Option}
+use Rattle.std.specs.Prelude.{None, Result, Ok}
 use Rattle.std.specs.Prelude.{Err, IfSome}
 use Rattle.std.specs.declared.alloc.AllocError.{AllocError}
 use Rattle.out_io.specs.Contents.{Contents}
@@ -27,7 +27,8 @@ pub record LosesText (r : Reply) (store : Course Contents) (sink : Course (List 
   pub files : Leaves r.file store.old store.new
 
 -- the store failed, and the line that says so was put whole, or the sink failed too
-pub record SaysFault (store : Course Contents) (sink : Course (List ℕ)) (exit : ℕ) : Type 0 where
+pub record SaysFault (store : Course Contents) (sink : Course (List ℕ))
+    (exit : ℕ) : Type 0 where
   pub status : exit ≡ 3
   pub failed : store.failed
   pub text : (sink.new ≡ sink.old ++ fault_line) ⊎ sink.failed
@@ -41,7 +42,8 @@ Ends command store sink exit =
 
 -- what was put is a front of the reply's text, or of the fault's line where the store failed; and
 -- no file but the reply's has changed, which is as before or holds a prefix of the reply's bytes
-pub record GivesInPart (r : Reply) (store : Course Contents) (sink : Course (List ℕ)) : Type 0 where
+pub record GivesInPart (r : Reply) (store : Course Contents)
+    (sink : Course (List ℕ)) : Type 0 where
   pub text : IsFront r.text sink.old sink.new
       ⊎ (store.failed × IsFront fault_line sink.old sink.new)
   pub files : LeavesInPart r.file store.old store.new
@@ -74,7 +76,8 @@ pub record Did (command : Option Command) (store : Course Contents) (sink : Cour
   -- changed but the reply's, which is as before or holds a prefix of the reply's bytes.
   pub kept : Stays command store sink
   -- a status that isn't 3 means what is said of the command
-  pub means : IfSome status (λ exit. IfSome command (λ c. exit ≢ 3 → MeansIn c store sink exit))
+  pub means : IfSome status
+      (λ exit. IfSome command (λ c. exit ≢ 3 → MeansIn c store sink exit))
 
 -- What a run does, given the command that its words ask for, None where they have no reading, and
 -- the exit status, None where it wants memory.

@@ -14,7 +14,6 @@ use Rattle.cir_simplify.specs.declared.types.Level.{Level}
 use Rattle.cir_steps.specs.Places.{ArePlacesMeant}
 use Rattle.wit_circuit.specs.Whole.{IsCircuitOf}
 use Rattle.circom_words.specs.Words.{Options}
-use Rattle.circom_lines.specs.declared.answer.Refusal.{Refusal}
 use Rattle.circom_lines.specs.declared.answer.Refusal.TheVariants.{NoSuchFile, BadSource}
 use Rattle.wit_input.specs.Input.{input_of}
 use Rattle.circom_files.specs.Held.{OfAll}
@@ -45,7 +44,8 @@ Codes loaded level (Ok x) = x.loaded ≡ loaded
 Codes loaded level (Err e) = Writes (bare_program loaded.program) level (Err e)
 
 -- these contents may be there, and the program is loaded from them, with these names missing
-abbrev pub LoadedFrom : (Contents → Type 0) → List ℕ → Options → Loaded → Contents → Type 0
+abbrev pub LoadedFrom : (Contents → Type 0) → List ℕ → Options → Loaded → Contents
+    → Type 0
 LoadedFrom held source options loaded files = held files
     × IsLoadedWithout files source options.folder loaded.missing (bare_program loaded.program)
 
@@ -56,7 +56,8 @@ IsLoadedFrom held source options loaded =
     (bare_program loaded.program))
 
 -- why a source doesn't compile; it fails only where the store did
-abbrev pub NotCompiled : (Contents → Type 0) → List ℕ → Options → (failed : Type 0) → CompileFault
+abbrev pub NotCompiled : (Contents → Type 0) → List ℕ → Options → (failed : Type 0)
+    → CompileFault
     → Type 0
 NotCompiled held source options failed fault.Fault = failed
 NotCompiled held source options failed e =
@@ -91,4 +92,5 @@ IsStopOf name e OutOfMemory = ⊤
 -- some bytes give these numbers for main's inputs
 abbrev pub AreInputs : Coded → List ℕ → Type 0
 AreInputs x start = (bytes : List ℕ)
-    × (accepted_input x.circuit.signals.inputs (input_of bytes x.circuit.signals.inputs) ≡ Ok start)
+    × (accepted_input x.circuit.signals.inputs
+    (input_of bytes x.circuit.signals.inputs) ≡ Ok start)

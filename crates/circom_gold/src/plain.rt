@@ -91,7 +91,8 @@ fn reply_to<'w, R: Threads + AllocGlobal + Sync, S: Store>(
         (λ files. Answers files (option_map meant_plain command.entry) (shown r))) }
     ensures fits { IfOk result (λ r. Fits (option_map meant_plain command.entry) (shown r)) }
     ensures assures { IfOk result (λ r. OfAll (S.may_hold store.new)
-        (λ files. IfSome (option_map meant_plain command.entry) (λ c. Assures c files (shown r)))) }
+        (λ files. IfSome (option_map meant_plain command.entry)
+        (λ c. Assures c files (shown r)))) }
     ensures unread { option_map meant_plain command.entry ≡ None
         → (S.calls store.new ≡ S.calls store.old) × (S.faults store.new ≡ S.faults store.old)
         × ¬ IsErrOf result Failed }

@@ -16,10 +16,12 @@ returns-clause-answered g c =
     let read = c.in_ok-reply.ensures in
     is_answered (option_map meant_circuit c.args.command) store c.in_ok-reply.reply
     (g.S.Store.may_hold c.reply_to.new.store) read.store.still read.answers
-    (λ files may. assures_nothing c.args.command files (shown c.in_ok-reply.reply)) read.fits c.in_ok-write_file.ensures.ok
+    (λ files may. assures_nothing c.args.command files (shown c.in_ok-reply.reply)) read.fits
+    c.in_ok-write_file.ensures.ok
     (λ none.
     let file =
-    usage_file (option_map meant_circuit c.args.command) (shown c.in_ok-reply.reply) read.fits none in
+    usage_file (option_map meant_circuit c.args.command) (shown c.in_ok-reply.reply) read.fits
+    none in
     let unwritten = c.in_ok-write_file.ensures.none file in
     let unasked = read.unread none in
     (unwritten.0 ∙ unasked.0, unwritten.1 ∙ unasked.1))

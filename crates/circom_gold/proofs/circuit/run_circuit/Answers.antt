@@ -34,5 +34,6 @@ returns-clause-does g c =
     (g.K.Sink.faults c.args.out.now) (g.K.Sink.faults c.give.new.out) in
     does_so (c.circuit-command.ensures.meant ∙ c.in_ok-of.ensures.meant) store sink
     (result_ok c.give.result)
-    (does_answered (option_map meant_circuit c.circuit-command.result) store sink c.answered-answer.result
-    c.give.result c.answered-answer.ensures.answered c.give.ensures.exits c.give.ensures.puts)
+    (does_answered (option_map meant_circuit c.circuit-command.result) store sink
+    c.answered-answer.result c.give.result c.answered-answer.ensures.answered
+    c.give.ensures.exits c.give.ensures.puts)

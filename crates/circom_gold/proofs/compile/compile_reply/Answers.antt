@@ -1,4 +1,4 @@
-use Rattle.std.proofs.Common.{◌≡◌, Ok, arith}
+use Rattle.std.proofs.Common.{Ok, arith}
 use Rattle.out_io.specs.Faults.{Rose}
 use Rattle.circom_files.proofs.Accepts.{unsuccessful}
 use Rattle.circom_files.proofs.Ended.{ended_below, ended_to}
