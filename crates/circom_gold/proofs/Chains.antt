@@ -68,7 +68,8 @@ IsNamed out None = ⊤
 IsNamed out (Some f) = f.name ≡ out
 
 kept : (out : List ℕ) (file : Option NewFile) (files after : Contents) → IsNamed out file
-    → Leaves file files after → (other : List ℕ) → other ≢ out → after other ≡ files other
+    → Leaves file files after → (other : List ℕ) → other ≢ out
+    → after other ≡ files other
 kept out None files after named leaves other differ = ap (λ (c : Contents). c other) leaves
 kept out (Some f) files after named leaves other differ =
     leaves.others other (λ e. differ (e ∙ named))
@@ -81,7 +82,8 @@ said_named reply out (Err r) all = tt
 -- of a reply to what was found
 others : {X : Type 0} (reply : X → Reply) (out : List ℕ) (found : Result X Refusal) (r : Reply)
     (files after : Contents) → ((x : X) → IsNamed out (reply x).file) → r ≡ said reply found
-    → Leaves r.file files after → (other : List ℕ) → other ≢ out → after other ≡ files other
+    → Leaves r.file files after → (other : List ℕ) → other ≢ out
+    → after other ≡ files other
 others reply out found r files after all e leaves =
     kept out r.file files after
     (subst (λ (x : Reply). IsNamed out x.file) (sym e) (said_named reply out found all)) leaves
@@ -146,7 +148,8 @@ well c = Ok c
 one_ok : {C : Type 0} (c d : C) → well c ≡ well d → c ≡ d
 one_ok c d e = cc
 
-read_so : {X : Type 0} (name : List ℕ) (read : Result X Fault) (x : X) → accepted name read ≡ Ok x
+read_so : {X : Type 0} (name : List ℕ) (read : Result X Fault) (x : X)
+    → accepted name read ≡ Ok x
     → read ≡ Ok x
 read_so name (Ok y) x e = let same : y ≡ x = cc in ap Ok same
 read_so name (Err fault) x e = let bad : ⊥ = cc in absurd bad
@@ -237,10 +240,12 @@ module _ (first second third last : Contents) (r1cs wtns publics proof : List �
       others (published publics) publics b.answers.0 b.reply second third
       (published_named publics) b.answers.2 b.leaves
 
-  abbrev proven : (bytes : List ℕ) × (second proof ≡ Some bytes) × IsProofOf first r1cs wtns bytes
+  abbrev proven : (bytes : List ℕ) × (second proof ≡ Some bytes)
+      × IsProofOf first r1cs wtns bytes
   proven = there (second proof) (IsProofOf first r1cs wtns) (a.means.1 refl)
 
-  abbrev shown : (bytes : List ℕ) × (third publics ≡ Some bytes) × ArePublicsOf second r1cs wtns bytes
+  abbrev shown : (bytes : List ℕ) × (third publics ≡ Some bytes)
+      × ArePublicsOf second r1cs wtns bytes
   shown = there (third publics) (ArePublicsOf second r1cs wtns) (b.means.1 refl)
 
   abbrev w : Witness
@@ -270,7 +275,8 @@ module _ (first second third last : Contents) (r1cs wtns publics proof : List �
   read : offer_of third r1cs publics proof ≡ Ok o
   read =
       let same : third r1cs ≡ first r1cs =
-      behind_publics r1cs (λ e. other_r1cs (sym e)) ∙ behind_proof r1cs (λ e. from_r1cs (sym e)) in
+      behind_publics r1cs (λ e. other_r1cs (sym e))
+      ∙ behind_proof r1cs (λ e. from_r1cs (sym e)) in
       offered third r1cs publics proof o shown.0
       (same_bytes third first r1cs same ∙ from.bytes) from.file shown.1
       (ap publics_read shown.2.text
@@ -333,7 +339,8 @@ module _ (files after : Contents) (r1cs certificate bytes : List ℕ) (f : File)
       ap (λ (x : Result (List ℕ) Refusal). x >>= λ b. accepted r1cs (r1cs_of b))
       (same_bytes after files r1cs same)
 
-  claim_read : r1cs_in files r1cs ≡ Ok f → claim_of after r1cs certificate ≡ Ok (claimed f rules)
+  claim_read : r1cs_in files r1cs ≡ Ok f
+      → claim_of after r1cs certificate ≡ Ok (claimed f rules)
   claim_read read =
       first_two ∙ ap behind (same_file ∙ read)
       ∙ ap (λ (x : Result (List Rule) Refusal). x >>= λ rs. Ok (claimed f rs)) read_rules

@@ -11,7 +11,6 @@ use Rattle.out_io.specs.declared.fault.IoFault.{IoFault}
 use Rattle.cir_simplify.specs.declared.types.Level.TheVariants.{O1}
 use Rattle.wit_run.specs.Task.{IsTask}
 use Rattle.circom_lines.specs.Generated.{generated_input, generated_text}
-use Rattle.circom_lines.specs.declared.answer.Refusal.{Refusal}
 use Rattle.circom_files.specs.Reply.{Says}
 use Rattle.circom_files.specs.Running.{generated}
 use Rattle.circom_files.specs.Shown.{shown}

@@ -291,7 +291,8 @@ module _ (files : Contents) (r1cs : List ℕ) where
           (sym (ap (λ (x : Reply). x.status) e) ∙ zero) in
           record { file = a.0; read = a.2; rules = a.1; certificate = a.3 },
       λ has. ap (λ (x : Reply). x.status) e
-          ∙ shown_answer (r1cs_in files r1cs) found has.file has.rules is has.read has.certificate,
+          ∙ shown_answer (r1cs_in files r1cs) found has.file has.rules is has.read
+          has.certificate,
     )
 
   module _ (certificate : List ℕ) where

@@ -1,6 +1,6 @@
 -- What a run of the program does to the store and the sink.
 use Rattle.std.specs.Prelude.{◌≡◌, ◌≢◌, ℕ, List, ◌++◌, ◌⊎◌, Option}
-use Rattle.std.specs.Prelude.{None, Some, Result, Ok}
+use Rattle.std.specs.Prelude.{None, Result, Ok}
 use Rattle.std.specs.Prelude.{Err, IfSome}
 use Rattle.std.specs.declared.alloc.AllocError.{AllocError}
 use Rattle.out_io.specs.Contents.{Contents}

@@ -14,7 +14,6 @@ use Rattle.cir_simplify.specs.declared.types.Level.{Level}
 use Rattle.cir_steps.specs.Places.{ArePlacesMeant}
 use Rattle.wit_circuit.specs.Whole.{IsCircuitOf}
 use Rattle.circom_words.specs.Words.{Options}
-use Rattle.circom_lines.specs.declared.answer.Refusal.{Refusal}
 use Rattle.circom_lines.specs.declared.answer.Refusal.TheVariants.{NoSuchFile, BadSource}
 use Rattle.wit_input.specs.Input.{input_of}
 use Rattle.circom_files.specs.Held.{OfAll}

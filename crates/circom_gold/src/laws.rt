@@ -25,8 +25,8 @@ ghost use Rattle.circom_lines.specs.declared.answer.Refusal.{Refusal};
 ghost use Rattle.circom_lines.specs.declared.answer.Verdict.TheVariants.{Satisfied};
 ghost use Rattle.circom_words.specs.declared.options.RunOptions.{RunOptions};
 
-/// The reply to a command over given files is one, status, text and file, but for which of the rules
-/// that show it `determine` writes.
+/// The reply to a command over given files is one, status, text and file, but for which of the
+/// rules that show it `determine` writes.
 pub fn one_reply()
     ensures { (files : Contents) (command : Option Command) (a b : Reply)
         → Answers files command a → Answers files command b

@@ -35,4 +35,5 @@ returns-clause-does g c =
     does_so (c.plain-command.ensures ∙ c.in_ok-of.ensures.meant) store sink
     (result_ok c.give.result)
     (does_answered (option_map meant_plain c.plain-command.result) store sink
-    c.answered-answer.result c.give.result c.answered-answer.ensures.answered c.give.ensures.exits c.give.ensures.puts)
+    c.answered-answer.result c.give.result c.answered-answer.ensures.answered
+    c.give.ensures.exits c.give.ensures.puts)

@@ -27,7 +27,8 @@ pub returns-clause-no_fault : goal.returns-clause-no_fault
 returns-clause-no_fault g c =
     let store : Device Contents =
     device (λ f. f ≡ files_of c.args.store.now.files)
-    (λ f. f ≡ files_of c.run.new.store.files) c.args.store.now.history.calls c.run.new.store.history.calls c.args.store.now.faults
+    (λ f. f ≡ files_of c.run.new.store.files) c.args.store.now.history.calls
+    c.run.new.store.history.calls c.args.store.now.faults
     c.run.new.store.faults in
     let sink : Device (List ℕ) =
     device (λ t. t ≡ c.args.out.now.bytes.items) (λ t. t ≡ c.run.new.out.bytes.items)
