@@ -31,7 +31,8 @@ FLOWS = [
     ("prove", ".r1cs, .wtns", [("iden_files", "constraints, values"), ("lig_layout", "rows"),
                                ("lig_merkle", "root"), ("lig_prover", "polynomials"),
                                ("lig_proof", "proof")]),
-    ("audit", ".r1cs, public, proof", [("iden_files", "constraints"), ("wit_input", "public values"),
+    ("audit", ".r1cs, public, proof", [("iden_files", "constraints"),
+                                       ("wit_input", "public values"),
                                        ("lig_proof", "a proof's parts"), ("lig_merkle", "root"),
                                        ("lig_auditor", "verdict")]),
 ]
@@ -168,14 +169,15 @@ def draw_flows(picture, y, colour):
 
 
 def draw_board():
-    events = re.search(r"pub enum Event \{(.*?)\n\}", text_of("crates/flow_core/src/state.rt"), re.S)
+    state = text_of("crates/flow_core/src/state.rt")
+    events = re.search(r"pub enum Event \{(.*?)\n\}", state, re.S)
     events = re.findall(r"^    (\w+) \{", events[1], re.M)
     calls = re.findall(r"pub fn (\w+)\(&self", text_of("crates/flow_board/src/board.rt"))
     if sorted(calls) != sorted(CALLS) or sorted(events) != sorted(filter(None, CALLS.values())):
         stop(f"the board's calls are {calls}, the core's events {events}")
     picture = Picture(1000, 560, "The board between workers")
-    picture.text(20, 26, "The board between workers: each call is one step on one word", 13, "start",
-                 "bold")
+    picture.text(20, 26, "The board between workers: each call is one step on one word", 13,
+                 "start", "bold")
     picture.labelled(330, 44, 340, 52, "the pool: ready strands, under a lock\n"
                      "no answer rests on it", "#eceae2")
     for number, x in enumerate((40, 280, 520, 760)):
@@ -184,10 +186,13 @@ def draw_board():
                          "#fdf1d6", 11)
         picture.line((x + 100, 150), (400 + number * 68, 98), dash="4 3")
         picture.line((x + 100, 214), (x + 100, 296))
-    picture.text(500, 128, "a strand to run, or several; strands that are given away", 11)
-    picture.text(500, 250, "read    take    publish    release    finish    refuse", 12)
+    picture.text(690, 66, "dashed: a worker asks for strands to run,", 11, "start")
+    picture.text(690, 82, "and gives away some that became ready", 11, "start")
+    for x, calls_there in ((260, "take, read"), (500, "publish, release"), (740, "finish, refuse")):
+        picture.text(x, 260, calls_there, 12)
     picture.box(40, 300, 920, 110, "#dfe8f5")
-    picture.text(52, 318, "the board: words that change in single atomic steps", 12, "start", "bold")
+    picture.text(52, 318, "the board: words that change in single atomic steps", 12, "start",
+                 "bold")
     words = [("least", "the least\nrefused strand")]
     words += [(f"cell {it}", "0, or its\nvalue and 1") for it in range(3)] + [("..", "")]
     words += [(f"strand {it}", "misses n,\nor TAKEN") for it in range(3)] + [("..", "")]
@@ -204,40 +209,40 @@ def draw_board():
         x, y = 20 + number % 3 * 326, 462 + number // 3 * 28
         event = f", event {CALLS[call]}" if CALLS[call] else ""
         picture.text(x, y, f"{call}: {does[call]}{event}", 12, "start")
-    picture.text(20, 550, "Between any two steps there is a state of the core that the words show, and "
-                 "that keeps its invariant.", 12, "start", fill=GREY)
+    picture.text(20, 550, "Between any two steps there is a state of the core that the words show, "
+                 "and that keeps its invariant.", 12, "start", fill=GREY)
     return picture.svg()
 
 
 def draw_proof():
-    opened = re.search(r"pub const OPENED: u32 = (\d+);", text_of("crates/lig_proof/src/challenge.rt"))
+    challenge = text_of("crates/lig_proof/src/challenge.rt")
+    opened = re.search(r"pub const OPENED: u32 = (\d+);", challenge)
     if not opened:
         stop("lig_proof has no number OPENED")
-    picture = Picture(1000, 600, "A proof's rows and columns")
+    picture = Picture(1000, 560, "A proof's rows and columns")
     picture.text(20, 26, "A proof's rows and columns", 13, "start", "bold")
     rows = [("w", "the wires", 56, "#e3f1e1"), ("x = A w", "left factors", 44, "#dfe8f5"),
             ("y = B w", "right factors", 44, "#dfe8f5"), ("z = C w", "products", 44, "#dfe8f5")]
-    picture.text(150, 60, "L values", 12)
+    picture.text(150, 60, "M = mw + 3 mc rows of L values", 12)
     y, middle = 70, []
     for name, what, tall, fill in rows:
         picture.labelled(60, y, 180, tall, f"{name}\n{what}", fill)
         y += tall
-    picture.text(150, y + 20, "M = mw + 3 mc rows of values", 12)
     picture.line((252, 164), (330, 164))
     picture.text(290, 152, "polynomials,", 11)
     picture.text(290, 182, "with masks", 11)
-    picture.text(650, 60, "8L code points", 12)
+    picture.text(650, 60, "a codeword a row: its polynomial at the 8L points of the code", 12)
     y, left, wide = 70, 340, 620
     for _, _, tall, fill in rows:
         picture.box(left, y, wide, tall, fill)
         y += tall
-    picture.labelled(left, y, wide, 36, "six rows of masks for the tests: u, m, n, twice each",
-                     "#fdf1d6")
+    picture.box(left, y, wide, 36, "#fdf1d6")
+    picture.text(left - 10, y + 16, "six rows of masks for the", 12, "end")
+    picture.text(left - 10, y + 31, "tests: u, m, n, twice each", 12, "end")
     bottom = y + 36
     for number, x in enumerate((372, 468, 516, 604, 700, 788, 852, 924)):
         picture.box(x, 66, 12, bottom - 62, "#ffffff", "#b03a2e")
         picture.line((x + 6, bottom + 4), (x + 6, bottom + 34), colour="#b03a2e")
-    picture.text(650, 116, "each row's codeword", 12)
     picture.text(20, bottom + 26, f"{opened[1]} columns are opened;", 12, "start", fill="#b03a2e")
     picture.text(20, bottom + 42, "the root and the polynomials say which", 12, "start",
                  fill="#b03a2e")
@@ -249,11 +254,12 @@ def draw_proof():
     y = bottom + 168
     picture.text(20, y, "In the proof", 13, "start", "bold")
     parts = ["the root", "six polynomials:\nrows, system, products, twice",
-             f"the opened columns,\nM + 6 values each", "the nodes of the tree\nbeside their ways up"]
+             "the opened columns,\nM + 6 values each",
+             "the nodes of the tree\nbeside their ways up"]
     for number, words in enumerate(parts):
         picture.labelled(20 + number * 242, y + 12, 226, 46, words, "#ffffff")
-    picture.text(20, y + 84, "The auditor evaluates the six polynomials at the opened columns' points, "
-                 "and compares them with the columns.", 12, "start", fill=GREY)
+    picture.text(20, y + 84, "The auditor evaluates the six polynomials at the opened columns' "
+                 "points, and compares them with the columns.", 12, "start", fill=GREY)
     return picture.svg()
 
 
