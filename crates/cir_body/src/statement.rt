@@ -14,11 +14,12 @@ ghost use Rattle.cir_body.specs.Turns.{turn_of};
 use crate::simple::{simple, simple_assign, simple_vars};
 use crate::undecided::left;
 use cir_arrays::{Datum, Fault};
+use cir_assert::{assert, log};
 use cir_ast::Kind;
 use cir_ast::program::{Expr, First, FirstForm, Spot, Statement, StatementForm, Step};
 use cir_execute::{Loop, Rest, decide, decide_branch, too_many};
 use cir_frame::World;
-use cir_make::{Body, Cast, Inside, Whole, assert, log};
+use cir_make::{Body, Cast, Inside, Whole};
 use cir_values::Side;
 
 /// At most as many turns are taken as statements may be executed: their count is tested first.

@@ -84,7 +84,8 @@ verdicts_are_one c rs (Short v) (Short w) x y =
     ap Short (same_number v w (λ low. none_shorter c rs v w low x y)
     (λ high. none_shorter c rs w v high y x))
 
-pub never_both : (c : Circuit) (rs : List Rule) (w : ℕ) → IsCertificate c rs → IsLeastUnshown c w → ⊥
+pub never_both : (c : Circuit) (rs : List Rule) (w : ℕ)
+    → IsCertificate c rs → IsLeastUnshown c w → ⊥
 never_both c rs w certificate unshown =
     unshown.never (record {
       rules = rs;

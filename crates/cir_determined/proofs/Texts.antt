@@ -1,6 +1,8 @@
 -- Texts of rules: what is written reads back, and a line that is read is the one that is written.
-use Rattle.std.proofs.Common.{◌≡◌, ◌≢◌, ℕ, ◌<◌, ◌≤◌, ◌^◌, Bool, true, false, not, eqb, cond, List, []}
-use Rattle.std.proofs.Common.{◌∷◌, ◌++◌, length, map, Option, Some, None, Ok, refl, ap, ◌∙◌, subst}
+use Rattle.std.proofs.Common.{◌≡◌, ◌≢◌, ℕ, ◌<◌, ◌≤◌, ◌^◌, Bool, true}
+use Rattle.std.proofs.Common.{false, not, eqb, cond, List, []}
+use Rattle.std.proofs.Common.{◌∷◌, ◌++◌, length, map, Option, Some, None, Ok, refl, ap}
+use Rattle.std.proofs.Common.{◌∙◌, subst}
 use Rattle.std.proofs.Common.{arith, decimal, ◌+◌, ◌↔◌, take, get_or}
 use Rattle.std.specs.Prelude.{codes, bytes_eq, option_map}
 use Rattle.std.specs.Int.{IsInRange}
@@ -206,7 +208,8 @@ text_more rules i d low =
     let line : List ℕ → List ℕ = λ l. l ++ 10 ∷ [] in
     let front : List (List ℕ) = map line_of (take i rules) in
     let last : List ℕ = line_of (get_or rules i d) in
-    let both : flat_map line (front ++ last ∷ []) ≡ flat_map line front ++ flat_map line (last ∷ []) =
+    let both : flat_map line (front ++ last ∷ [])
+        ≡ flat_map line front ++ flat_map line (last ∷ []) =
     flat_map-append line front (last ∷ []) in
     let one : flat_map line (last ∷ []) ≡ line last = append-nil (line last) in
     ap rules_text (take_more rules i d low)

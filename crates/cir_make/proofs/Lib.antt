@@ -1,4 +1,3 @@
-pub mod Asserting
 pub mod Codes
 pub mod Coding
 pub mod ElementCells
@@ -8,7 +7,6 @@ pub mod Growing
 pub mod Homing
 pub mod Knowing
 pub mod Leading
-pub mod LogSteps
 pub mod Offering
 pub mod Placing
 pub mod PortCells

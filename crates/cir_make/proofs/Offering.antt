@@ -1,5 +1,6 @@
 -- The array of a name is the last of it, which is looked for from where the name stands last.
-use Rattle.std.proofs.Common.{◌≡◌, ◌∙◌, ◌+◌, ◌-◌, ◌<◌, ◌≤◌, ℕ, List, [], ◌∷◌, ◌++◌, length, map}
+use Rattle.std.proofs.Common.{◌≡◌, ◌∙◌, ◌+◌, ◌-◌, ◌<◌, ◌≤◌, ℕ, List}
+use Rattle.std.proofs.Common.{[], ◌∷◌, ◌++◌, length, map}
 use Rattle.std.proofs.Common.{take, drop, get_or, ap, refl, subst, sym, arith, ⊎_elim}
 use Rattle.std.specs.Prelude.{true, false, if◌then◌else◌, min, Option, Some, None, option_map}
 use Rattle.std.specs.List.{AllByRecursion}
@@ -55,7 +56,8 @@ last_cut x ends arrays e n are is least = ⊎_elim
     (λ h. ap (λ l. last_named x l None) (take_all n arrays (omega (arith, h, least))))
     (cases_lt e (length arrays))
 
-looked : (x : Name) (arrays : List StepArray) (n : ℕ) (d : StepArray) → 0 < n → n ≤ length arrays
+looked : (x : Name) (arrays : List StepArray) (n : ℕ) (d : StepArray)
+    → 0 < n → n ≤ length arrays
     → last_named x (take n arrays) None
     ≡ (if same_name x (sought_name (get_or arrays (n - 1) d).name)
     then Some (get_or arrays (n - 1) d) else last_named x (take (n - 1) arrays) None)

@@ -1,5 +1,4 @@
 pub mod Arrays
-pub mod Asserts
 pub mod Cells
 pub mod Emits
 pub mod Housed

@@ -7,7 +7,6 @@ mod assigned;
 mod calls;
 mod cells;
 mod collecting;
-mod leaves;
 mod make;
 mod offered;
 mod ports;
@@ -16,6 +15,5 @@ mod whole;
 mod work;
 
 pub use cells::{Cells, Homes, PartCells, Run, Source, VariableCells};
-pub use leaves::{assert, log};
 pub use make::{Before, Doing, Elements, Making, make_step, plain_step};
 pub use whole::{Body, Cast, Inside, Made, Whole};

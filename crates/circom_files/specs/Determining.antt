@@ -1,6 +1,7 @@
 -- The commands `determine` and `confirm`: certificates that the inputs of a file of constraints
 -- determine its outputs.
-use Rattle.std.specs.Prelude.{◌≡◌, ◌+◌, ◌*◌, ◌≤◌, ℕ, List, length, Some, Result, Ok, ⊤}
+use Rattle.std.specs.Prelude.{◌≡◌, ◌+◌, ◌*◌, ◌≤◌, ℕ, List, length, Some}
+use Rattle.std.specs.Prelude.{Result, Ok, ⊤}
 use Rattle.binary_format.specs.Reading.{◌>>=◌}
 use Rattle.out_io.specs.Contents.{Contents}
 use Rattle.iden_files.specs.File.{File}
@@ -57,7 +58,8 @@ claim_of files r1cs certificate = do
 abbrev pub IsConfirmed : Claim → Confirm → Type 0
 IsConfirmed c found = IsVerdict (in_normal_form (circuit_of c.file)) c.rules found
 
-abbrev pub Confirms : Contents → (r1cs certificate : List ℕ) → Result Confirm Refusal → Type 0
+abbrev pub Confirms : Contents → (r1cs certificate : List ℕ)
+    → Result Confirm Refusal → Type 0
 Confirms files r1cs certificate found = FoundIn IsConfirmed (claim_of files r1cs certificate) found
 
 -- there are such rules for the file under the name

@@ -61,7 +61,8 @@ publics_in files name = do
   accepted_publics (publics_of bytes)
 
 -- what a text of rules says, or what is wrong with it
-abbrev pub accepted_rules : List ℕ → Result (List Rule) LineRefusal → Result (List Rule) Refusal
+abbrev pub accepted_rules : List ℕ → Result (List Rule) LineRefusal
+    → Result (List Rule) Refusal
 accepted_rules name (Ok rules) = Ok rules
 accepted_rules name (Err (bad line)) = Err (BadRules name BadLine line)
 accepted_rules name (Err (over line)) = Err (BadRules name Limit line)

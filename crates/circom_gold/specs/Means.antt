@@ -68,7 +68,8 @@ Means (determine r1cs out) files after exit text =
     × (exit ≡ 0 → IsSomeAnd (after out) (IsCertificateOf files r1cs))
 -- 0 exactly where these rules show it; the inputs determine the outputs then
 Means (confirm r1cs certificate) files after exit text =
-    ((exit ≡ 0) ↔ HoldsCertificate files r1cs certificate) × (exit ≡ 0 → HasDetermined files r1cs)
+    ((exit ≡ 0) ↔ HoldsCertificate files r1cs certificate)
+    × (exit ≡ 0 → HasDetermined files r1cs)
 -- 0 exactly where the run of the circuit ends; its values satisfy its constraints then
 Means (generate seed size running) files after exit text =
     (exit ≡ 0) ↔ HasGenerated seed size running.fuel

@@ -64,7 +64,8 @@ rules_text rules.Limit = codes "C2 Limit"
 
 abbrev pub bad_rules_line : (name cause number : List ℕ) → List ℕ
 bad_rules_line name cause number =
-    line (codes "refused: " ∷ name ∷ codes ": " ∷ cause ∷ codes " at line " ∷ number ∷ [])
+    line (codes "refused: " ∷ name ∷ codes ": " ∷ cause ∷ codes " at line "
+    ∷ number ∷ [])
 
 abbrev pub lex_text : LexCause → List ℕ
 lex_text lex.BadChar = codes " BadChar"

@@ -1,5 +1,6 @@
 -- Tasks of one flow, a list of start values each
-use Rattle.std.proofs.Common.{◌≡◌, ℕ, ◌*◌, ◌≤◌, List, [], ◌∷◌, length, map, Vec}
+use Rattle.std.proofs.Common.{◌≡◌, ℕ, ◌*◌, ◌≤◌, List, [], ◌∷◌, length, map}
+use Rattle.std.proofs.Common.{Vec}
 use Rattle.std.proofs.Common.{Global, refl, ap, arith}
 use Rattle.std.specs.List.{AllZip}
 use Rattle.std.proofs.lemmas.List.{length-map}
@@ -20,8 +21,8 @@ zip_of_map f R (x ∷ xs) (y ∷ ys) h = (h.0, zip_of_map f R xs ys h.1)
 abbrev pub tasks_of : Plan → ℕ → List (Vec ℕ Global) → List Task
 tasks_of p fuel starts = map (λ (s : Vec ℕ Global). task p s.items fuel) starts
 
-pub tasks_fit : (p : Plan) (fuel : ℕ) (starts : List (Vec ℕ Global)) → AreFew p (length starts)
-    → AreNumbered p.graph.strands (tasks_of p fuel starts)
+pub tasks_fit : (p : Plan) (fuel : ℕ) (starts : List (Vec ℕ Global))
+    → AreFew p (length starts) → AreNumbered p.graph.strands (tasks_of p fuel starts)
 tasks_fit p fuel starts few =
     let long = length-map starts (λ (s : Vec ℕ Global). task p s.items fuel) in
     let le : p.graph.strands ≤ size_each p = omega arith in

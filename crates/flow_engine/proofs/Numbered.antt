@@ -1,5 +1,6 @@
 -- Items of a pool: so many of them for each task
-use Rattle.std.proofs.Common.{◌≡◌, ℕ, ◌+◌, ◌*◌, ◌-◌, ◌/◌, ◌%◌, ◌<◌, ◌≤◌, arith, length, get_or}
+use Rattle.std.proofs.Common.{◌≡◌, ℕ, ◌+◌, ◌*◌, ◌-◌, ◌/◌, ◌%◌, ◌<◌}
+use Rattle.std.proofs.Common.{◌≤◌, arith, length, get_or}
 use Rattle.std.proofs.Common.{Option, Some, ap, subst, sym, ◌∙◌}
 use Rattle.std.proofs.Math.Nat.{mul-le-mul_right}
 use Rattle.std.proofs.lemmas.Nat.{div-add-mod'}
@@ -26,8 +27,9 @@ item_fits item tasks strands near =
     let parts = div-add-mod' item strands in omega arith
 
 -- the successor that a strand tells next is in range
-pub told_near : (f : Flow) (n : Net) → IsNet n → f.net ≡ n → (o : Option Hold) (k p a told : ℕ)
-    → o ≡ Some (hold p a told) → TellsNext f o k → told < length (succs_of n p) → k < n.strands
+pub told_near : (f : Flow) (n : Net) → IsNet n → f.net ≡ n
+    → (o : Option Hold) (k p a told : ℕ) → o ≡ Some (hold p a told) → TellsNext f o k
+    → told < length (succs_of n p) → k < n.strands
 told_near f n ok same o k p a told is tells lt =
     let at : k ≡ get_or (succs_of f.net p) told 0 = subst (λ q. TellsNext f q k) is tells in
     let here : k ≡ get_or (succs_of n p) told 0 =

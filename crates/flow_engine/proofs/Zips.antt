@@ -1,5 +1,6 @@
 -- Two lists side by side
-use Rattle.std.proofs.Common.{◌≡◌, ℕ, zero, suc, ◌<◌, List, [], ◌∷◌, ◌++◌, length, take, drop}
+use Rattle.std.proofs.Common.{◌≡◌, ℕ, zero, suc, ◌<◌, List, [], ◌∷◌, ◌++◌}
+use Rattle.std.proofs.Common.{length, take, drop}
 use Rattle.std.proofs.Common.{get_or, set, refl, sym, ap, subst, subst₂, arith}
 use Rattle.std.specs.List.{AllZip}
 
@@ -9,7 +10,8 @@ module _ {A B : Type 0} (R : A → B → Type 0) where
   zip_read [] ys k x y h lt ex ey = absurd (omega arith)
   zip_read (z ∷ xs) [] k x y h lt ex ey = absurd h
   zip_read (z ∷ xs) (w ∷ ys) zero x y h lt ex ey = subst₂ R (sym ex) (sym ey) h.0
-  zip_read (z ∷ xs) (w ∷ ys) (suc k) x y h lt ex ey = zip_read xs ys k x y h.1 (omega arith) ex ey
+  zip_read (z ∷ xs) (w ∷ ys) (suc k) x y h lt ex ey =
+      zip_read xs ys k x y h.1 (omega arith) ex ey
 
   -- one of the second list is another that the first list's has too
   pub zip_set : (xs : List A) (ys : List B) (k : ℕ) (x : A) (y : B) → AllZip R xs ys

@@ -1,5 +1,6 @@
 -- A flow, its start values and each step's fuel, and what its strands read and answer
-use Rattle.std.specs.Prelude.{◌≡◌, ℕ, ◌*◌, ◌^◌, ◌<◌, All, List, length, slice_index}
+use Rattle.std.specs.Prelude.{◌≡◌, ℕ, ◌*◌, ◌^◌, ◌<◌, All, List, length}
+use Rattle.std.specs.Prelude.{slice_index}
 use Rattle.flow_core.specs.Net.{reads_of}
 use Rattle.flow_core.specs.Flow.{Flow, Answer, Refuses, Gives, HasValue}
 use Rattle.wit_flow.specs.declared.StrandOut.{StrandOut}

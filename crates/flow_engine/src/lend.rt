@@ -1,5 +1,6 @@
 // Cutting a board's seat for the workers' hands, handing these out, and taking the seats back.
-ghost use Rattle.std.specs.Prelude.{◌≡◌, ◌+◌, ◌∷◌, ◌++◌, [], ◌≤◌, All, None, IfOk, vec_len};
+ghost use Rattle.std.specs.Prelude.{◌≡◌, ◌+◌, ◌∷◌, ◌++◌, [], ◌≤◌, All};
+ghost use Rattle.std.specs.Prelude.{None, IfOk, vec_len};
 ghost use Rattle.flow_board.specs.Seats.{place_of};
 ghost use Rattle.flow_engine.specs.Task.{AreNumbered};
 ghost use Rattle.flow_engine.specs.Lent.{AreBoards, IsBack, IsFresh, IsHand, IsHandBack};
@@ -164,7 +165,8 @@ pub fn take_back(
     requires hands { All (λ h. IsHandBack (boards.now ++ board.now ∷ []) h.items) hands.items }
     ensures own { place_of seat.new ≡ board.now }
     ensures free { seat.new.view.holding ≡ None }
-    ensures share { IfOk result (λ _. seat.new.view.share ≡ seat.old.view.share + vec_len hands) }
+    ensures share { IfOk result (λ _.
+        seat.new.view.share ≡ seat.old.view.share + vec_len hands) }
     ensures hands { IfOk result (λ rest. All (λ h. IsHandBack boards.now h.items) rest.items) }
     ensures each { IfOk result (λ rest. vec_len rest ≡ vec_len hands) }
 {

@@ -1,5 +1,6 @@
 // What one worker does.
-ghost use Rattle.std.specs.Prelude.{◌≡◌, ◌+◌, ◌<◌, ◌≤◌, ◌^◌, None, Some, OnOk};
+ghost use Rattle.std.specs.Prelude.{◌≡◌, ◌+◌, ◌<◌, ◌≤◌, ◌^◌, None, Some};
+ghost use Rattle.std.specs.Prelude.{OnOk};
 ghost use Rattle.flow_core.specs.Flow.{Gives, answer_of};
 ghost use Rattle.flow_core.specs.Events.{hold};
 ghost use Rattle.flow_board.specs.Seats.{place_of};

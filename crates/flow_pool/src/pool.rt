@@ -48,7 +48,8 @@ impl Pool {
         self.put_all(rt, &[strand]);
     }
 
-    /// Adds strands under one lock, the first of them to be taken first, and wakes workers for them.
+    /// Adds strands under one lock, the first of them to be taken first, and wakes workers for
+    /// them.
     pub fn put_all<R: Wait>(&self, rt: &R, strands: &[u32]) {
         if strands.is_empty() {
             return;

@@ -1,6 +1,8 @@
 -- The lines of a text, by the first of them.
-use Rattle.std.proofs.Common.{◌≡◌, ◌≢◌, ℕ, suc, ◌<◌, ◌+◌, Bool, true, false, ltb, eqb, List, [], ◌∷◌}
-use Rattle.std.proofs.Common.{◌++◌, length, take, drop, get_or, cond, Option, Some, None, refl, ap}
+use Rattle.std.proofs.Common.{◌≡◌, ◌≢◌, ℕ, suc, ◌<◌, ◌+◌, Bool, true, false}
+use Rattle.std.proofs.Common.{ltb, eqb, List, [], ◌∷◌}
+use Rattle.std.proofs.Common.{◌++◌, length, take, drop, get_or, cond, Option, Some, None, refl}
+use Rattle.std.proofs.Common.{ap}
 use Rattle.std.proofs.Common.{◌∙◌, arith, All, append_assoc}
 use Rattle.std.specs.Option.{MatchOption, is_some}
 use Rattle.std.specs.List.{slice_split, position_or_len, before_first, after_first}
@@ -8,8 +10,10 @@ use Rattle.std.proofs.lemmas.Bool.{ltb-true, ltb-false, lt-ltb, ne_eqb, eq-eqb, 
 use Rattle.std.proofs.lemmas.Bool.{cond-false}
 use Rattle.std.proofs.lemmas.List.{length-append, take_at, get_or_at, get_or_append_left}
 use Rattle.std.proofs.Math.Seq.{drop-append-add}
-use Rattle.std.proofs.lemmas.List.Elements.{All-from_get_or, All-head, All-tail, All-weaker, All-get_or}
-use Rattle.std.proofs.lemmas.List.Sums.{fails_before_first, passes_at_first, split_at_first, position_or_len_is}
+use Rattle.std.proofs.lemmas.List.Elements.{All-from_get_or, All-head, All-tail, All-weaker}
+use Rattle.std.proofs.lemmas.List.Elements.{All-get_or}
+use Rattle.std.proofs.lemmas.List.Sums.{fails_before_first, passes_at_first, split_at_first}
+use Rattle.std.proofs.lemmas.List.Sums.{position_or_len_is}
 use Rattle.std.proofs.lemmas.List.Splits.{slice_split_none, slice_split_at, slice_split_first}
 use Rattle.std.proofs.lemmas.List.Splits.{length-slice_split}
 use Rattle.text_lines.specs.Lines.{split_once, without_empty_last, lines_of, text_of, HasNo}
@@ -56,8 +60,9 @@ first_of_lines text line rest h =
     let split = slice_split_first p text 0 (ltb-true _ _ w.0) in
     let first : before_first p text ≡ line = ap (λ (r : List ℕ × List ℕ). r.0) w.1 in
     let behind : after_first p text ≡ rest = ap (λ (r : List ℕ × List ℕ). r.1) w.1 in
-    behind_first text line rest (split ∙ (ap (λ (l : List ℕ). l ∷ slice_split p (after_first p text))
-    first ∙ ap (λ (r : List ℕ). line ∷ slice_split p r) behind))
+    behind_first text line rest
+    (split ∙ (ap (λ (l : List ℕ). l ∷ slice_split p (after_first p text)) first
+    ∙ ap (λ (r : List ℕ). line ∷ slice_split p r) behind))
 
 last_line : (line : List ℕ) → 0 < length line → without_empty_last (line ∷ []) ≡ line ∷ []
 last_line [] some = absurd (omega arith)
@@ -74,7 +79,8 @@ only_line text some h =
     (λ i low. fails_before_first p text i 0 (omega (arith, late, low))) in
     ap without_empty_last (slice_split_none p text none) ∙ last_line text some
 
-pub written_again : (lines : List (List ℕ)) → All (HasNo 10) lines → lines_of (text_of lines) ≡ lines
+pub written_again : (lines : List (List ℕ)) → All (HasNo 10) lines
+    → lines_of (text_of lines) ≡ lines
 written_again [] h = refl
 written_again (line ∷ lines) h =
     let p : ℕ → Bool = λ b. eqb b 10 in
@@ -135,7 +141,8 @@ split_again byte front rest none =
     here = eq-eqb _ _ (get_or_at front byte rest 0 (length front) refl)
 
 -- the parts are those of the list
-pub split_parts : (byte : ℕ) (bytes front rest : List ℕ) → split_once byte bytes ≡ Some (front, rest)
+pub split_parts : (byte : ℕ) (bytes front rest : List ℕ)
+    → split_once byte bytes ≡ Some (front, rest)
     → bytes ≡ front ++ byte ∷ rest
 split_parts byte bytes front rest h =
     let p : ℕ → Bool = λ b. eqb b byte in

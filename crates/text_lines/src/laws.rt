@@ -1,5 +1,6 @@
 //! Laws of texts of lines, as functions that do nothing: the law is what each ensures.
-ghost use Rattle.std.specs.Prelude.{◌≡◌, ℕ, ◌<◌, ◌^◌, ◌≤◌, List, Option, Some, Ok, All, map, length};
+ghost use Rattle.std.specs.Prelude.{◌≡◌, ℕ, ◌<◌, ◌^◌, ◌≤◌, List, Option};
+ghost use Rattle.std.specs.Prelude.{Some, Ok, All, map, length};
 ghost use Rattle.std.specs.Prelude.{decimal};
 ghost use Rattle.text_lines.specs.Lines.{lines_of, text_of, HasNo};
 ghost use Rattle.text_lines.specs.Number.{plain_below};

@@ -1,10 +1,12 @@
 -- What isn't noted is 0, whatever a run does to its frames.
-use Rattle.std.proofs.Common.{◌≡◌, ℕ, zero, suc, ◌+◌, ◌-◌, ◌≤◌, List, [], ◌∷◌, ◌++◌, length}
+use Rattle.std.proofs.Common.{◌≡◌, ℕ, zero, suc, ◌+◌, ◌-◌, ◌≤◌, List, []}
+use Rattle.std.proofs.Common.{◌∷◌, ◌++◌, length}
 use Rattle.std.proofs.Common.{take, drop, refl, sym, ap, subst, ◌∙◌, arith, Bool, true, false}
 use Rattle.std.proofs.Common.{replicate, length-set, length-append, inl, inr}
 use Rattle.std.specs.Prelude.{slice_set}
 use Rattle.std.proofs.lemmas.Bool.{cases_eq}
-use Rattle.std.proofs.lemmas.List.{set-set, set_comm, take-set-le, take-take, take-append-le, take_at}
+use Rattle.std.proofs.lemmas.List.{set-set, set_comm, take-set-le, take-take, take-append-le}
+use Rattle.std.proofs.lemmas.List.{take_at}
 use Rattle.std.proofs.lemmas.List.{take-replicate, drop-replicate, length-replicate, length-take}
 use Rattle.wit_code.specs.declared.frames.Caller.{Caller}
 use Rattle.wit_code.specs.Room.{AreZeros, cleared}

@@ -1,5 +1,6 @@
 -- The frames of the open calls, and how they lie on one stack of numbers.
-use Rattle.std.specs.Prelude.{◌≡◌, ℕ, ◌+◌, ◌≤◌, Bool, false, List, [], ◌∷◌, Option, Some, None, take}
+use Rattle.std.specs.Prelude.{◌≡◌, ℕ, ◌+◌, ◌≤◌, Bool, false, List, [], ◌∷◌}
+use Rattle.std.specs.Prelude.{Option, Some, None, take}
 use Rattle.std.specs.Prelude.{drop, length}
 use Rattle.wit_code.specs.declared.frames.Resume.{Resume}
 use Rattle.wit_code.specs.declared.frames.Caller.{Caller}

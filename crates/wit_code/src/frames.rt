@@ -1,4 +1,5 @@
-ghost use Rattle.std.specs.Prelude.{◌≡◌, ◌+◌, ◌-◌, ◌<◌, ◌≤◌, ◌^◌, [], ◌∷◌, ◌++◌, length, slice_index};
+ghost use Rattle.std.specs.Prelude.{◌≡◌, ◌+◌, ◌-◌, ◌<◌, ◌≤◌, ◌^◌, []};
+ghost use Rattle.std.specs.Prelude.{◌∷◌, ◌++◌, length, slice_index};
 ghost use Rattle.std.specs.Prelude.{false, slice_set, slice_range, replicate, IfOk, OnOk};
 ghost use Rattle.wit_code.specs.Frames.{Closes, own_numbers, width_of};
 

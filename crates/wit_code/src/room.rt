@@ -1,4 +1,5 @@
-ghost use Rattle.std.specs.Prelude.{◌≡◌, ◌≤◌, ◌++◌, false, replicate, slice_set, take, IfOk, OnOk, OnErr, length};
+ghost use Rattle.std.specs.Prelude.{◌≡◌, ◌≤◌, ◌++◌, false, replicate, slice_set};
+ghost use Rattle.std.specs.Prelude.{take, IfOk, OnOk, OnErr, length};
 ghost use Rattle.wit_code.specs.Room.{AreZeros, cleared};
 
 use crate::frames::Caller;

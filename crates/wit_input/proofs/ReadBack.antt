@@ -56,7 +56,8 @@ and_false false = refl
 
 not_equal : (m n : ℕ) → n < m → nat_eq m n ≡ false
 not_equal m n h =
-    false_from_ne_true (nat_eq m n) (λ e. let same : m ≡ n = eqb-true m n e in omega (arith, same, h))
+    false_from_ne_true (nat_eq m n) (λ e.
+    let same : m ≡ n = eqb-true m n e in omega (arith, same, h))
 
 -- the second byte is no `x`
 not_hex : (ds : List ℕ) → AllDigits 10 ds → starts_with nat_eq ds (codes "0x") ≡ false
@@ -79,7 +80,8 @@ numeral_read [] n h some value small = absurd (omega (arith, some))
 numeral_read (d ∷ ds) n h some value small =
     let first = (digit_between d h.0).0 in
     let plain : (d == 45) ≡ false =
-    false_from_ne_true (d == 45) (λ e. let same : d ≡ 45 = eqb-true d 45 e in omega (arith, same, first)) in
+    false_from_ne_true (d == 45) (λ e.
+    let same : d ≡ 45 = eqb-true d 45 e in omega (arith, same, first)) in
     no _ _ _ plain
     ∙ ap (option_map reduced)
     (no _ _ _ (not_hex (d ∷ ds) h) ∙ ap limited (digits_read 0 (d ∷ ds) h ∙ ap Some value)
@@ -105,7 +107,8 @@ escape_digits [] h = refl
 escape_digits (d ∷ ds) h =
     let between = digit_between d h.0 in
     flat_map-cons escape_byte d ds
-    ∙ (λ i. escape_byte_plain d (λ e. omega (arith, e, between.0)) (λ e. omega (arith, e, between.1))
+    ∙ (λ i. escape_byte_plain d
+    (λ e. omega (arith, e, between.0)) (λ e. omega (arith, e, between.1))
     (omega (arith, between.0)) i ++ escape_digits ds h.1 i)
 
 quoted_is : (n : ℕ) → n < P → json_quoted (decimal n) ≡ quoted n

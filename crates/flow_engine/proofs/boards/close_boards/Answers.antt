@@ -1,4 +1,5 @@
-use Rattle.std.proofs.Common.{◌≡◌, ℕ, ◌∷◌, ◌++◌, [], List, Vec, Global, arith, get_or, length}
+use Rattle.std.proofs.Common.{◌≡◌, ℕ, ◌∷◌, ◌++◌, [], List, Vec, Global, arith}
+use Rattle.std.proofs.Common.{get_or, length}
 use Rattle.std.proofs.Common.{subst, sym, vec_len}
 use Rattle.std.specs.Prelude.{All}
 use Rattle.std.specs.List.{AllZip}

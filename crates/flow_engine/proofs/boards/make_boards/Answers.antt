@@ -1,4 +1,5 @@
-use Rattle.std.proofs.Common.{◌≡◌, ◌∙◌, ◌+◌, ◌∷◌, ◌++◌, [], List, Vec, Global, ap, arith, subst}
+use Rattle.std.proofs.Common.{◌≡◌, ◌∙◌, ◌+◌, ◌∷◌, ◌++◌, [], List, Vec}
+use Rattle.std.proofs.Common.{Global, ap, arith, subst}
 use Rattle.std.proofs.Common.{subst₂, sym, take}
 use Rattle.std.specs.Prelude.{All}
 use Rattle.std.specs.List.{AllZip}

@@ -1,4 +1,5 @@
-use Rattle.std.proofs.Common.{◌≡◌, ◌<◌, ◌/◌, ◌∙◌, None, ap, arith, get_or, length, set}
+use Rattle.std.proofs.Common.{◌≡◌, ◌<◌, ◌/◌, ◌∙◌, None, ap, arith, get_or}
+use Rattle.std.proofs.Common.{length, set}
 use Rattle.flow_board.specs.Seats.{Worker}
 use Rattle.flow_engine.specs.Task.{Task}
 use Rattle.flow_engine.specs.Lent.{IsHand}

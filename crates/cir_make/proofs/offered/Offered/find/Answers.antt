@@ -13,7 +13,8 @@ loop-left-init c =
     record {
       within = omega (arith, c.min-left.ensures);
       found = last_cut (sought_name c.args.name) self.ends self.arrays.now c.of.result
-          c.min-left.result self.ended (c.of.ensures ∙ ap (end_of key_cmp self.ends) c.key.ensures)
+          c.min-left.result self.ended
+          (c.of.ensures ∙ ap (end_of key_cmp self.ends) c.key.ensures)
           (omega (arith, c.min-left.ensures));
     }
 

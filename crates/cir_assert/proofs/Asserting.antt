@@ -25,7 +25,7 @@ use Rattle.cir_steps.specs.Making.{Emitting, make_assertion}
 use Rattle.cir_steps.specs.Statements.{emit_assert, emit_assert_value}
 use Rattle.cir_make.specs.declared.whole.Inside.{Inside}
 use Rattle.cir_make.specs.declared.whole.Whole.{Whole}
-use Rattle.cir_make.specs.Asserts.{IsAsserted, assert_steps}
+use Rattle.cir_assert.specs.Asserts.{IsAsserted, assert_steps}
 use Rattle.cir_make.specs.Emits.{Emits, go_on}
 use Rattle.cir_make.specs.Shows.{Shows, equations_in}
 use Rattle.cir_make.proofs.Going.{append_none, emits_as}

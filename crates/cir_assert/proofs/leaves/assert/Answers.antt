@@ -3,8 +3,8 @@ use Rattle.cir_ast.specs.Tree.{bare}
 use Rattle.cir_evaluate.specs.Within.{at_spot}
 use Rattle.cir_make.specs.Means.{emitting_in}
 use Rattle.cir_make.specs.Shows.{equations_in}
-use Rattle.cir_make.proofs.Asserting.{assert_emits}
-use Rattle.cir_make.proofs.leaves.assert.Goals as goal
+use Rattle.cir_assert.proofs.Asserting.{assert_emits}
+use Rattle.cir_assert.proofs.leaves.assert.Goals as goal
 
 pub returns : goal.returns
 returns g c = λ m d shows.

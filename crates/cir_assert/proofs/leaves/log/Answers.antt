@@ -13,8 +13,8 @@ use Rattle.cir_steps.specs.Step.{Logging}
 use Rattle.cir_make.specs.Means.{emitting_in}
 use Rattle.cir_make.specs.Shows.{equations_in}
 use Rattle.cir_make.proofs.Leading.{kept_state, led_emits, on_ok}
-use Rattle.cir_make.proofs.LogSteps.{memory_emits, on_done}
-use Rattle.cir_make.proofs.leaves.log.Goals as goal
+use Rattle.cir_assert.proofs.LogSteps.{memory_emits, on_done}
+use Rattle.cir_assert.proofs.leaves.log.Goals as goal
 
 pub returns-in_err-line_step : goal.returns-in_err-line_step
 returns-in_err-line_step g c = λ m d shows.

@@ -10,8 +10,8 @@ use Rattle.wit_circuit.specs.declared.code.LogPart.{LogPart as CodePart}
 use Rattle.wit_circuit.specs.Whole.{part_of}
 use Rattle.cir_make.specs.Shows.{IsKept}
 use Rattle.cir_make.proofs.Leading.{stands_here}
-use Rattle.cir_make.proofs.LogSteps.{kept_next}
-use Rattle.cir_make.proofs.leaves.line_step.Goals as goal
+use Rattle.cir_assert.proofs.LogSteps.{kept_next}
+use Rattle.cir_assert.proofs.leaves.line_step.Goals as goal
 
 pub returns-clause-made : goal.returns-clause-made
 returns-clause-made g c = λ m qs first x steps cost shaded counted kept.

@@ -3,8 +3,8 @@ use Rattle.cir_meaning.specs.Places.{numbers_from}
 use Rattle.cir_meaning.specs.Steps.{logged_cells}
 use Rattle.cir_steps.specs.Making.{log_parts}
 use Rattle.wit_circuit.specs.Whole.{part_of}
-use Rattle.cir_make.proofs.LogSteps.{arguments_from}
-use Rattle.cir_make.proofs.leaves.line_from.Given as goal
+use Rattle.cir_assert.proofs.LogSteps.{arguments_from}
+use Rattle.cir_assert.proofs.leaves.line_from.Given as goal
 
 -- what is in the line, with what is left, is all
 abbrev pub invariant-loop-argument : goal.invariant-loop-argument

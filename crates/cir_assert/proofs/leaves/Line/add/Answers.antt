@@ -6,8 +6,8 @@ use Rattle.cir_meaning.specs.Steps.{logged_cells}
 use Rattle.cir_steps.specs.Making.{log_parts}
 use Rattle.wit_circuit.specs.declared.code.LogPart.TheVariants as part
 use Rattle.wit_circuit.specs.Whole.{part_of}
-use Rattle.cir_make.proofs.LogSteps.{more_listed, value_cells, words_cells}
-use Rattle.cir_make.proofs.leaves.Line.add.Goals as goal
+use Rattle.cir_assert.proofs.LogSteps.{more_listed, value_cells, words_cells}
+use Rattle.cir_assert.proofs.leaves.Line.add.Goals as goal
 
 pub returns-in-Words-clause-parts : goal.returns-in-Words-clause-parts
 returns-in-Words-clause-parts c = λ rest.

@@ -3,8 +3,8 @@ use Rattle.cir_meaning.specs.Places.{numbers_from}
 use Rattle.cir_meaning.specs.Steps.{logged_cells}
 use Rattle.cir_steps.specs.Making.{log_parts}
 use Rattle.wit_circuit.specs.Whole.{part_of}
-use Rattle.cir_make.proofs.LogSteps.{arguments_at, arguments_end, arguments_from}
-use Rattle.cir_make.proofs.leaves.line_from.Goals as goal
+use Rattle.cir_assert.proofs.LogSteps.{arguments_at, arguments_end, arguments_from}
+use Rattle.cir_assert.proofs.leaves.line_from.Goals as goal
 
 pub loop-argument-preserved : goal.loop-argument-preserved
 loop-argument-preserved c =

@@ -14,11 +14,11 @@ use Rattle.cir_execute.proofs.Logging.{assert_paid, assert_told}
 use Rattle.cir_execute.proofs.Scanning.{kept_constraints}
 use Rattle.cir_steps.specs.Emission.{known_in, step_of}
 use Rattle.cir_steps.specs.Step.{Asserting, Step}
-use Rattle.cir_make.specs.Asserts.{assert_steps}
+use Rattle.cir_assert.specs.Asserts.{assert_steps}
 use Rattle.cir_make.specs.Shows.{IsKept}
-use Rattle.cir_make.proofs.Asserting.{none_behind, steps_known}
-use Rattle.cir_make.proofs.LogSteps.{on_done}
-use Rattle.cir_make.proofs.leaves.asserted.Goals as goal
+use Rattle.cir_assert.proofs.Asserting.{none_behind, steps_known}
+use Rattle.cir_assert.proofs.LogSteps.{on_done}
+use Rattle.cir_assert.proofs.leaves.asserted.Goals as goal
 
 pub returns-in_err-v-clause-leads : goal.returns-in_err-v-clause-leads
 returns-in_err-v-clause-leads g c = λ m qs shaded.
