@@ -209,7 +209,7 @@ text_more rules i d low =
     let front : List (List ℕ) = map line_of (take i rules) in
     let last : List ℕ = line_of (get_or rules i d) in
     let both : flat_map line (front ++ last ∷ [])
-        ≡ flat_map line front ++ flat_map line (last ∷ []) =
+    ≡ flat_map line front ++ flat_map line (last ∷ []) =
     flat_map-append line front (last ∷ []) in
     let one : flat_map line (last ∷ []) ≡ line last = append-nil (line last) in
     ap rules_text (take_more rules i d low)

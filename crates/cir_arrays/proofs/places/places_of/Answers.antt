@@ -9,7 +9,8 @@ use Rattle.cir_arrays.proofs.Indices.{within_none, rest_is, places_done}
 use Rattle.cir_arrays.proofs.places.places_of.Goals as goal
 use Rattle.cir_arrays.proofs.places.places_of.Goals.{then-not-is_inside-via-then-not-is_inside}
 use Rattle.cir_arrays.proofs.places.places_of.Goals.{
-    then-not-is_inside-via-else-not-is_inside+then-indices-dims}
+  then-not-is_inside-via-else-not-is_inside+then-indices-dims,
+}
 
 pub returns-then-not-is_inside : goal.returns-then-not-is_inside
 returns-then-not-is_inside c =

@@ -6,7 +6,8 @@ use Rattle.cir_arrays.specs.Reached.{want_of}
 use Rattle.cir_arrays.proofs.Reaching.{refuses_many, refuses_outside, refuses_shape, reaches}
 use Rattle.cir_arrays.proofs.reach.reach_of.Goals as goal
 use Rattle.cir_arrays.proofs.reach.reach_of.Goals.{
-    else-not-inside-via-then-not-inside+else-not-shaded}
+  else-not-inside-via-then-not-inside+else-not-shaded,
+}
 use Rattle.cir_arrays.proofs.reach.reach_of.Goals.{else-not-inside-via-else-not-inside}
 
 pub returns-then-indices-dims-clause-reach : goal.returns-then-indices-dims-clause-reach

@@ -7,10 +7,12 @@ use Rattle.cir_simplify.proofs.Picks.{first_at, below_none, ready_less, popped}
 use Rattle.cir_simplify.proofs.Starting.{pivot_empty}
 use Rattle.cir_simplify.proofs.turn.first_again.Goals as goal
 use Rattle.cir_simplify.proofs.turn.first_again.Goals.{
-    then-place-ready+then-place-len+in_default-pivot}
+  then-place-ready+then-place-len+in_default-pivot,
+}
 use Rattle.cir_simplify.proofs.turn.first_again.Goals.{else-place-ready}
 use Rattle.cir_simplify.proofs.turn.first_again.Goals.{
-    else-place-ready-via-then-place-ready+else-place-len}
+  else-place-ready-via-then-place-ready+else-place-len,
+}
 use Rattle.cir_simplify.proofs.turn.first_again.Goals.{else-place-ready-via-else-place-ready}
 
 pub returns-in-Some-pivot-clause-found : goal.returns-in-Some-pivot-clause-found
