@@ -10,4 +10,6 @@
 here=$(dirname "$(readlink -f "$0")")
 . "$here/../allocator.sh"
 # No folder of compiled Python is left beside the circuits.
-PYTHONDONTWRITEBYTECODE=1 exec python3 "$here/test.py" "$@"
+export PYTHONDONTWRITEBYTECODE=1
+python3 "$here/../tools/library_texts.py" --check || exit 1
+exec python3 "$here/test.py" "$@"
