@@ -79,6 +79,7 @@ echo 'include "inner"; component main = Mul();' > folder.circom
 try 'an include that is a folder' 3 "$fault" compile folder.circom OUT
 for command in 'check /dev/zero m.wtns' 'compile /dev/zero OUT' \
     'witness mul.circom /dev/zero OUT'; do
+    try "a file that never ends: $command" 3 "$fault" $command
     (ulimit -Sv "${MEMORY:-720000}"; exec "$PROGRAM" $command) > said 2> errors
     said "a file that never ends, with a limit of memory: $command" 4 '' $?
 done
@@ -110,6 +111,20 @@ holds 'who reads has the bytes' through m.r1cs
 printf 'before, and longer than what is written: %0500d' 0 > OUT
 try 'OUT was longer before' 0 "$compiled" compile mul.circom OUT
 holds 'its end is gone' OUT m.r1cs
+chmod 640 OUT
+try 'OUT has rights of its own' 0 "$compiled" compile mul.circom OUT
+if [ "$(stat -c %a OUT)" != 640 ]; then echo 'WRONG: its rights are others'; wrong=1; fi
+: > OUT.0.new
+try 'the name beside OUT is taken' 0 "$compiled" compile mul.circom OUT
+if [ -s OUT.0.new ]; then echo 'WRONG: the file beside OUT was written'; wrong=1; fi
+rm OUT.0.new
+echo before > OUT
+(ulimit -f 0; trap '' XFSZ; exec "$PROGRAM" compile mul.circom OUT 2> /dev/null) | cat > said
+echo "$fault" > wanted
+holds 'OUT that no byte can be written to' said wanted
+echo before > wanted
+holds 'OUT on a full disk is as it was' OUT wanted
+if [ "$(echo OUT*)" != OUT ]; then echo 'WRONG: a file beside OUT stays'; wrong=1; fi
 
 # The standard output.
 "$PROGRAM" check m.r1cs m.wtns > /dev/full; echo $? > status; : > said

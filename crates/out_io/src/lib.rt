@@ -3,6 +3,7 @@
 #![tactic(auto)]
 
 mod fault;
+mod files;
 mod history;
 mod memory;
 mod real;

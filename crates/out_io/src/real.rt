@@ -2,21 +2,15 @@ ghost use Rattle.std.specs.Prelude.{◌≡◌, ℕ, [], None};
 ghost use Rattle.out_io.specs.Faults.{CountsFaults, faults_after};
 ghost use Rattle.out_io.specs.History.{MayHave, MayHold};
 
+use crate::files::{read_file, write_file};
 use crate::{History, IoFault, Sink, Store};
 use std::alloc::Global;
-use std::fs::File;
-use std::io::{ErrorKind, Read, Write};
+use std::io::Write;
 use std::rt::Files;
-
-// The most turns that one reading of a file takes, of at least one byte each.
-const MOST_TURNS: u32 = 1 << 20;
-
-// The most bytes that one turn reads.
-const BUFFER: usize = 65_536;
 
 /// The system's files. A name is a path; one that doesn't begin with `/` is taken from the folder
 /// in which the process runs. A name that the system doesn't find isn't there; every other error of
-/// the system is a fault.
+/// the system is a fault, and so is a file of more than 1 GB.
 #[derive(Drop)]
 pub struct RealStore<R: Files + Drop> {
     rt: R,
@@ -72,43 +66,6 @@ fn counted<T>(faults: &mut u64, outcome: Result<T, IoFault>) -> Result<T, IoFaul
     outcome
 }
 
-// Reads on to the file's end.
-fn read_to_end<F: Read>(alloc: Global, file: &mut F) -> Result<Vec<u8>, IoFault> {
-    let mut bytes = Vec::new(alloc);
-    let mut buffer = [0u8; BUFFER];
-    for _ in 0..MOST_TURNS {
-        let Ok(count) = file.read(&mut buffer) else {
-            return Err(IoFault::Failed);
-        };
-        if count == 0 {
-            return Ok(bytes);
-        }
-        bytes.extend_from_slice(&buffer[..count])?;
-    }
-    match file.read(&mut buffer) {
-        Ok(0) => Ok(bytes),
-        _ => Err(IoFault::Failed),
-    }
-}
-
-fn read_file<R: Files>(rt: &R, alloc: Global, name: &str) -> Result<Option<Vec<u8>>, IoFault> {
-    match File::open(rt, name) {
-        Ok(mut file) => Ok(Some(read_to_end(alloc, &mut file)?)),
-        Err(error) if error.kind() == ErrorKind::NotFound => Ok(None),
-        Err(_) => Err(IoFault::Failed),
-    }
-}
-
-fn write_file<R: Files>(rt: &R, name: &str, bytes: &[u8]) -> Result<(), IoFault> {
-    let Ok(mut file) = File::create(rt, name) else {
-        return Err(IoFault::Failed);
-    };
-    match file.write_all(bytes) {
-        Ok(()) => Ok(()),
-        Err(_) => Err(IoFault::Failed),
-    }
-}
-
 impl<R: Files + Drop> Store for RealStore<R> {
     ghost contents = { λ s. None };
 
@@ -125,8 +82,8 @@ impl<R: Files + Drop> Store for RealStore<R> {
         self.history.add_read(name, found)
     }
 
-    fn write(&mut self, _alloc: Global, name: &str, bytes: &[u8]) -> Result<(), IoFault> {
-        let done = counted(&mut self.faults, write_file(&self.rt, name, bytes));
+    fn write(&mut self, alloc: Global, name: &str, bytes: &[u8]) -> Result<(), IoFault> {
+        let done = counted(&mut self.faults, write_file(&self.rt, alloc, name, bytes));
         self.history.add_write(name, bytes, done)
     }
 }
