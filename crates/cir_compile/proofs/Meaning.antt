@@ -1,8 +1,8 @@
 -- What the values of a written file mean.
 use Rattle.std.proofs.Common.{◌≡◌, ℕ, suc, ◌+◌, ◌*◌, ◌%◌, ◌<◌, ◌≤◌, nat_le, Bool, true, false, cond}
-use Rattle.std.proofs.Common.{List, [], ◌∷◌, Result, Ok, Err, refl, ap, sym, ◌∙◌, subst, arith, inl}
+use Rattle.std.proofs.Common.{List, [], ◌∷◌, Ok, Err, refl, ap, sym, ◌∙◌, subst, arith, inl}
 use Rattle.std.proofs.Common.{inr}
-use Rattle.std.specs.Prelude.{All, IsErrAnd, Option, sum_by, length, slice_index, slice_index_or}
+use Rattle.std.specs.Prelude.{All, sum_by, length, slice_index, slice_index_or}
 use Rattle.std.specs.Prelude.{◌↔◌}
 use Rattle.std.proofs.lemmas.Bool.{cases_lt}
 use Rattle.std.proofs.lemmas.List.Sums.{sum_by-cons}
@@ -12,13 +12,12 @@ use Rattle.gold_field.specs.declared.form.Constraint.{Constraint}
 use Rattle.gold_field.specs.declared.gold.TheConstants.{P}
 use Rattle.iden_files.specs.File.{File}
 use Rattle.out_io.specs.Contents.{Contents}
+use Rattle.out_io.specs.Held.{OfAll}
 use Rattle.cir_ast.specs.Program.{Program}
 use Rattle.cir_lc.specs.Number.{Assignment}
-use Rattle.out_io.specs.Calls.{Told}
-use Rattle.out_io.proofs.Telling.{told_on}
 use Rattle.cir_sources.specs.declared.fault.LoadFault.{LoadFault}
 use Rattle.cir_sources.specs.declared.fault.LoadFault.TheVariants as load
-use Rattle.cir_names.specs.Loading.{Loads, IsLoaded, IsLoadFault}
+use Rattle.cir_names.specs.Loading.{IsLoaded, NotLoaded}
 use Rattle.cir_inst.specs.declared.circuit.Circuit.{Circuit}
 use Rattle.cir_meaning.specs.Compile.{Satisfies}
 use Rattle.cir_simplify.specs.declared.types.Level.{Level}
@@ -32,7 +31,7 @@ use Rattle.cir_simplify.proofs.Over.{over}
 use Rattle.cir_simplify.proofs.Holes.{few, many}
 use Rattle.cir_compile.specs.declared.fault.CompileFault.{CompileFault}
 use Rattle.cir_compile.specs.declared.fault.CompileFault.TheVariants as fault
-use Rattle.cir_compile.specs.Compiled.{Task, Compiles, Writes, IsWritten, IsCompiled, IsRefused}
+use Rattle.cir_compile.specs.Compiled.{Task, NotCompiled, Writes}
 use Rattle.cir_compile.specs.Faults.{of_load}
 use Rattle.cir_compile.specs.Written.{own_count, AreValues, Extends, rules_of, file_of, Means}
 use Rattle.cir_compile.proofs.Wires.{Labels, labelled, label_of, place_below}
@@ -183,47 +182,20 @@ means p level c simple end good below ends wires satisfied w values = (
         (omega arith) below
         (wires.wires ∙ ap (kept_below keeps) same) refl law w values
 
--- a source that isn't loaded isn't compiled
-pub not_loaded : (contents : Option Contents) (task : Task) (failed : Type 0)
-    (r : Result File CompileFault) (f : LoadFault)
-    → IsErrAnd r (λ e. e ≡ of_load f) → Loads contents task.name task.library failed (Err f)
-    → Compiles contents task failed r
-not_loaded contents task failed (Ok x) f h s = absurd h
-not_loaded contents task failed (Err e) f h s = subst
-    (λ (x : CompileFault). Compiles contents task failed (Err x)) (sym h) (from f s)
-  where
-    from : (f : LoadFault) → Loads contents task.name task.library failed (Err f)
-        → Compiles contents task failed (Err (of_load f))
-    from load.Missing s = s
-    from (load.Refused r) s = told_on contents
-        (λ files. IsLoadFault files task.name task.library r) (λ files. IsRefused files task r)
-        (λ files l. inl l) s
-    from load.Fault s = s
-    from load.OutOfMemory s = tt
+module _ (held : Contents → Type 0) (task : Task) (failed : Type 0) where
+  -- a source that isn't loaded isn't compiled
+  pub unloaded : (f : LoadFault) → NotLoaded held task.name task.library failed f
+      → NotCompiled held task failed (of_load f)
+  unloaded load.Missing none = none
+  unloaded (load.Refused r) refused = λ files may. inl (refused files may)
+  unloaded load.Fault failed = failed
+  unloaded load.OutOfMemory u = tt
 
--- a program that isn't written
-pub not_written : (contents : Option Contents) (task : Task) (failed : Type 0) (program : Program)
-    (r : Result File CompileFault) (f : CompileFault)
-    → IsErrAnd r (λ e. e ≡ f)
-    → Told contents (λ files. IsLoaded files task.name task.library program)
-    → Writes program task.level (Err f) → Compiles contents task failed r
-not_written contents task failed program (Ok x) f h l w = absurd h
-not_written contents task failed program (Err e) f h l w = subst
-    (λ (x : CompileFault). Compiles contents task failed (Err x)) (sym h) (from f w)
-  where
-    from : (f : CompileFault) → Writes program task.level (Err f)
-        → Compiles contents task failed (Err f)
-    from fault.Missing w = absurd w
-    from (fault.Refused r) w = told_on contents
-        (λ files. IsLoaded files task.name task.library program) (λ files. IsRefused files task r)
-        (λ files k. inr (program, k, w)) l
-    from fault.Fault w = absurd w
-    from fault.OutOfMemory w = tt
-
-pub compiled : (contents : Option Contents) (task : Task) (program : Program) (f : File)
-    → Told contents (λ files. IsLoaded files task.name task.library program)
-    → IsWritten program task.level f → Told contents (λ files. IsCompiled files task f)
-compiled contents task program f l w =
-    told_on contents (λ files. IsLoaded files task.name task.library program)
-    (λ files. IsCompiled files task f)
-    (λ files k. record { program = program; loaded = k; written = w }) l
+  -- nor is one whose program isn't written
+  pub unwritten : (program : Program) (f : CompileFault)
+      → OfAll held (λ files. IsLoaded files task.name task.library program)
+      → Writes program task.level (Err f) → NotCompiled held task failed f
+  unwritten program fault.Missing loaded w = absurd w
+  unwritten program (fault.Refused r) loaded w = λ files may. inr (program, loaded files may, w)
+  unwritten program fault.Fault loaded w = absurd w
+  unwritten program fault.OutOfMemory loaded w = tt

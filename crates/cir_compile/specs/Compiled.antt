@@ -2,6 +2,8 @@
 use Rattle.std.specs.Prelude.{◌≡◌, ℕ, List, [], ◌∷◌, Option, None, Result, Ok, Err, ⊤, ◌⊎◌}
 use Rattle.std.specs.Prelude.{slice_get, unwrap_or, codes}
 use Rattle.out_io.specs.Contents.{Contents}
+use Rattle.out_io.specs.Faults.{one_more_fault}
+use Rattle.out_io.specs.Held.{OfAll}
 use Rattle.iden_files.specs.File.{File}
 use Rattle.cir_ast.specs.Program.{Program, Main}
 use Rattle.cir_ast.specs.Spot.{start}
@@ -9,7 +11,6 @@ use Rattle.cir_ast.specs.declared.refusal.Refusal.{Refusal}
 use Rattle.cir_ast.specs.declared.refusal.Kind.{Kind}
 use Rattle.cir_ast.specs.declared.refusal.Kind.TheVariants.{Limit}
 use Rattle.cir_ast.specs.declared.refusal.Which.TheVariants.{Terms}
-use Rattle.out_io.specs.Calls.{Told}
 use Rattle.cir_names.specs.Loading.{IsLoaded, IsLoadFault}
 use Rattle.cir_compile.specs.declared.compiling.Site.{Site}
 use Rattle.cir_inst.specs.declared.circuit.Circuit.{Circuit}
@@ -97,13 +98,23 @@ IsRefused files task r =
     ⊎ ((program : Program) × IsLoaded files task.name task.library program
     × IsUnwritten program task.level r)
 
--- over the contents of a store, where it tells them; it fails only where the store did, and want of
--- memory is free
-abbrev pub Compiles : Option Contents → Task → Type 0 → Result File CompileFault → Type 0
-Compiles contents task failed (Ok f) = Told contents (λ files. IsCompiled files task f)
-Compiles contents task failed (Err (fault.Refused r)) =
-    Told contents (λ files. IsRefused files task r)
-Compiles contents task failed (Err fault.Missing) =
-    Told contents (λ files. files task.name ≡ None)
-Compiles contents task failed (Err fault.Fault) = failed
-Compiles contents task failed (Err fault.OutOfMemory) = ⊤
+-- Why a source doesn't compile, over all contents that there may be. It fails only where the store
+-- did; want of memory is free.
+abbrev pub NotCompiled : (held : Contents → Type 0) → Task → (failed : Type 0) → CompileFault
+    → Type 0
+NotCompiled held task failed (fault.Refused r) = OfAll held (λ files. IsRefused files task r)
+NotCompiled held task failed fault.Missing = OfAll held (λ files. files task.name ≡ None)
+NotCompiled held task failed fault.Fault = failed
+NotCompiled held task failed fault.OutOfMemory = ⊤
+
+-- the count of faults after the compilation: one more where the store's fault ended it, and else as
+-- it was
+abbrev pub faults_by : {T : Type 0} → Result T CompileFault → ℕ → ℕ
+faults_by (Err fault.Fault) faults = one_more_fault faults
+faults_by _ faults = faults
+
+-- what it compiles to, or why it doesn't
+abbrev pub Compiles : (held : Contents → Type 0) → Task → (failed : Type 0)
+    → Result File CompileFault → Type 0
+Compiles held task failed (Ok f) = OfAll held (λ files. IsCompiled files task f)
+Compiles held task failed (Err e) = NotCompiled held task failed e

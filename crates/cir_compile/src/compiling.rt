@@ -1,11 +1,10 @@
-ghost use Rattle.std.specs.Prelude.{◌≡◌, ◌+◌, ◌≤◌, ◌↔◌, All, IfOk, Ok, Some};
+ghost use Rattle.std.specs.Prelude.{◌≡◌, ◌+◌, ◌≤◌, ◌↔◌, All, IfOk, Ok};
 ghost use Rattle.std.specs.Prelude.{length, map};
 ghost use Rattle.std.specs.Option.{option_copied};
 ghost use Rattle.out_io.specs.Faults.{Rose};
 ghost use Rattle.gold_field.specs.Form.{Holds};
 ghost use Rattle.iden_files.specs.File.{InLimits};
-ghost use Rattle.out_io.specs.Calls.{OnlyReads};
-ghost use Rattle.out_io.specs.Contents.{Contents};
+ghost use Rattle.out_io.specs.Held.{OnlyReads};
 ghost use Rattle.cir_ast.specs.Program.{bare_main, bare_program};
 ghost use Rattle.cir_checks.specs.Checked.{IsChecked};
 ghost use Rattle.cir_lc.specs.Number.{Assignment};
@@ -14,7 +13,7 @@ ghost use Rattle.cir_meaning.specs.Compile.{Satisfies};
 ghost use Rattle.cir_meaning.specs.SignalFree.{AreFunctionsFree};
 ghost use Rattle.cir_simplify.specs.Answer.{Simplifies};
 ghost use Rattle.cir_simplify.specs.Index.{IsGood};
-ghost use Rattle.cir_compile.specs.Compiled.{Compiles, Writes, main_site, refusal_of};
+ghost use Rattle.cir_compile.specs.Compiled.{Compiles, Writes, faults_by, main_site, refusal_of};
 ghost use Rattle.cir_compile.specs.Written.{own_count, rules_of};
 
 use crate::fault::CompileFault;
@@ -40,17 +39,12 @@ pub fn compile<S: Store>(
 ) -> Result<R1cs, CompileFault>
     // The file is that of the program that the source means. Values satisfy it exactly when they
     // extend, by the labels of its wires, to an assignment that satisfies the program.
-    ensures compiles { Compiles (S.contents store.old)
+    ensures compiles { Compiles (S.may_hold store.new)
         record { name = name.now; library = option_copied library.entry; level = level }
         (Rose (S.faults store.old) (S.faults store.new)) result }
-    // The same over all contents that agree with what the store answered.
-    ensures answers { (files : Contents) → S.may_hold store.new files → Compiles (Some files)
-        record { name = name.now; library = option_copied library.entry; level = level }
-        (Rose (S.faults store.old) (S.faults store.new)) result }
-    ensures still { (files : Contents) → S.may_hold store.new files
-        → S.may_hold store.old files }
+    ensures counted { S.faults store.new ≡ faults_by result (S.faults store.old) }
     ensures limits { IfOk result InLimits }
-    ensures store { OnlyReads (S.contents store.old) (S.contents store.new)
+    ensures store { OnlyReads (S.may_hold store.old) (S.may_hold store.new)
         (S.faults store.old) (S.faults store.new)
         (S.never_fails store.old) (S.never_fails store.new) }
 {

@@ -7,8 +7,8 @@ ghost use Rattle.cir_names.specs.Loading.{IsLoaded, IsOfSources};
 ghost use Rattle.cir_row_names.specs.Rows.{IsLineText, IsNamedProgram};
 ghost use Rattle.cir_values.specs.Names.{IsPlain};
 
-/// Each name in the templates of a program that loading gives is an identifier. This holds over any
-/// store, whether it tells its contents or not.
+/// Each name in the templates of a program that loading gives is an identifier. This holds whatever
+/// the store holds.
 pub fn loaded_names_are_identifiers()
     ensures any { (p : Program) → IsOfSources p → IsNamedProgram is_identifier p }
     ensures loaded { (files : Contents) (name : List ℕ) (library : Option (List ℕ))

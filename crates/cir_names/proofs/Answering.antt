@@ -5,9 +5,8 @@ use Rattle.std.proofs.Common.{inl, inr, refl, ap, sym, subst}
 use Rattle.std.specs.Prelude.{map}
 use Rattle.std.specs.declared.alloc.Global.{Global}
 use Rattle.std.specs.BTreeSet.{BTreeSet}
-use Rattle.out_io.specs.Calls.{Told}
 use Rattle.out_io.specs.Contents.{Contents}
-use Rattle.out_io.proofs.Telling.{told_on}
+use Rattle.out_io.specs.Held.{OfAll}
 use Rattle.cir_ast.specs.Plain.{plain_file}
 use Rattle.cir_ast.specs.Program.{Program}
 use Rattle.cir_resolve.specs.Definitions.{Definition, resolved}
@@ -19,10 +18,10 @@ use Rattle.cir_sources.specs.declared.fault.LoadFault.{LoadFault}
 use Rattle.cir_sources.specs.declared.fault.LoadFault.TheVariants as load
 use Rattle.cir_sources.specs.Includes.{Source, seen}
 use Rattle.cir_sources.specs.Steps.{AreMissing, Refuses}
-use Rattle.cir_sources.specs.Loading.{AreAll, AreSources, Loads as Reads}
+use Rattle.cir_sources.specs.Loading.{AreAll, AreSources, NotLoaded as Unread}
 use Rattle.cir_names.specs.Programs.{tree_of, definitions_from, names_of, AreTrees, name_fault}
 use Rattle.cir_names.specs.Programs.{refusal_of, IsProgramOf}
-use Rattle.cir_names.specs.Loading.{Checks, Loads}
+use Rattle.cir_names.specs.Loading.{Checks, NotLoaded}
 use Rattle.cir_names.specs.Resting.{IsLoadedWithout}
 use Rattle.cir_checks.proofs.UsedPrograms.{is_used}
 use Rattle.cir_names.proofs.Lows.{low_program}
@@ -76,33 +75,30 @@ refused sources files definitions found load.OutOfMemory are fault is = tt
 refused sources files definitions found _ are fault is = absurd is
 
 -- the sources are loaded, and they are of this program
-pub well_named : (contents : Option Contents) (name : List ℕ) (library : Option (List ℕ))
+pub well_named : {held : Contents → Type 0} {name : List ℕ} {library : Option (List ℕ)}
     (missing : BTreeSet (String Global)) (sources : List Source) (p : Program)
-    → Told contents (λ files. AreAll files name library sources × AreMissing files missing)
+    → OfAll held (λ files. AreAll files name library sources × AreMissing files missing)
     → IsProgramOf sources p
-    → Told contents (λ files. IsLoadedWithout files name library missing p)
-well_named contents name library missing sources p all theirs =
-    told_on contents (λ files. AreAll files name library sources × AreMissing files missing)
-    (λ files. IsLoadedWithout files name library missing p)
-    (λ files are. record {
+    → OfAll held (λ files. IsLoadedWithout files name library missing p)
+well_named missing sources p all theirs = λ files may.
+    let are = all files may in record {
       loaded = record { sources = sources; all = are.0; theirs = theirs };
       missing_are = are.1;
-    }) all
+    }
 
-module _ (contents : Option Contents) (name : List ℕ) (library : Option (List ℕ))
+module _ (held : Contents → Type 0) (name : List ℕ) (library : Option (List ℕ))
     (failed : Type 0) where
   -- the sources aren't loaded
-  pub unread : (e : LoadFault) → Reads contents name library failed (Err e)
-      → Loads contents name library failed (Err e)
-  unread (load.Refused r) h = told_on _ _ _ (λ files refused. inl refused) h
+  pub unread : (e : LoadFault) → Unread held name library failed e
+      → NotLoaded held name library failed e
+  unread (load.Refused r) h = λ files may. inl (h files may)
   unread _ h = h
 
   -- they are of no program
   pub misnamed : (missing : BTreeSet (String Global)) (sources : List Source) (e : LoadFault)
-      → Told contents (λ files. AreAll files name library sources × AreMissing files missing)
-      → Checks sources (Err e) → Loads contents name library failed (Err e)
-  misnamed missing sources (load.Refused r) all fault =
-      told_on _ _ _ (λ files (are : AreAll files name library sources × AreMissing files missing).
-      inr record { sources = sources; all = are.0; fault = fault }) all
+      → OfAll held (λ files. AreAll files name library sources × AreMissing files missing)
+      → Checks sources (Err e) → NotLoaded held name library failed e
+  misnamed missing sources (load.Refused r) all fault = λ files may.
+      inr record { sources = sources; all = (all files may).0; fault = fault }
   misnamed missing sources load.OutOfMemory all fault = tt
   misnamed missing sources _ all fault = absurd fault

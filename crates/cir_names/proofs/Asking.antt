@@ -26,7 +26,8 @@ module _ (files after : Contents) (library : Option (List ℕ)) (name : List ℕ
   Unsought site = ¬ IsSoughtAs files library name site
 
   same_bytes : (other : List ℕ) → other ≢ name → bytes_at after other ≡ bytes_at files other
-  same_bytes other differ = ap (λ found. if is_utf8 other then found else None) (others other differ)
+  same_bytes other differ =
+      ap (λ found. if is_utf8 other then found else None) (others other differ)
 
   same_held : (found : Option (List ℕ)) → ((n : List ℕ) → found ≡ Some n → n ≢ name)
       → if_held after found ≡ if_held files found
@@ -92,7 +93,8 @@ module _ (files after : Contents) (library : Option (List ℕ)) (name : List ℕ
       (All-head (HasNoPart files library name) s ss parts).includes unsought)
       (All-tail (HasNoPart files library name) s ss parts))
 
-  same_source : (s : Source) → HasNoPart files library name s → IsSource files s → IsSource after s
+  same_source : (s : Source) → HasNoPart files library name s → IsSource files s
+      → IsSource after s
   same_source s part source = record {
     bytes = source.bytes;
     there = same_bytes s.name part.other ∙ source.there;
@@ -106,8 +108,9 @@ module _ (files after : Contents) (library : Option (List ℕ)) (name : List ℕ
   same_all : (source : List ℕ) (sources : List Source) → All (HasNoPart files library name) sources
       → AreAll files source library sources → AreAll after source library sources
   same_all source sources parts all =
-      let first = All-head (HasNoPart files library name) all.first all.more (rw all.parts at parts) in
-      let more = All-tail (HasNoPart files library name) all.first all.more (rw all.parts at parts) in
+      let both = rw all.parts at parts in
+      let first = All-head (HasNoPart files library name) all.first all.more both in
+      let more = All-tail (HasNoPart files library name) all.first all.more both in
       record {
         first = all.first;
         more = all.more;

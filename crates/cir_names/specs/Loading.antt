@@ -1,7 +1,7 @@
 -- What loading a program answers.
 use Rattle.std.specs.Prelude.{◌≡◌, ℕ, List, ⊤, ◌⊎◌, Option, None, Result, Ok, Err}
-use Rattle.out_io.specs.Calls.{Told}
 use Rattle.out_io.specs.Contents.{Contents}
+use Rattle.out_io.specs.Held.{OfAll}
 use Rattle.cir_ast.specs.declared.program.Program.{Program as CodeProgram}
 use Rattle.cir_ast.specs.declared.refusal.Refusal.{Refusal}
 use Rattle.cir_ast.specs.Program.{Program, bare_program}
@@ -18,7 +18,7 @@ pub record IsLoaded (files : Contents) (name : List ℕ) (library : Option (List
   pub all : AreAll files name library sources
   pub theirs : IsProgramOf sources program
 
--- the program of some sources: this is known of it also where the store doesn't tell its contents
+-- the program of some sources: this is known of it whatever the store holds
 pub record IsOfSources (program : Program) : Type 0 where
   pub sources : List Source
   pub are : AreSources sources
@@ -37,18 +37,23 @@ IsLoadFault files name library r =
     (IsFirstFault files name r ⊎ IsIncludeFault files name library r)
     ⊎ IsNameRefusal files name library r
 
--- The program of the file of this name with all that it includes, or its first refusal, over the
--- contents of a store where it tells them. There is no program exactly where there is no file of
--- the name. It fails only where the store did; want of memory is free.
-abbrev pub Loads : Option Contents → List ℕ → Option (List ℕ) → Type 0
+-- Why the file of this name with all that it includes gives no program, over all contents that there
+-- may be: there is no file of the name, or the first refusal. It fails only where the store did; want
+-- of memory is free.
+abbrev pub NotLoaded : (held : Contents → Type 0) → List ℕ → Option (List ℕ) → (failed : Type 0)
+    → LoadFault → Type 0
+NotLoaded held name library failed fault.Missing = OfAll held (λ files. files name ≡ None)
+NotLoaded held name library failed (fault.Refused r) =
+    OfAll held (λ files. IsLoadFault files name library r)
+NotLoaded held name library failed fault.Fault = failed
+NotLoaded held name library failed fault.OutOfMemory = ⊤
+
+-- the program, or why there is none
+abbrev pub Loads : (held : Contents → Type 0) → List ℕ → Option (List ℕ) → (failed : Type 0)
     → Result CodeProgram LoadFault → Type 0
-Loads contents name library failed (Ok program) =
-    Told contents (λ files. IsLoaded files name library (bare_program program))
-Loads contents name library failed (Err fault.Missing) = Told contents (λ files. files name ≡ None)
-Loads contents name library failed (Err (fault.Refused r)) =
-    Told contents (λ files. IsLoadFault files name library r)
-Loads contents name library failed (Err fault.Fault) = failed
-Loads contents name library failed (Err fault.OutOfMemory) = ⊤
+Loads held name library failed (Ok program) =
+    OfAll held (λ files. IsLoaded files name library (bare_program program))
+Loads held name library failed (Err e) = NotLoaded held name library failed e
 
 -- the program of these sources, or the first fault of a name
 abbrev pub Checks : List Source → Result CodeProgram LoadFault → Type 0

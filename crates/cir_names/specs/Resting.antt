@@ -2,26 +2,16 @@
 use Rattle.std.specs.Prelude.{◌≡◌, ℕ, true, false, List, Option, Result, Ok, Err, String}
 use Rattle.std.specs.declared.alloc.Global.{Global}
 use Rattle.std.specs.BTreeSet.{BTreeSet, contains_text}
-use Rattle.out_io.specs.Calls.{Told}
 use Rattle.out_io.specs.Contents.{Contents}
+use Rattle.out_io.specs.Held.{OfAll}
 use Rattle.cir_ast.specs.Program.{Program, bare_program}
 use Rattle.cir_sources.specs.declared.fault.LoadFault.{LoadFault}
-use Rattle.cir_sources.specs.Includes.{Source as IncludedSource, is_among}
-use Rattle.cir_sources.specs.Resting.{RestOn}
+use Rattle.cir_sources.specs.Includes.{is_among}
 use Rattle.cir_sources.specs.Steps.{AreMissing}
 use Rattle.cir_names.specs.declared.loading.Known.{Known}
 use Rattle.cir_names.specs.declared.loading.Known.TheVariants.{Source, Missing, Nothing}
 use Rattle.cir_names.specs.declared.loading.Loaded.{Loaded}
-use Rattle.cir_names.specs.Loading.{IsLoaded, Loads}
-use Rattle.cir_names.specs.Programs.{IsProgramOf}
-
--- the program is that of sources, which are the same in all files from which they are read, where
--- these names have no file
-pub record RestsOn (name : List ℕ) (library : Option (List ℕ))
-    (missing : BTreeSet (String Global)) (program : Program) : Type 0 where
-  pub sources : List IncludedSource
-  pub theirs : IsProgramOf sources program
-  pub rest : RestOn name library missing sources
+use Rattle.cir_names.specs.Loading.{IsLoaded, NotLoaded}
 
 -- the program is loaded, and these names have no file
 pub record IsLoadedWithout (files : Contents) (name : List ℕ) (library : Option (List ℕ))
@@ -29,11 +19,12 @@ pub record IsLoadedWithout (files : Contents) (name : List ℕ) (library : Optio
   pub loaded : IsLoaded files name library program
   pub missing_are : AreMissing files missing
 
-abbrev pub LoadsAll : Option Contents → List ℕ → Option (List ℕ) → Type 0
+-- the program with the names that were asked for and have no file, or why there is none
+abbrev pub LoadsAll : (held : Contents → Type 0) → List ℕ → Option (List ℕ) → (failed : Type 0)
     → Result Loaded LoadFault → Type 0
-LoadsAll contents name library failed (Ok l) =
-    Told contents (λ files. IsLoadedWithout files name library l.missing (bare_program l.program))
-LoadsAll contents name library failed (Err e) = Loads contents name library failed (Err e)
+LoadsAll held name library failed (Ok l) =
+    OfAll held (λ files. IsLoadedWithout files name library l.missing (bare_program l.program))
+LoadsAll held name library failed (Err e) = NotLoaded held name library failed e
 
 -- the name is a source's, or one that has no file, or neither
 abbrev pub IsKnown : BTreeSet (String Global) → List (List ℕ) → List ℕ → Known → Type 0

@@ -24,8 +24,8 @@ pub fn one_loading()
         files name ≡ None → IsLoadFault files name library r → ⊥ }
 {}
 
-/// A file that the loading of a source doesn't ask for has no part in it: where other files differ in
-/// that one alone, the same program is loaded from them.
+/// A file that the loading of a source doesn't ask for has no part in it: where other files differ
+/// in that one alone, the same program is loaded from them.
 pub fn unasked_files_change_nothing()
     ensures { (files after : Contents) (source : List ℕ) (library : Option (List ℕ))
         (name : List ℕ) (p : Program) → IsLoaded files source library p

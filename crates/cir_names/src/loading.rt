@@ -1,17 +1,16 @@
 //! From the files of a store to the program.
-ghost use Rattle.std.specs.Prelude.{◌≡◌, map, IfOk, Some};
+ghost use Rattle.std.specs.Prelude.{◌≡◌, map, IfOk};
 ghost use Rattle.std.specs.Option.{option_copied};
-ghost use Rattle.out_io.specs.Calls.{OnlyReads};
-ghost use Rattle.out_io.specs.Contents.{Contents};
 ghost use Rattle.out_io.specs.Faults.{Rose};
+ghost use Rattle.out_io.specs.Held.{OnlyReads};
 ghost use Rattle.cir_ast.specs.Program.{bare_program};
 ghost use Rattle.cir_checks.specs.Checked.{IsChecked};
 ghost use Rattle.cir_sources.specs.Includes.{is_among, seen};
-ghost use Rattle.cir_sources.specs.Loading.{AreSources};
+ghost use Rattle.cir_sources.specs.Loading.{AreSources, faults_by};
 ghost use Rattle.cir_sources.specs.Steps.{Refuses};
 ghost use Rattle.cir_names.specs.Loading.{Loads, Checks, IsOfSources};
 ghost use Rattle.cir_names.specs.Programs.{refusal_of};
-ghost use Rattle.cir_names.specs.Resting.{LoadsAll, RestsOn};
+ghost use Rattle.cir_names.specs.Resting.{LoadsAll};
 
 use crate::gathering::gather;
 use crate::splitting::program_with;
@@ -74,16 +73,12 @@ pub fn load<S: Store>(
     name: &str,
     library: Option<&str>,
 ) -> Result<Program, LoadFault>
-    ensures loads { Loads (S.contents store.old) name.now (option_copied library.entry)
+    ensures loads { Loads (S.may_hold store.new) name.now (option_copied library.entry)
         (Rose (S.faults store.old) (S.faults store.new)) result }
-    ensures answers { (files : Contents) → S.may_hold store.new files →
-        Loads (Some files) name.now (option_copied library.entry)
-        (Rose (S.faults store.old) (S.faults store.new)) result }
-    ensures still { (files : Contents) → S.may_hold store.new files
-        → S.may_hold store.old files }
+    ensures counted { S.faults store.new ≡ faults_by result (S.faults store.old) }
     ensures checked { IfOk result (λ p. IsChecked (bare_program p)) }
     ensures theirs { IfOk result (λ p. IsOfSources (bare_program p)) }
-    ensures store { OnlyReads (S.contents store.old) (S.contents store.new)
+    ensures store { OnlyReads (S.may_hold store.old) (S.may_hold store.new)
         (S.faults store.old) (S.faults store.new) (S.never_fails store.old)
         (S.never_fails store.new) }
 {
@@ -100,18 +95,12 @@ pub fn load_all<S: Store>(
     name: &str,
     library: Option<&str>,
 ) -> Result<Loaded, LoadFault>
-    ensures loads { LoadsAll (S.contents store.old) name.now (option_copied library.entry)
+    ensures loads { LoadsAll (S.may_hold store.new) name.now (option_copied library.entry)
         (Rose (S.faults store.old) (S.faults store.new)) result }
-    ensures answers { (files : Contents) → S.may_hold store.new files →
-        LoadsAll (Some files) name.now (option_copied library.entry)
-        (Rose (S.faults store.old) (S.faults store.new)) result }
-    ensures still { (files : Contents) → S.may_hold store.new files
-        → S.may_hold store.old files }
+    ensures counted { S.faults store.new ≡ faults_by result (S.faults store.old) }
     ensures checked { IfOk result (λ l. IsChecked (bare_program l.program)) }
     ensures theirs { IfOk result (λ l. IsOfSources (bare_program l.program)) }
-    ensures rests { IfOk result (λ l. RestsOn name.now (option_copied library.entry) l.missing
-        (bare_program l.program)) }
-    ensures store { OnlyReads (S.contents store.old) (S.contents store.new)
+    ensures store { OnlyReads (S.may_hold store.old) (S.may_hold store.new)
         (S.faults store.old) (S.faults store.new) (S.never_fails store.old)
         (S.never_fails store.new) }
 {

@@ -10,7 +10,7 @@ ghost use Rattle.cir_scope.specs.Runnable.{AreRunnable};
 /// In a program that loading gives, each variable that is named is in scope, each call means a
 /// function, and declarations have their numbers in the order of the text; no loop declares a
 /// signal, no template returns, and functions have variables and calls of functions alone. This
-/// holds over any store, whether it tells its contents or not.
+/// holds whatever the store holds.
 pub fn loaded_programs_are_resolved()
     ensures any { (p : Program) → IsOfSources p → IsResolved p }
     ensures loaded { (files : Contents) (name : List ℕ) (library : Option (List ℕ))

@@ -4,4 +4,3 @@ pub mod Decoding
 pub mod Searching
 pub mod Steps
 pub mod OneLoading
-pub mod Resting

@@ -1,22 +1,21 @@
 -- How far the loading has come, from the first file on.
-use Rattle.std.proofs.Common.{◌≡◌, ℕ, ◌<◌, ◌≤◌, Bool, true, false, List, []}
+use Rattle.std.proofs.Common.{◌≡◌, ℕ, ◌<◌, ◌≤◌, true, false, List, []}
 use Rattle.std.proofs.Common.{◌∷◌, ◌++◌}
 use Rattle.std.proofs.Common.{length, reverse, refl, sym, ap, ◌∙◌, subst, cond, arith, Option}
 use Rattle.std.proofs.Common.{None}
-use Rattle.std.proofs.Common.{Some, Vec, String, string_bytes, Ok, Err, inl, inr}
+use Rattle.std.proofs.Common.{Some, Vec, String, string_bytes, Ok, inl, inr}
 use Rattle.std.specs.Prelude.{All}
 use Rattle.std.specs.Str.{IsUtf8, bytes_eq}
-use Rattle.std.proofs.lemmas.Bool.{false_from_ne_true, or_cases}
+use Rattle.std.proofs.lemmas.Bool.{or_cases}
 use Rattle.std.proofs.lemmas.List.{append-nil, append_assoc, length-append, length-map, map-append}
 use Rattle.std.proofs.lemmas.List.{reverse-append}
 use Rattle.std.proofs.lemmas.List.Elements.{All-nil, All-head, All-tail, All-push, All-pop}
-use Rattle.std.proofs.lemmas.List.Elements.{All-weaker}
+use Rattle.std.proofs.lemmas.List.Elements.{All-cons}
 use Rattle.std.proofs.lemmas.List.Folds.{list_any-append}
 use Rattle.std.proofs.lemmas.Slice.Eq.{bytes_eq-Decides}
-use Rattle.out_io.specs.Contents.{bytes_of}
 use Rattle.out_io.specs.Faults.{Rose}
-use Rattle.out_io.specs.Calls.{Told}
-use Rattle.out_io.proofs.Telling.{answer_here, no_files, rose_on, with_answer}
+use Rattle.out_io.specs.Held.{OfAll}
+use Rattle.out_io.proofs.Rising.{rose_on}
 use Rattle.cir_sources.specs.declared.search.Target.TheVariants.{Loaded, Absent, Found}
 use Rattle.cir_sources.specs.declared.fault.LoadFault.TheVariants as fault
 use Rattle.cir_sources.specs.Includes.{Contents, Site, IsRead, IsSource, Source, included_name}
@@ -24,14 +23,12 @@ use Rattle.cir_sources.specs.Includes.{is_among}
 use Rattle.cir_sources.specs.Includes.{is_loaded, left_after, seen}
 use Rattle.cir_sources.specs.Faults.{Refusal, IsFault, IsStop, most_files}
 use Rattle.cir_sources.specs.Loading.{Global, CodeSource, LoadFault, AreAll, AreReached, AreSources}
-use Rattle.cir_sources.specs.Loading.{IsAnswer, IsDecoded, Loads, NoFile, Refused}
+use Rattle.cir_sources.specs.Loading.{IsAnswer, IsDecoded, NotLoaded, Refused}
 use Rattle.cir_sources.specs.Steps.{IsThere, BTreeSet, contains_text, Target, Loading, Adds}
-use Rattle.cir_sources.specs.Steps.{AreHeld, AreMissing, Decodes, Ends, FindsTarget, Fits, IsBegun}
-use Rattle.cir_sources.specs.Steps.{IsLoading, IsOf, Knows, Learns, MayBe, Refuses, Targets}
-use Rattle.cir_sources.specs.Steps.{all_of, is_named}
-use Rattle.cir_sources.specs.Steps.{left_of, names_of}
-use Rattle.cir_sources.specs.Resting.{RestOn}
-use Rattle.cir_sources.proofs.Searching.{Reads, learns_found}
+use Rattle.cir_sources.specs.Steps.{AreHeld, AreMissing, Decodes, FindsTarget, Fits, IsBegun}
+use Rattle.cir_sources.specs.Steps.{IsLoading, Learns, Refuses, Targets, all_of, left_of}
+use Rattle.cir_sources.specs.Steps.{names_of}
+use Rattle.cir_sources.proofs.Searching.{Reads, held_there, learns_found}
 
 -- ---- the includes that are left
 
@@ -67,83 +64,22 @@ names_more old all s q are =
     rw (are, map-append (λ (s : Source). s.name) all (s ∷ []))
     (rw (list_any-append (λ n. bytes_eq n q) (names_of all) (s.name ∷ [])) (grind arith))
 
--- ---- what is known of the files
+-- the name of a source has a source's bytes
+pub among_read : (files : Contents) (all : List Source) → All (IsSource files) all
+    → (other : List ℕ) → IsUtf8 other → is_among (names_of all) other ≡ true
+    → (s : Source) × (bytes : List ℕ) × (files other ≡ Some bytes) × IsRead bytes s.tree
+among_read files all sources other utf8 is =
+    let x = among_source files all other sources is in
+    (x.0, x.1.bytes, held_there files other x.1.bytes (rw x.2 at x.1.there), x.1.read)
 
--- what is known is so
-so_of : {held : Contents → Type 0} {named : List ℕ → Bool} {fits : Contents → Type 0}
-    → Knows held named fits → IsOf held fits
-so_of knows = record { all = knows.so; some = (knows.files, knows.can) }
-
--- what follows from it is so too
-of_on : {held : Contents → Type 0} (P Q : Contents → Type 0)
-    → ((files : Contents) → P files → Q files) → IsOf held P → IsOf held Q
-of_on P Q leads is = record {
-  all = λ files may. leads files (is.all files may);
-  some = (is.some.0, leads is.some.0 is.some.1);
-}
-
--- the bytes that a reading found
-pub found_of : {before after : Contents → Type 0} (name : List ℕ)
-    (found : Option (Vec ℕ Global))
-    → Reads before after name found → IsOf after (λ files. files name ≡ bytes_of found)
-found_of name found reads = record {
-  all = λ files may. sym (reads.found files may);
-  some = (
-    with_answer name (bytes_of found) no_files,
-    answer_here name (bytes_of found) no_files,
-  );
-}
-
--- it is told
-pub told_by : (contents : Option Contents) {may : Contents → Type 0} (P : Contents → Type 0)
-    → IsOf (MayBe contents may) P → Told contents P
-told_by None P is = is.some
-told_by (Some files) P is = is.all files (inl refl)
-
--- why the loading ends is told
-pub ends_told : (contents old : Option Contents) (may : Contents → Type 0) (name : List ℕ)
-    (library : Option (List ℕ)) (failed : Type 0) (e : LoadFault) → contents ≡ old
-    → Ends (MayBe contents may) name library failed e → Loads old name library failed (Err e)
-ends_told contents old may name library failed e same ends =
-    subst (λ (o : Option Contents). Loads o name library failed (Err e)) same (go e ends)
-  where
-    go : (x : LoadFault) → Ends (MayBe contents may) name library failed x
-        → Loads contents name library failed (Err x)
-    go fault.Missing is = told_by contents (λ files. IsAnswer files name library NoFile) is
-    go (fault.Refused r) is = told_by contents
-        (λ files. IsAnswer files name library (Refused r)) is
-    go fault.Fault is = is
-    go fault.OutOfMemory is = tt
-
--- and it is so of all contents that there may be
-pub ends_held : (contents : Option Contents) (may : Contents → Type 0) (name : List ℕ)
-    (library : Option (List ℕ)) (failed : Type 0) (e : LoadFault) (files : Contents) → may files
-    → Ends (MayBe contents may) name library failed e
-    → Loads (Some files) name library failed (Err e)
-ends_held contents may name library failed fault.Missing files held is = is.all files (inr held)
-ends_held contents may name library failed (fault.Refused r) files held is =
-    is.all files (inr held)
-ends_held contents may name library failed fault.Fault files held is = is
-ends_held contents may name library failed fault.OutOfMemory files held is = tt
-
--- the found file is a source
-knows_more : (held : Contents → Type 0) (names missing new : BTreeSet (String Global))
+-- the file that was found is a source
+knows_more : {held : Contents → Type 0} (missing : BTreeSet (String Global))
     (all : List Source) (s : Source) (found : String Global) (bytes : Vec ℕ Global)
     → s.name ≡ string_bytes found → IsRead bytes.items s.tree
-    → ((q : List ℕ) → contains_text new q ≡ cond (bytes_eq s.name q) true
-    (contains_text names q))
-    → Knows held (is_named names (Found found bytes)) (Fits all missing (Found found bytes))
-    → Knows held (contains_text new) (Fits (all ++ s ∷ []) missing Loaded)
-knows_more held names missing new all s found bytes named read now knows = record {
-  so = λ files e. more files (knows.so files e);
-  files = knows.files;
-  can = more knows.files knows.can;
-  others = λ q e. knows.others q (rw (← named) (sym (now q) ∙ e));
-}
-  where
-    more : (files : Contents) → Fits all missing (Found found bytes) files
-        → Fits (all ++ s ∷ []) missing Loaded files
-    more files fits = record {
+    → OfAll held (Fits all missing (Found found bytes))
+    → OfAll held (Fits (all ++ s ∷ []) missing Loaded)
+knows_more missing all s found bytes named read knows = λ files may.
+    let fits = knows files may in record {
       sources = All-push (IsSource files) all s fits.sources
           record { bytes = bytes.items; there = rw named fits.there; read = read };
       missing = fits.missing;
@@ -186,38 +122,27 @@ module _ {held : Contents → Type 0} {name : List ℕ} {library : Option (List 
     reached = reached loading files [] sources are refl;
   }
 
-  pub ends : IsOf held (λ files. AreAll files name library all × AreMissing files missing)
-  ends =
-      of_on _ _ (λ files (fits : Fits all missing Loaded files).
-      (all_reached files fits.sources fits.missing, fits.missing)) (so_of loading.knows)
-
-  pub rests : RestOn name library missing all
-  rests = record {
-    apart = λ q e. false_from_ne_true (is_among (names_of all) q)
-        (λ is. let x = among_source loading.knows.files all q loading.knows.can.sources is in
-        cc (x.2, x.1.there, loading.knows.can.missing q e));
-    files = loading.knows.files;
-    sources = loading.knows.can.sources;
-    others = λ q e. loading.knows.others q (loading.begun.names_are q ∙ e);
-    leads = all_reached;
-  }
+  pub ends : OfAll held
+      (λ files. AreAll files name library all × AreMissing files missing)
+  ends = λ files may.
+      let fits = loading.knows files may in
+      (all_reached files fits.sources fits.missing, fits.missing)
 
   pub are_sources : AreSources all
   are_sources = record {
     some = omega (arith, ap length loading.begun.parts);
     few = loading.begun.few;
-    read = All-weaker (IsSource loading.knows.files) IsDecoded
-        (λ s source. (source.bytes, source.read)) all loading.knows.can.sources;
+    read = loading.begun.read;
   }
 
 -- ---- the first file
 
-module _ (held : Contents → Type 0) (name : List ℕ) (library : Option (List ℕ))
+module _ {held : Contents → Type 0} {name : List ℕ} (library : Option (List ℕ))
     (failed : Type 0) where
   -- a refusal for such a cause
   loads_refused : (P : Refusal → Type 0) (e : LoadFault)
-      → ((r : Refusal) → P r → IsOf held (λ files. IsAnswer files name library (Refused r)))
-      → Refuses P e → Ends held name library failed e
+      → ((r : Refusal) → P r → OfAll held (λ files. IsAnswer files name library (Refused r)))
+      → Refuses P e → NotLoaded held name library failed e
   loads_refused P (fault.Refused r) on h = on r h
   loads_refused P fault.OutOfMemory on h = h
   loads_refused P _ on h = absurd h
@@ -225,24 +150,24 @@ module _ (held : Contents → Type 0) (name : List ℕ) (library : Option (List 
   -- it has a fault
   pub first_bad : {before : Contents → Type 0} (bytes : Vec ℕ Global) (e : LoadFault)
       → Reads before held name (Some bytes)
-      → Refuses (IsFault name bytes.items) e → Ends held name library failed e
+      → Refuses (IsFault name bytes.items) e → NotLoaded held name library failed e
   first_bad bytes e reads =
-      loads_refused (IsFault name bytes.items) e (λ r bad. of_on _ _
-      (λ files there. inl record { bytes = bytes.items; there = there; fault = bad })
-      (found_of name (Some bytes) reads))
+      loads_refused (IsFault name bytes.items) e (λ r bad files may.
+      inl record { bytes = bytes.items; there = sym (reads.found files may); fault = bad })
 
 -- a store that failed later failed
 pub ends_on : (held : Contents → Type 0) (name : List ℕ) (library : Option (List ℕ))
     (first before now : ℕ) (e : LoadFault) → first ≤ before
-    → Ends held name library (Rose before now) e → Ends held name library (Rose first now) e
+    → NotLoaded held name library (Rose before now) e
+    → NotLoaded held name library (Rose first now) e
 ends_on held name library first before now fault.Missing le h = h
 ends_on held name library first before now (fault.Refused r) le h = h
 ends_on held name library first before now fault.Fault le h = rose_on first before now le h
 ends_on held name library first before now fault.OutOfMemory le h = h
 
 -- it is loaded
-pub first_loads : (before held : Contents → Type 0) (name text : List ℕ)
-    (library : Option (List ℕ))
+pub first_loads : {before held : Contents → Type 0} {name text : List ℕ}
+    {library : Option (List ℕ)}
     (found : String Global) (bytes : Vec ℕ Global) (source : CodeSource) (start loading : Loading)
     → IsUtf8 name → string_bytes found ≡ name → text ≡ name
     → Reads before held name (Some bytes)
@@ -252,7 +177,7 @@ pub first_loads : (before held : Contents → Type 0) (name text : List ℕ)
     → ((q : List ℕ) → contains_text start.missing q ≡ false)
     → IsLoading held name library loading.names loading.missing (all_of loading)
     (left_of loading)
-first_loads before held name text library found bytes source start loading utf8 is same reads
+first_loads {name = name} found bytes source start loading utf8 is same reads
     decodes adds no_sources no_left no_names no_missing =
     rw (adds.sources, adds.left, adds.missing, no_sources, no_left) record {
       begun = record {
@@ -261,18 +186,12 @@ first_loads before held name text library found bytes source start loading utf8 
         parts = refl;
         named = named;
         few = omega arith;
+        read = All-cons IsDecoded (seen source) [] (bytes.items, decodes.1) (All-nil IsDecoded);
         names_are = λ q. adds.names q ∙ names_more start.names [] (seen source) q (no_names q);
       };
-      knows = knows_more held start.names start.missing loading.names [] (seen source) found
-          bytes (named ∙ sym is) decodes.1 adds.names
-          ((learns_found before held start.names start.missing found bytes (rw is utf8)
-          (no_names (string_bytes found)) (no_missing (string_bytes found))
-          (rw is reads)).knows [] record {
-            so = λ files e. nothing files;
-            files = no_files;
-            can = nothing no_files;
-            others = λ q e. refl;
-          });
+      knows = knows_more _ [] (seen source) found bytes (named ∙ sym is) decodes.1
+          ((learns_found start.missing found bytes utf8 is reads).knows []
+          (λ files may. nothing files));
       leads = λ files sources are new. rw (named, append-nil);
     }
   where
@@ -303,14 +222,14 @@ on_top rest site last loading = rw (last, reverse-append rest (site ∷ [])) at 
 
 module _ {before after : Contents → Type 0} {name : List ℕ} {library : Option (List ℕ)}
     {site : Site} {missing : BTreeSet (String Global)} {target : Target} (old : Loading)
-    (learns : Learns before after old.names old.missing missing target)
+    (learns : Learns before after old.missing missing target)
     (finds : FindsTarget old.names missing library site target)
     (loading : IsLoading before name library old.names old.missing (all_of old)
     (site ∷ left_of old)) where
   abbrev begun : IsBegun name old.names (all_of old)
   begun = loading.begun
 
-  knows : Knows after (is_named old.names target) (Fits (all_of old) missing target)
+  knows : OfAll after (Fits (all_of old) missing target)
   knows = learns.knows (all_of old) loading.knows
 
   count : length (all_of old) ≡ length old.sources.items
@@ -342,10 +261,10 @@ module _ {before after : Contents → Type 0} {name : List ℕ} {library : Optio
       → ¬ (t ≡ Loaded) → ((r : Refusal) → P r → (files : Contents) → IsThere files t
       → included_name files library site ≡ chosen_as t
       → IsStop files library (length old.sources.items) site r)
-      → Refuses P e → Ends after name library failed e
+      → Refuses P e → NotLoaded after name library failed e
   stops failed P e t is new why =
-      loads_refused after name library failed P e
-      (λ r p. of_on _ _ (λ files (fits : Fits (all_of old) missing t files).
+      loads_refused _ _ P e (λ r p files may.
+      let fits = rw is at (knows files may) in
       let f = fresh files t is new fits in inr record {
         first = begun.first;
         more = begun.more;
@@ -356,7 +275,6 @@ module _ {before after : Contents → Type 0} {name : List ℕ} {library : Optio
         stop = subst (λ n. IsStop files library n site r)
             (omega (arith, count, ap length begun.parts)) (why r p files fits.there f.0);
       })
-      (so_of (rw is at knows)))
 
   -- it is loaded already
   pub skips : target ≡ Loaded
@@ -387,11 +305,12 @@ module _ {before after : Contents → Type 0} {name : List ℕ} {library : Optio
           parts = ap (λ l. l ++ seen source ∷ []) begun.parts;
           named = begun.named;
           few = omega (arith, length-append (all_of old) (seen source ∷ []), count, few);
+          read = All-push IsDecoded (all_of old) (seen source) begun.read (bytes.items, decodes.1);
           names_are = λ q. adds.names q
               ∙ names_more old.names (all_of old) (seen source) q (begun.names_are q);
         };
-        knows = knows_more after old.names missing new.names (all_of old) (seen source) found
-            bytes named decodes.1 adds.names (rw is at knows);
+        knows = knows_more _ (all_of old) (seen source) found bytes named decodes.1
+            (rw is at knows);
         leads = λ files sources are n.
             let both : All (IsSource files) (all_of old) × IsSource files (seen source) =
             All-pop (IsSource files) (all_of old ++ seen source ∷ []) (all_of old)

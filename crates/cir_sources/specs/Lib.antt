@@ -4,4 +4,4 @@ pub mod Includes
 pub mod Faults
 pub mod Loading
 pub mod Steps
-pub mod Resting
+pub mod Reaching

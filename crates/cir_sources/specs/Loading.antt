@@ -1,14 +1,15 @@
 -- What the loading of a program's sources answers.
-use Rattle.std.specs.Prelude.{◌≡◌, ℕ, ◌+◌, ◌≤◌, List, [], ◌∷◌, length, map, ⊤, ◌⊎◌, All, Option}
-use Rattle.std.specs.Prelude.{None, Some, Result, Ok, Err, Vec}
+use Rattle.std.specs.Prelude.{◌≡◌, ℕ, ◌+◌, ◌≤◌, List, [], ◌∷◌, length, ⊤, ◌⊎◌, All, Option}
+use Rattle.std.specs.Prelude.{None, Some, Result, Err}
 pub use Rattle.std.specs.declared.alloc.Global.{Global}
-use Rattle.out_io.specs.Calls.{Told}
+use Rattle.out_io.specs.Faults.{one_more_fault}
+use Rattle.out_io.specs.Held.{OfAll}
 use Rattle.out_io.specs.declared.fault.IoFault.{IoFault}
 use Rattle.out_io.specs.declared.fault.IoFault.TheVariants as io
 pub use Rattle.cir_sources.specs.declared.source.Source.{Source as CodeSource}
 pub use Rattle.cir_sources.specs.declared.fault.LoadFault.{LoadFault}
 use Rattle.cir_sources.specs.declared.fault.LoadFault.TheVariants as fault
-use Rattle.cir_sources.specs.Includes.{Contents, Site, Source, seen, IsRead, IsSource, includes_of}
+use Rattle.cir_sources.specs.Includes.{Contents, Site, Source, IsRead, IsSource, includes_of}
 use Rattle.cir_sources.specs.Includes.{left_after}
 use Rattle.cir_sources.specs.Faults.{Refusal, IsFault, IsStop, most_files}
 
@@ -64,24 +65,28 @@ abbrev pub fault_of : IoFault → LoadFault
 fault_of io.Failed = fault.Fault
 fault_of io.OutOfMemory = fault.OutOfMemory
 
--- What the loading of the file of this name answers, over the contents where the store tells them.
--- It fails only where the store did; want of memory is free.
-abbrev pub Loads : Option Contents → List ℕ → Option (List ℕ) → Type 0
-    → Result (Vec CodeSource Global) LoadFault → Type 0
-Loads contents name library failed (Ok v) =
-    Told contents (λ files. IsAnswer files name library (Sources (map seen v.items)))
-Loads contents name library failed (Err fault.Missing) =
-    Told contents (λ files. IsAnswer files name library NoFile)
-Loads contents name library failed (Err (fault.Refused r)) =
-    Told contents (λ files. IsAnswer files name library (Refused r))
-Loads contents name library failed (Err fault.Fault) = failed
-Loads contents name library failed (Err fault.OutOfMemory) = ⊤
+-- Why the sources of the file of this name aren't loaded: it is so of all contents that there may
+-- be. The loading fails only where the store did; want of memory is free.
+abbrev pub NotLoaded : (held : Contents → Type 0) → List ℕ → Option (List ℕ) → (failed : Type 0)
+    → LoadFault → Type 0
+NotLoaded held name library failed fault.Missing =
+    OfAll held (λ files. IsAnswer files name library NoFile)
+NotLoaded held name library failed (fault.Refused r) =
+    OfAll held (λ files. IsAnswer files name library (Refused r))
+NotLoaded held name library failed fault.Fault = failed
+NotLoaded held name library failed fault.OutOfMemory = ⊤
+
+-- the count of faults after the loading: one more where the store's fault ended it, and else as it
+-- was
+abbrev pub faults_by : {T : Type 0} → Result T LoadFault → ℕ → ℕ
+faults_by (Err fault.Fault) faults = one_more_fault faults
+faults_by _ faults = faults
 
 -- the source is read from some bytes
 abbrev pub IsDecoded : Source → Type 0
 IsDecoded s = (bytes : List ℕ) × IsRead bytes s.tree
 
--- what is known of the sources also where the store doesn't tell its contents
+-- what is known of the sources whatever the store holds
 pub record AreSources (all : List Source) : Type 0 where
   pub some : 1 ≤ length all
   pub few : length all ≤ most_files

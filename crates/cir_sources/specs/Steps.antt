@@ -1,13 +1,13 @@
 -- What the steps of the loading do.
-use Rattle.std.specs.Prelude.{◌≡◌, ◌+◌, ◌-◌, ◌*◌, ◌^◌, ◌≤◌, ℕ, Bool}
+use Rattle.std.specs.Prelude.{◌≡◌, ◌+◌, ◌-◌, ◌*◌, ◌^◌, ◌≤◌, ℕ}
 use Rattle.std.specs.Prelude.{true, false, List, [], ◌∷◌}
 use Rattle.std.specs.Prelude.{◌++◌, length, map, reverse, if◌then◌else◌, ⊤, All, Option}
 use Rattle.std.specs.Prelude.{None, Some}
-use Rattle.std.specs.Prelude.{◌⊎◌}
 use Rattle.std.specs.Prelude.{Result, Ok, Err, Vec, String, string_bytes, vec_len}
 use Rattle.std.specs.Borrow.{Bor}
 use Rattle.std.specs.Str.{bytes_eq}
 pub use Rattle.std.specs.BTreeSet.{BTreeSet, contains_text}
+use Rattle.out_io.specs.Held.{OfAll}
 use Rattle.cir_lexer.specs.Reading.{IsReading}
 use Rattle.cir_ast.specs.declared.marked.File.{File as CodeFile}
 use Rattle.cir_ast.specs.declared.program.Meant.{Meant}
@@ -20,8 +20,7 @@ use Rattle.cir_sources.specs.Includes.{Contents, Site, Source, seen_items, seen,
 use Rattle.cir_sources.specs.Includes.{IsSource, includes_of, other_version, bytes_at, is_among}
 use Rattle.cir_sources.specs.Includes.{included_name, left_after}
 use Rattle.cir_sources.specs.Faults.{Refusal, IsUnfit, IsFault, most_files}
-use Rattle.cir_sources.specs.Loading.{Global, CodeSource, LoadFault, IsAnswer, NoFile}
-use Rattle.cir_sources.specs.Loading.{Refused as IsRefused}
+use Rattle.cir_sources.specs.Loading.{Global, CodeSource, LoadFault, IsDecoded, NotLoaded}
 
 -- the segments that are kept, the last one first
 abbrev pub last_first : List (Bor (List ℕ)) → List (List ℕ)
@@ -61,12 +60,6 @@ abbrev pub IsThere : Contents → Target → Type 0
 IsThere files (Found name bytes) = bytes_at files (string_bytes name) ≡ Some bytes.items
 IsThere files _ = ⊤
 
--- the name is one of these, or that of the file that was found
-abbrev pub is_named : BTreeSet (String Global) → Target → List ℕ → Bool
-is_named names (Found name bytes) q =
-    if bytes_eq (string_bytes name) q then true else contains_text names q
-is_named names _ q = contains_text names q
-
 -- these sources are read from the files, these names have none, and what was found is there
 abbrev pub Fits : List Source → BTreeSet (String Global) → Target → Contents → Type 0
 Fits all missing target files = record {
@@ -75,32 +68,13 @@ Fits all missing target files = record {
   there : IsThere files target;
 }
 
--- these are the contents that the store tells, or some that agree with its answers
-abbrev pub MayBe : Option Contents → (Contents → Type 0) → Contents → Type 0
-MayBe contents may_hold files = (contents ≡ Some files) ⊎ may_hold files
-
--- it is so of all these contents, and of some
-pub record IsOf (held : Contents → Type 0) (P : Contents → Type 0) : Type 0 where
-  pub all : (files : Contents) → held files → P files
-  pub some : (files : Contents) × P files
-
--- What is known of the files: it is so of all contents that there may be, and it can be so, with no
--- other names.
-pub record Knows (held : Contents → Type 0) (named : List ℕ → Bool)
-    (fits : Contents → Type 0)
-    : Type 0 where
-  pub so : (files : Contents) → held files → fits files
-  pub files : Contents
-  pub can : fits files
-  pub others : (q : List ℕ) → named q ≡ false → files q ≡ None
-
 -- What a search adds to what is known of the files: names that have no file, and perhaps a file
--- that it found. It asks for no name that is known.
-pub record Learns (before after : Contents → Type 0) (names old new : BTreeSet (String Global))
+-- that it found.
+pub record Learns (before after : Contents → Type 0) (old new : BTreeSet (String Global))
     (target : Target) : Type 0 where
   pub more : (files : Contents) → AreMissing files new → AreMissing files old
-  pub knows : (all : List Source) → Knows before (contains_text names) (Fits all old Loaded)
-      → Knows after (is_named names target) (Fits all new target)
+  pub knows : (all : List Source) → OfAll before (Fits all old Loaded)
+      → OfAll after (Fits all new target)
 
 -- what is known of the file of this name: it is loaded, there is none, or it was read
 abbrev pub Looks : Contents → BTreeSet (String Global) → List ℕ → Target → Type 0
@@ -166,6 +140,7 @@ pub record IsBegun (name : List ℕ) (names : BTreeSet (String Global)) (all : L
     pub parts : all ≡ first ∷ more
     pub named : first.name ≡ name
     pub few : length all ≤ most_files
+    pub read : All IsDecoded all
     pub names_are : (q : List ℕ) → contains_text names q ≡ is_among (names_of all) q
 
 -- How far the loading has come: in all files that are as is known, whatever sources follow, what is
@@ -173,28 +148,18 @@ pub record IsBegun (name : List ℕ) (names : BTreeSet (String Global)) (all : L
 pub record IsLoading (held : Contents → Type 0) (name : List ℕ) (library : Option (List ℕ))
     (names missing : BTreeSet (String Global)) (all : List Source) (left : List Site) : Type 0 where
   pub begun : IsBegun name names all
-  pub knows : Knows held (contains_text names) (Fits all missing Loaded)
+  pub knows : OfAll held (Fits all missing Loaded)
   pub leads : (files : Contents) → All (IsSource files) all → AreMissing files missing
       → (new : List Source)
       → left_after files library (name ∷ []) (includes_of begun.first) (begun.more ++ new)
       ≡ left_after files library (names_of all) left new
-
--- why the loading ends
-abbrev pub Ends : (Contents → Type 0) → List ℕ → Option (List ℕ) → Type 0 → LoadFault
-    → Type 0
-Ends held name library failed fault.Missing = IsOf held
-    (λ files. IsAnswer files name library NoFile)
-Ends held name library failed (fault.Refused r) =
-    IsOf held (λ files. IsAnswer files name library (IsRefused r))
-Ends held name library failed fault.Fault = failed
-Ends held name library failed fault.OutOfMemory = ⊤
 
 -- the loading went on, or why it ends
 abbrev pub GoesOn : (Contents → Type 0) → List ℕ → Option (List ℕ) → Loading → Type 0
     → Result Unit LoadFault → Type 0
 GoesOn held name library new failed (Ok u) =
     IsLoading held name library new.names new.missing (all_of new) (left_of new)
-GoesOn held name library new failed (Err e) = Ends held name library failed e
+GoesOn held name library new failed (Err e) = NotLoaded held name library failed e
 
 -- what following an include answers, where the loading has come to it
 abbrev pub Follows : (before after : Contents → Type 0) → Option (List ℕ) → Loading → Site

@@ -1,13 +1,12 @@
 //! The files that a program reaches.
-ghost use Rattle.std.specs.Prelude.{◌≡◌, ◌≤◌, string_bytes, IfOk, OnOk, map, Some};
+ghost use Rattle.std.specs.Prelude.{◌≡◌, ◌≤◌, string_bytes, IfOk, OnOk, map};
 ghost use Rattle.std.specs.Option.{option_copied};
-ghost use Rattle.out_io.specs.Contents.{Contents};
 ghost use Rattle.out_io.specs.Faults.{Rose};
+ghost use Rattle.out_io.specs.Held.{OnlyReads};
 ghost use Rattle.cir_sources.specs.Includes.{seen};
-ghost use Rattle.out_io.specs.Calls.{OnlyReads};
-ghost use Rattle.cir_sources.specs.Loading.{AreSources};
-ghost use Rattle.cir_sources.specs.Resting.{Reaches, RestOn};
-ghost use Rattle.cir_sources.specs.Steps.{Adds, Follows, MayBe, to_go};
+ghost use Rattle.cir_sources.specs.Loading.{AreSources, faults_by};
+ghost use Rattle.cir_sources.specs.Reaching.{Reaches};
+ghost use Rattle.cir_sources.specs.Steps.{Adds, Follows, to_go};
 
 use crate::decode;
 use crate::fault::{LoadFault, refusal};
@@ -52,14 +51,12 @@ impl Loading {
         library: Option<&str>,
         site: &Site,
     ) -> Result<(), LoadFault>
-        ensures follows { Follows (MayBe (S.contents store.old) (S.may_hold store.old))
-            (MayBe (S.contents store.new) (S.may_hold store.new))
+        ensures follows { Follows (S.may_hold store.old) (S.may_hold store.new)
             (option_copied library.entry) self.old site.now self.new
             (Rose (S.faults store.old) (S.faults store.new)) result }
+        ensures counted { S.faults store.new ≡ faults_by result (S.faults store.old) }
         ensures less { OnOk result (to_go self.new ≤ to_go self.old) }
-        ensures still { (files : Contents) →
-            S.may_hold store.new files → S.may_hold store.old files }
-        ensures store { OnlyReads (S.contents store.old) (S.contents store.new)
+        ensures store { OnlyReads (S.may_hold store.old) (S.may_hold store.new)
             (S.faults store.old) (S.faults store.new) (S.never_fails store.old)
             (S.never_fails store.new) }
     {
@@ -99,17 +96,11 @@ pub fn reach<S: Store>(
     name: &str,
     library: Option<&str>,
 ) -> Result<Reached, LoadFault>
-    ensures reaches { Reaches (S.contents store.old) name.now (option_copied library.entry)
+    ensures reaches { Reaches (S.may_hold store.new) name.now (option_copied library.entry)
         (Rose (S.faults store.old) (S.faults store.new)) result }
-    ensures answers { (files : Contents) → S.may_hold store.new files →
-        Reaches (Some files) name.now (option_copied library.entry)
-        (Rose (S.faults store.old) (S.faults store.new)) result }
-    ensures still { (files : Contents) → S.may_hold store.new files
-        → S.may_hold store.old files }
+    ensures counted { S.faults store.new ≡ faults_by result (S.faults store.old) }
     ensures read { IfOk result (λ r. AreSources (map seen r.sources.items)) }
-    ensures rest { IfOk result (λ r.
-        RestOn name.now (option_copied library.entry) r.missing (map seen r.sources.items)) }
-    ensures store { OnlyReads (S.contents store.old) (S.contents store.new)
+    ensures store { OnlyReads (S.may_hold store.old) (S.may_hold store.new)
         (S.faults store.old) (S.faults store.new) (S.never_fails store.old)
         (S.never_fails store.new) }
 {

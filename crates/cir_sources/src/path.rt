@@ -1,8 +1,8 @@
 //! The names of included files.
 ghost use Rattle.std.specs.Prelude.{◌≡◌, [], ◌++◌, IfOk, OnOk, map, reverse};
 ghost use Rattle.std.specs.List.{slice_split, join_with_byte};
-ghost use Rattle.cir_sources.specs.Names.{folder_of, has_folder, in_folder, is_slash, keep, keep_all};
-ghost use Rattle.cir_sources.specs.Names.{keep_folder, resolved, root_of, wants_slash};
+ghost use Rattle.cir_sources.specs.Names.{folder_of, has_folder, in_folder, is_slash, keep};
+ghost use Rattle.cir_sources.specs.Names.{keep_all, keep_folder, resolved, root_of, wants_slash};
 ghost use Rattle.cir_sources.specs.Includes.{beside};
 ghost use Rattle.cir_sources.specs.Steps.{last_first};
 

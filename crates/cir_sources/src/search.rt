@@ -2,8 +2,9 @@
 ghost use Rattle.std.specs.Prelude.{◌≡◌, IfOk};
 ghost use Rattle.std.specs.Option.{option_copied};
 ghost use Rattle.out_io.specs.Contents.{Contents};
-ghost use Rattle.out_io.specs.Faults.{CountsFaults};
-ghost use Rattle.cir_sources.specs.Steps.{AreMissing, FindsTarget, Learns, Looks, MayBe};
+ghost use Rattle.out_io.specs.Faults.{CountsFaults, faults_after};
+ghost use Rattle.out_io.specs.Held.{OfAll};
+ghost use Rattle.cir_sources.specs.Steps.{AreMissing, FindsTarget, Learns, Looks};
 
 use crate::path::{beside, in_library};
 use crate::source::Site;
@@ -32,15 +33,13 @@ fn look<S: Store>(
     name: &[u8],
 ) -> Result<Target, IoFault>
     ensures learns { IfOk result (λ target.
-        Learns (MayBe (S.contents store.old) (S.may_hold store.old))
-        (MayBe (S.contents store.new) (S.may_hold store.new))
-        names.now missing.old missing.new target) }
+        Learns (S.may_hold store.old) (S.may_hold store.new)
+        missing.old missing.new target) }
     ensures looks { IfOk result (λ target. (files : Contents) →
         AreMissing files missing.new → Looks files names.now name.now target) }
-    ensures same { S.contents store.new ≡ S.contents store.old }
-    ensures still { (files : Contents) → S.may_hold store.new files
-        → S.may_hold store.old files }
+    ensures still { OfAll (S.may_hold store.new) (S.may_hold store.old) }
     ensures cause { CountsFaults (S.faults store.old) (S.faults store.new) result }
+    ensures counted { S.faults store.new ≡ faults_after result (S.faults store.old) }
     ensures steady { S.never_fails store.old
         → S.never_fails store.new × (S.faults store.new ≡ S.faults store.old) }
 {
@@ -77,15 +76,13 @@ pub(crate) fn search<S: Store>(
     site: &Site,
 ) -> Result<Target, IoFault>
     ensures learns { IfOk result (λ target.
-        Learns (MayBe (S.contents store.old) (S.may_hold store.old))
-        (MayBe (S.contents store.new) (S.may_hold store.new))
-        names.now missing.old missing.new target) }
+        Learns (S.may_hold store.old) (S.may_hold store.new)
+        missing.old missing.new target) }
     ensures targets { IfOk result (λ target.
         FindsTarget names.now missing.new (option_copied library.entry) site.now target) }
-    ensures same { S.contents store.new ≡ S.contents store.old }
-    ensures still { (files : Contents) → S.may_hold store.new files
-        → S.may_hold store.old files }
+    ensures still { OfAll (S.may_hold store.new) (S.may_hold store.old) }
     ensures cause { CountsFaults (S.faults store.old) (S.faults store.new) result }
+    ensures counted { S.faults store.new ≡ faults_after result (S.faults store.old) }
     ensures steady { S.never_fails store.old
         → S.never_fails store.new × (S.faults store.new ≡ S.faults store.old) }
 {

@@ -14,7 +14,7 @@ use Rattle.circom_lines.specs.Proving.{audit_status}
 use Rattle.circom_words.specs.Words.{ProveOptions}
 use Rattle.circom_lines.specs.declared.answer.Refusal.{Refusal}
 use Rattle.circom_files.specs.Accepted.{IsAccepted, IsProofOf, WritesProof}
-use Rattle.circom_files.specs.Held.{OfAll}
+use Rattle.out_io.specs.Held.{OfAll}
 use Rattle.circom_files.specs.Proving.{Audits, FoundIn, IsAudited, IsProved, Proves, offer_of}
 use Rattle.circom_files.specs.Proving.{witness_of}
 use Rattle.circom_files.specs.Reply.{Reply, Says, audited, proved, said}

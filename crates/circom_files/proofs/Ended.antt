@@ -3,7 +3,7 @@ use Rattle.std.proofs.Common.{Result, Ok, Err, IfOk, ◌≡◌, ◌<◌, ap, ari
 use Rattle.out_io.specs.Contents.{Contents}
 use Rattle.out_io.specs.declared.fault.IoFault.{IoFault}
 use Rattle.circom_lines.specs.declared.answer.Refusal.{Refusal}
-use Rattle.circom_files.specs.Held.{OfAll}
+use Rattle.out_io.specs.Held.{OfAll}
 use Rattle.circom_files.specs.Reply.{Reply, Says}
 use Rattle.circom_files.specs.Shown.{shown}
 use Rattle.circom_files.specs.Steps.{Steps, StepsTo}

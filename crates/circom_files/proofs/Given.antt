@@ -5,7 +5,7 @@ use Rattle.std.proofs.Math.Seq.{take-length}
 use Rattle.std.specs.declared.alloc.AllocError.{AllocError}
 use Rattle.out_io.specs.History.{Appended}
 use Rattle.circom_files.specs.Given.{IsFront, Puts}
-use Rattle.circom_files.specs.Held.{Becomes}
+use Rattle.out_io.specs.Held.{Becomes}
 use Rattle.circom_files.specs.Reply.{Reply}
 
 front_of_all : (bytes before text : List ℕ) → text ≡ before ++ bytes

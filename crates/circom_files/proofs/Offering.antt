@@ -10,7 +10,7 @@ use Rattle.wit_input.specs.Publics.{publics_of}
 use Rattle.circom_lines.specs.declared.answer.Refusal.{Refusal}
 use Rattle.circom_files.specs.Files.{accepted, accepted_publics, bytes_in, publics_in}
 use Rattle.circom_files.specs.Proving.{FoundIn, offer_of}
-use Rattle.circom_files.specs.Held.{OfAll}
+use Rattle.out_io.specs.Held.{OfAll}
 use Rattle.circom_files.specs.Steps.{Gets, Steps, StepsTo}
 use Rattle.circom_files.specs.declared.outcome.Offer.{Offer}
 use Rattle.circom_files.specs.declared.stop.Stop.{Stop}

@@ -17,7 +17,7 @@ use Rattle.circom_files.specs.Check.{check_of, verdict}
 use Rattle.circom_files.specs.Determining.{claim_of}
 use Rattle.circom_files.specs.Files.{accepted, accepted_rules, bytes_in, r1cs_in, rules_in}
 use Rattle.circom_files.specs.Files.{wtns_in}
-use Rattle.circom_files.specs.Held.{OfAll}
+use Rattle.out_io.specs.Held.{OfAll}
 use Rattle.circom_files.specs.Proving.{public_of, published_values, witness_of}
 use Rattle.circom_files.specs.Steps.{Gets, HeldWith, Steps}
 use Rattle.circom_files.specs.declared.inputs.Read.{Read}

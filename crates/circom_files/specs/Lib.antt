@@ -3,7 +3,6 @@ pub mod Check
 pub mod Determining
 pub mod Files
 pub mod Given
-pub mod Held
 pub mod Proving
 pub mod Reply
 pub mod Running

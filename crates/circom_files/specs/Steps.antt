@@ -11,7 +11,7 @@ use Rattle.circom_lines.specs.declared.answer.RuleCause.TheVariants.{BadLine, Li
 use Rattle.wit_input.specs.declared.fault.InputFault.{InputFault}
 use Rattle.wit_input.specs.declared.fault.InputFault.TheVariants as input
 use Rattle.circom_files.specs.Files.{bad_publics, bytes_in}
-use Rattle.circom_files.specs.Held.{OfAll}
+use Rattle.out_io.specs.Held.{OfAll}
 use Rattle.circom_files.specs.declared.inputs.Read.{Read}
 use Rattle.circom_files.specs.declared.stop.Stop.{Stop}
 use Rattle.circom_files.specs.declared.stop.Stop.TheVariants.{Refused, StoreFailed, OutOfMemory}

@@ -1,8 +1,8 @@
 //! The commands `determine` and `confirm`.
 
 ghost use Rattle.std.specs.Prelude.{◌≡◌, ◌<◌, ◌^◌, length, IfOk, IsErrOf};
-ghost use Rattle.circom_files.specs.Held.{OfAll, OnlyReads};
-ghost use Rattle.out_io.specs.Faults.{Rose};
+ghost use Rattle.out_io.specs.Held.{OfAll, OnlyReads};
+ghost use Rattle.out_io.specs.Faults.{Rose, faults_after};
 ghost use Rattle.out_io.specs.declared.fault.IoFault.TheVariants.{Failed};
 ghost use Rattle.iden_files.specs.File.{InLimits};
 ghost use Rattle.circom_files.specs.Determining.{Confirms, IsConfirmed, IsSearched, Searches};
@@ -14,6 +14,7 @@ ghost use Rattle.circom_files.specs.Files.{r1cs_in};
 ghost use Rattle.circom_files.specs.Reply.{Says, confirmed, determined};
 ghost use Rattle.circom_files.specs.Shown.{shown};
 ghost use Rattle.circom_files.specs.Steps.{Steps, StepsTo};
+ghost use Rattle.circom_files.specs.Stops.{faults_by};
 
 use crate::inputs::{Read, bytes_after, bytes_in, r1cs_from, rules_from};
 use crate::outcome::Claim;
@@ -39,6 +40,7 @@ pub fn determine_reply<'w, S: Store>(
         r.status ≡ 0 → WritesCertificate files r1cs.now out.entry.now (shown r))) }
     ensures status { IfOk result (λ r. r.status < 3) }
     ensures fault { IsErrOf result Failed → Rose (S.faults store.old) (S.faults store.new) }
+    ensures counted { S.faults store.new ≡ faults_after result (S.faults store.old) }
     ensures store { OnlyReads (S.may_hold store.old) (S.may_hold store.new)
         (S.faults store.old) (S.faults store.new)
         (S.never_fails store.old) (S.never_fails store.new) }
@@ -54,6 +56,7 @@ fn answer_in<S: Store>(alloc: Global, r1cs: &str, store: &mut S) -> Result<Answe
     ensures step { StepsTo (λ answer. answer) (S.may_hold store.new)
         (λ files found. Searches files r1cs.now found)
         (Rose (S.faults store.old) (S.faults store.new)) result }
+    ensures counted { S.faults store.new ≡ faults_by result (S.faults store.old) }
     ensures store { OnlyReads (S.may_hold store.old) (S.may_hold store.new)
         (S.faults store.old) (S.faults store.new)
         (S.never_fails store.old) (S.never_fails store.new) }
@@ -68,6 +71,7 @@ fn file_in<S: Store>(alloc: Global, store: &mut S, name: &str) -> Result<R1cs, S
     ensures step { Steps (λ f. f) (S.may_hold store.new) (λ files. r1cs_in files name.now)
         (Rose (S.faults store.old) (S.faults store.new)) result }
     ensures limits { IfOk result InLimits }
+    ensures counted { S.faults store.new ≡ faults_by result (S.faults store.old) }
     ensures store { OnlyReads (S.may_hold store.old) (S.may_hold store.new)
         (S.faults store.old) (S.faults store.new)
         (S.never_fails store.old) (S.never_fails store.new) }
@@ -98,6 +102,7 @@ pub fn confirm_reply<'w, S: Store>(
         (λ files. r.status ≡ 0 → HasDetermined files r1cs.now)) }
     ensures status { IfOk result (λ r. r.status < 3) }
     ensures fault { IsErrOf result Failed → Rose (S.faults store.old) (S.faults store.new) }
+    ensures counted { S.faults store.new ≡ faults_after result (S.faults store.old) }
     ensures store { OnlyReads (S.may_hold store.old) (S.may_hold store.new)
         (S.faults store.old) (S.faults store.new)
         (S.never_fails store.old) (S.never_fails store.new) }
@@ -120,6 +125,7 @@ fn verdict_in<S: Store>(
         (Rose (S.faults store.old) (S.faults store.new)) result }
     ensures determined { IfOk result (λ verdict. verdict ≡ Confirmed
         → OfAll (S.may_hold store.new) (λ files. HasDetermined files r1cs.now)) }
+    ensures counted { S.faults store.new ≡ faults_by result (S.faults store.old) }
     ensures store { OnlyReads (S.may_hold store.old) (S.may_hold store.new)
         (S.faults store.old) (S.faults store.new)
         (S.never_fails store.old) (S.never_fails store.new) }
@@ -161,6 +167,7 @@ fn claim_in<S: Store>(
         (Rose (S.faults store.old) (S.faults store.new)) result }
     ensures limits { IfOk result (λ c. InLimits c.file) }
     ensures few { IfOk result (λ c. length c.rules < 2 ^ 32) }
+    ensures counted { S.faults store.new ≡ faults_by result (S.faults store.old) }
     ensures store { OnlyReads (S.may_hold store.old) (S.may_hold store.new)
         (S.faults store.old) (S.faults store.new)
         (S.never_fails store.old) (S.never_fails store.new) }

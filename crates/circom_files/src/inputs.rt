@@ -1,7 +1,7 @@
-ghost use Rattle.circom_files.specs.Held.{OnlyReads};
+ghost use Rattle.out_io.specs.Held.{OnlyReads};
 ghost use Rattle.out_io.specs.Faults.{Rose};
 ghost use Rattle.iden_files.specs.File.{InLimits};
-ghost use Rattle.std.specs.Prelude.{◌<◌, ◌^◌, All, IfOk, length};
+ghost use Rattle.std.specs.Prelude.{◌≡◌, ◌<◌, ◌^◌, All, IfOk, length};
 ghost use Rattle.gold_field.specs.declared.gold.TheConstants.{P};
 ghost use Rattle.iden_files.specs.ReadR1cs.{r1cs_of};
 ghost use Rattle.iden_files.specs.ReadWtns.{wtns_of};
@@ -11,6 +11,7 @@ ghost use Rattle.circom_files.specs.Files.{accepted, accepted_publics, accepted_
 ghost use Rattle.circom_files.specs.Proving.{witness_of};
 ghost use Rattle.circom_files.specs.Steps.{Gets, HeldWith, Refuses, RefusesPublics};
 ghost use Rattle.circom_files.specs.Steps.{RefusesRules, Steps};
+ghost use Rattle.circom_files.specs.Stops.{faults_by};
 
 use crate::outcome::Witness;
 use crate::stop::Stop;
@@ -35,6 +36,7 @@ pub struct Read<'n> {
 pub fn bytes_in<S: Store>(alloc: Global, store: &mut S, name: &str) -> Result<Vec<u8>, Stop>
     ensures step { Steps (λ v. v.items) (S.may_hold store.new) (λ files. bytes_in files name.now)
         (Rose (S.faults store.old) (S.faults store.new)) result }
+    ensures counted { S.faults store.new ≡ faults_by result (S.faults store.old) }
     ensures store { OnlyReads (S.may_hold store.old) (S.may_hold store.new)
         (S.faults store.old) (S.faults store.new)
         (S.never_fails store.old) (S.never_fails store.new) }
@@ -59,6 +61,7 @@ pub fn bytes_after<S: Store>(
         (HeldWith (S.may_hold store.new) first.entry second.entry)
         (λ files. bytes_in files name.now)
         (Rose (S.faults store.old) (S.faults store.new)) result }
+    ensures counted { S.faults store.new ≡ faults_by result (S.faults store.old) }
     ensures store { OnlyReads (S.may_hold store.old) (S.may_hold store.new)
         (S.faults store.old) (S.faults store.new)
         (S.never_fails store.old) (S.never_fails store.new) }
@@ -161,6 +164,7 @@ pub fn witness_in<S: Store>(
         (Rose (S.faults store.old) (S.faults store.new)) result }
     ensures limits { IfOk result (λ w. InLimits w.file) }
     ensures numbers { IfOk result (λ w. All (λ value. value < P) w.values) }
+    ensures counted { S.faults store.new ≡ faults_by result (S.faults store.old) }
     ensures store { OnlyReads (S.may_hold store.old) (S.may_hold store.new)
         (S.faults store.old) (S.faults store.new)
         (S.never_fails store.old) (S.never_fails store.new) }

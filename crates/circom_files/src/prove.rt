@@ -1,6 +1,6 @@
 ghost use Rattle.std.specs.Prelude.{◌≡◌, ◌<◌, ℕ, List, All, IfOk, IsErrOf};
-ghost use Rattle.circom_files.specs.Held.{OfAll, OnlyReads};
-ghost use Rattle.out_io.specs.Faults.{Rose};
+ghost use Rattle.out_io.specs.Held.{OfAll, OnlyReads};
+ghost use Rattle.out_io.specs.Faults.{Rose, faults_after};
 ghost use Rattle.out_io.specs.declared.fault.IoFault.TheVariants.{Failed};
 ghost use Rattle.iden_files.specs.File.{InLimits, IsFile};
 ghost use Rattle.gold_field.specs.declared.gold.TheConstants.{P};
@@ -11,6 +11,7 @@ ghost use Rattle.circom_files.specs.Proving.{IsProved, Proves};
 ghost use Rattle.circom_files.specs.Reply.{Says, proved};
 ghost use Rattle.circom_files.specs.Shown.{shown};
 ghost use Rattle.circom_files.specs.Steps.{StepsTo};
+ghost use Rattle.circom_files.specs.Stops.{faults_by};
 ghost use Rattle.circom_files.specs.declared.outcome.Outcome.TheVariants.{Made};
 
 use crate::inputs::witness_in;
@@ -44,6 +45,7 @@ pub fn prove_reply<'w, R: Threads + AllocGlobal + Sync, S: Store>(
         r.status ≡ 0 → WritesProof files r1cs.now wtns.now out.entry.now (shown r))) }
     ensures status { IfOk result (λ r. r.status < 3) }
     ensures fault { IsErrOf result Failed → Rose (S.faults store.old) (S.faults store.new) }
+    ensures counted { S.faults store.new ≡ faults_after result (S.faults store.old) }
     ensures store { OnlyReads (S.may_hold store.old) (S.may_hold store.new)
         (S.faults store.old) (S.faults store.new)
         (S.never_fails store.old) (S.never_fails store.new) }
@@ -68,6 +70,7 @@ fn outcome_in<R: Threads + AllocGlobal + Sync, S: Store>(
         (Rose (S.faults store.old) (S.faults store.new)) result }
     ensures accepted { IfOk result (λ outcome. (proof : List ℕ) → outcome ≡ Made proof
         → OfAll (S.may_hold store.new) (λ files. IsProofOf files r1cs.now wtns.now proof)) }
+    ensures counted { S.faults store.new ≡ faults_by result (S.faults store.old) }
     ensures store { OnlyReads (S.may_hold store.old) (S.may_hold store.new)
         (S.faults store.old) (S.faults store.new)
         (S.never_fails store.old) (S.never_fails store.new) }

@@ -2,10 +2,10 @@
 
 ghost use Rattle.std.specs.Prelude.{◌≡◌, None, IfOk, IsErrOf, IsOk, OnOk, OnErr};
 ghost use Rattle.out_io.specs.Calls.{Counting};
-ghost use Rattle.out_io.specs.Faults.{Rose};
+ghost use Rattle.out_io.specs.Faults.{Rose, faults_after};
 ghost use Rattle.out_io.specs.declared.fault.IoFault.TheVariants.{Failed};
 ghost use Rattle.circom_files.specs.Given.{Exits, Leaves, LeavesInPart, Puts, PutsFault};
-ghost use Rattle.circom_files.specs.Held.{Becomes};
+ghost use Rattle.out_io.specs.Held.{Becomes};
 ghost use Rattle.circom_files.specs.Shown.{shown};
 
 use crate::reply::Reply;
@@ -24,6 +24,7 @@ pub fn write_file<S: Store>(alloc: Global, reply: &Reply<'_>, store: &mut S) -> 
     ensures none { (shown reply.now).file ≡ None → (S.calls store.new ≡ S.calls store.old)
         × (S.faults store.new ≡ S.faults store.old) × IsOk result }
     ensures fault { IsErrOf result Failed → Rose (S.faults store.old) (S.faults store.new) }
+    ensures counted { S.faults store.new ≡ faults_after result (S.faults store.old) }
     ensures counting { Counting (S.faults store.old) (S.faults store.new)
         (S.never_fails store.old) (S.never_fails store.new) }
 {

@@ -5,7 +5,7 @@ use Rattle.circom_words.specs.Words.{Command, meant_circuit}
 use Rattle.circom_words.specs.declared.circuit.CircuitCommand.{CircuitCommand}
 use Rattle.circom_words.specs.declared.circuit.CircuitCommand.TheVariants.{Witness, Generate}
 use Rattle.circom_files.specs.Given.{Leaves}
-use Rattle.circom_files.specs.Held.{Becomes, OfAll}
+use Rattle.out_io.specs.Held.{Becomes, OfAll}
 use Rattle.circom_files.specs.Shown.{shown}
 use Rattle.circom_files.specs.Reply.{Reply}
 use Rattle.circom_files.specs.declared.reply.Reply.{Reply as CodeReply}

@@ -12,7 +12,7 @@ use Rattle.out_io.specs.declared.fault.IoFault.{IoFault}
 use Rattle.out_io.specs.declared.fault.IoFault.TheVariants.{Failed}
 use Rattle.circom_words.specs.Words.{Command}
 use Rattle.circom_files.specs.Given.{Exits, Puts, PutsFault}
-use Rattle.circom_files.specs.Held.{Becomes, OfAll}
+use Rattle.out_io.specs.Held.{Becomes, OfAll}
 use Rattle.circom_files.specs.Reply.{Reply, store_failed}
 use Rattle.circom_files.specs.Shown.{shown}
 use Rattle.circom_files.specs.declared.reply.Reply.{Reply as CodeReply}

@@ -10,18 +10,15 @@ use Rattle.binary_format.specs.Reading.{◌>>=◌}
 use Rattle.iden_files.specs.File.{File}
 use Rattle.cir_ast.specs.Program.{Program, bare_program}
 use Rattle.cir_sources.specs.Includes.{is_among}
-use Rattle.cir_sources.specs.declared.fault.LoadFault.{LoadFault}
-use Rattle.cir_sources.specs.declared.fault.LoadFault.TheVariants as load
 use Rattle.cir_sources.proofs.Searching.{held_at}
-use Rattle.cir_compile.specs.Compiled.{Compiles as Compilation, Writes}
+use Rattle.cir_compile.specs.Compiled.{NotCompiled, Writes}
 use Rattle.cir_compile.specs.declared.fault.CompileFault.{CompileFault}
 use Rattle.cir_compile.specs.declared.fault.CompileFault.TheVariants as fault
-use Rattle.cir_compile.specs.Faults.{of_instance, of_load}
+use Rattle.cir_compile.specs.Faults.{of_instance}
 use Rattle.cir_inst.specs.Compiled.{Instantiates}
 use Rattle.cir_inst.specs.declared.circuit.InstFault.{InstFault}
 use Rattle.cir_inst.specs.declared.circuit.InstFault.TheVariants as instance
 use Rattle.cir_names.specs.declared.loading.Loaded.{Loaded}
-use Rattle.cir_names.specs.Loading.{Loads}
 use Rattle.cir_names.proofs.Resting.{file_read}
 use Rattle.cir_simplify.specs.declared.types.Level.{Level}
 use Rattle.cir_values.specs.declared.signals.InputShape.{InputShape}
@@ -31,14 +28,14 @@ use Rattle.circom_lines.specs.declared.answer.Refusal.{Refusal}
 use Rattle.circom_lines.specs.declared.answer.Refusal.TheVariants.{NoSuchFile, BadInput}
 use Rattle.circom_lines.specs.declared.answer.BadInput.TheVariants.{NotJson}
 use Rattle.circom_files.specs.Files.{bytes_in}
-use Rattle.circom_files.specs.Held.{OfAll}
+use Rattle.out_io.specs.Held.{OfAll}
 use Rattle.circom_files.specs.Running.{accepted_input, input_in}
 use Rattle.circom_files.specs.Steps.{Gets, Steps, StepsTo}
 use Rattle.circom_files.specs.declared.stop.Stop.{Stop}
 use Rattle.circom_files.specs.declared.stop.Stop.TheVariants.{Refused, StoreFailed, OutOfMemory}
 use Rattle.circom_gold.specs.Compile.{CompilesTo, task_of}
-use Rattle.circom_gold.specs.Source.{Codes, IsLoadedFrom, IsStopOf, LoadedFrom, NotCompiled}
-use Rattle.circom_gold.specs.Source.{Sources, program_of}
+use Rattle.circom_gold.specs.Source.{Codes, IsLoadedFrom, IsStopOf, LoadedFrom, Sources}
+use Rattle.circom_gold.specs.Source.{program_of}
 use Rattle.circom_gold.specs.declared.source.Coded.{Coded}
 use Rattle.circom_gold.proofs.NoInput.{source_no_input}
 
@@ -50,19 +47,9 @@ Compiling held source options failed =
 
 module _ (held : Contents → Type 0) (source : List ℕ) (options : Options)
     (failed : Type 0) where
-  -- why it doesn't compile, by the store's own contents where it failed
-  pub not_compiled : (contents : Option Contents) (e : CompileFault)
-      → Compilation contents (task_of source options) failed (Err e)
-      → OfAll held
-      (λ files. Compilation (Some files) (task_of source options) failed (Err e))
-      → NotCompiled held source options failed e
-  not_compiled contents fault.Fault told answers = told
-  not_compiled contents fault.Missing told answers = answers
-  not_compiled contents (fault.Refused r) told answers = answers
-  not_compiled contents fault.OutOfMemory told answers = answers
-
   -- a source that doesn't compile
-  pub stopped_so : (e : CompileFault) (stop : Stop) → NotCompiled held source options failed e
+  pub stopped_so : (e : CompileFault) (stop : Stop)
+      → NotCompiled held (task_of source options) failed e
       → IsStopOf source e stop → Compiling held source options failed (Err stop)
   stopped_so fault.Missing (Refused r) none is = λ files may. inl (is, none files may)
   stopped_so (fault.Refused x) (Refused r) refused is = λ files may.
@@ -75,16 +62,6 @@ module _ (held : Contents → Type 0) (source : List ℕ) (options : Options)
   stopped_so fault.OutOfMemory StoreFailed told is = absurd is
   stopped_so e OutOfMemory told is = tt
 
-  -- a source that isn't loaded
-  pub unloaded : (contents : Option Contents) (e : LoadFault)
-      → Loads contents source options.folder failed (Err e)
-      → OfAll held (λ files. Loads (Some files) source options.folder failed (Err e))
-      → NotCompiled held source options failed (of_load e)
-  unloaded contents load.Fault told answers = told
-  unloaded contents load.Missing told answers = answers
-  unloaded contents (load.Refused r) told answers = λ files may. inl (answers files may)
-  unloaded contents load.OutOfMemory told answers = λ files may. tt
-
   -- a loaded program
   pub sourced : (loaded : Loaded) (result : Result Coded CompileFault)
       → IsLoadedFrom held source options loaded → Codes loaded options.level result
@@ -95,7 +72,7 @@ module _ (held : Contents → Type 0) (source : List ℕ) (options : Options)
   sourced loaded (Err fault.Fault) knows codes = absurd codes
   sourced loaded (Err (fault.Refused r)) knows codes = λ files may.
       inr (bare_program loaded.program, (knows files may).loaded, codes)
-  sourced loaded (Err fault.OutOfMemory) knows codes = λ files may. tt
+  sourced loaded (Err fault.OutOfMemory) knows codes = tt
 
 -- a program whose meaning refuses it isn't written
 pub unwritten : (p : Program) (level : Level) (f : InstFault) → Instantiates p (Err f)

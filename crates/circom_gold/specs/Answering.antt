@@ -10,7 +10,7 @@ use Rattle.circom_words.specs.Words.{Command, Options, compile, confirm, determi
 use Rattle.circom_files.specs.Accepted.{WritesProof}
 use Rattle.circom_files.specs.Determining.{HasDetermined, WritesCertificate}
 use Rattle.circom_files.specs.Given.{Exits, Leaves, LeavesInPart, Puts, PutsFault}
-use Rattle.circom_files.specs.Held.{Becomes}
+use Rattle.out_io.specs.Held.{Becomes}
 use Rattle.circom_files.specs.Reply.{Reply, usage}
 use Rattle.circom_files.specs.Shown.{shown}
 use Rattle.circom_files.specs.declared.reply.Reply.{Reply as CodeReply}

@@ -3,7 +3,7 @@ use Rattle.std.specs.Prelude.{◌≡◌, ℕ, List, Some, Result, Ok, Err, ⊤}
 use Rattle.out_io.specs.Contents.{Contents}
 use Rattle.iden_files.specs.File.{File, InLimits}
 use Rattle.cir_ast.specs.Program.{Program, bare_program}
-use Rattle.cir_compile.specs.Compiled.{Compiles as Compilation, IsWritten, Writes}
+use Rattle.cir_compile.specs.Compiled.{IsWritten, NotCompiled, Writes}
 use Rattle.cir_compile.specs.declared.fault.CompileFault.{CompileFault}
 use Rattle.cir_compile.specs.declared.fault.CompileFault.TheVariants as fault
 use Rattle.cir_inst.specs.Compiled.{Instantiates, IsWithinLimits}
@@ -16,7 +16,7 @@ use Rattle.wit_circuit.specs.Whole.{IsCircuitOf}
 use Rattle.circom_words.specs.Words.{Options}
 use Rattle.circom_lines.specs.declared.answer.Refusal.TheVariants.{NoSuchFile, BadSource}
 use Rattle.wit_input.specs.Input.{input_of}
-use Rattle.circom_files.specs.Held.{OfAll}
+use Rattle.out_io.specs.Held.{OfAll}
 use Rattle.circom_files.specs.Running.{accepted_input}
 use Rattle.circom_files.specs.Steps.{StepsTo}
 use Rattle.circom_files.specs.declared.stop.Stop.{Stop}
@@ -55,19 +55,12 @@ IsLoadedFrom held source options loaded =
     OfAll held (λ files. IsLoadedWithout files source options.folder loaded.missing
     (bare_program loaded.program))
 
--- why a source doesn't compile; it fails only where the store did
-abbrev pub NotCompiled : (Contents → Type 0) → List ℕ → Options → (failed : Type 0)
-    → CompileFault
-    → Type 0
-NotCompiled held source options failed fault.Fault = failed
-NotCompiled held source options failed e =
-    OfAll held (λ files. Compilation (Some files) (task_of source options) failed (Err e))
-
 -- what a source comes to, or why it doesn't compile
 abbrev pub Sources : (Contents → Type 0) → List ℕ → Options → (failed : Type 0)
     → Result Coded CompileFault → Type 0
 Sources held source options failed (Ok x) = IsLoadedFrom held source options x.loaded
-Sources held source options failed (Err e) = NotCompiled held source options failed e
+Sources held source options failed (Err e) =
+    NotCompiled held (task_of source options) failed e
 
 -- the same of a command's step
 abbrev pub SourcesBy : (Contents → Type 0) → List ℕ → Options → (failed : Type 0)
@@ -87,6 +80,7 @@ IsStopOf name fault.Fault StoreFailed = ⊤
 IsStopOf name fault.Missing StoreFailed = ⊥
 IsStopOf name (fault.Refused r) StoreFailed = ⊥
 IsStopOf name fault.OutOfMemory StoreFailed = ⊥
+IsStopOf name fault.Fault OutOfMemory = ⊥
 IsStopOf name e OutOfMemory = ⊤
 
 -- some bytes give these numbers for main's inputs

@@ -1,5 +1,5 @@
 ghost use Rattle.std.specs.Prelude.{◌≡◌, ◌<◌, IfOk, IsErrOf, Ok};
-ghost use Rattle.out_io.specs.Faults.{Rose};
+ghost use Rattle.out_io.specs.Faults.{Rose, faults_after};
 ghost use Rattle.out_io.specs.declared.fault.IoFault.TheVariants.{Failed};
 ghost use Rattle.iden_files.specs.File.{InLimits};
 ghost use Rattle.iden_files.specs.ReadR1cs.{r1cs_of};
@@ -7,10 +7,11 @@ ghost use Rattle.iden_files.specs.Spelling.{r1cs_bytes};
 ghost use Rattle.circom_gold.specs.Answering.{WritesConstraintsOf};
 ghost use Rattle.circom_gold.specs.Compile.{CompilesTo};
 ghost use Rattle.circom_gold.specs.Reply.{constraints_written};
-ghost use Rattle.circom_files.specs.Held.{OfAll, OnlyReads};
+ghost use Rattle.out_io.specs.Held.{OfAll, OnlyReads};
 ghost use Rattle.circom_files.specs.Reply.{Says};
 ghost use Rattle.circom_files.specs.Shown.{shown};
 ghost use Rattle.circom_files.specs.Steps.{StepsTo};
+ghost use Rattle.circom_files.specs.Stops.{faults_by};
 ghost use Rattle.circom_words.specs.Words.{meant_options};
 
 use crate::source::stop_of;
@@ -39,6 +40,7 @@ pub fn compile_reply<'w, S: Store>(
         out.entry.now (shown r))) }
     ensures status { IfOk result (λ r. r.status < 3) }
     ensures fault { IsErrOf result Failed → Rose (S.faults store.old) (S.faults store.new) }
+    ensures counted { S.faults store.new ≡ faults_after result (S.faults store.old) }
     ensures store { OnlyReads (S.may_hold store.old) (S.may_hold store.new)
         (S.faults store.old) (S.faults store.new)
         (S.never_fails store.old) (S.never_fails store.new) }
@@ -60,6 +62,7 @@ fn file_in<S: Store>(
         (λ files found. CompilesTo files name.now (meant_options options.entry) found)
         (Rose (S.faults store.old) (S.faults store.new)) result }
     ensures limits { IfOk result InLimits }
+    ensures counted { S.faults store.new ≡ faults_by result (S.faults store.old) }
     ensures store { OnlyReads (S.may_hold store.old) (S.may_hold store.new)
         (S.faults store.old) (S.faults store.new)
         (S.never_fails store.old) (S.never_fails store.new) }

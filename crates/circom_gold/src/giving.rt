@@ -3,7 +3,7 @@
 ghost use Rattle.std.specs.Prelude.{IfOk};
 ghost use Rattle.out_io.specs.Calls.{Counting};
 ghost use Rattle.out_io.specs.Faults.{Rose};
-ghost use Rattle.circom_files.specs.Held.{Becomes};
+ghost use Rattle.out_io.specs.Held.{Becomes};
 ghost use Rattle.circom_gold.specs.Answering.{ExitsBy, PutsAnswer};
 
 use circom_files::{Reply, put_fault, put_text};

@@ -1,4 +1,4 @@
-ghost use Rattle.std.specs.Prelude.{◌≡◌, IfOk, IsErrOf, Some, ⊤};
+ghost use Rattle.std.specs.Prelude.{◌≡◌, IfOk, IsErrOf, ⊤};
 ghost use Rattle.out_io.specs.Contents.{bytes_of};
 ghost use Rattle.out_io.specs.declared.fault.IoFault.TheVariants.{Failed};
 ghost use Rattle.circom_gold.specs.Witness.{one_file};
@@ -25,8 +25,6 @@ fn found_in(alloc: Global, text: &[u8], name: &str) -> Result<Option<Vec<u8>>, I
 }
 
 impl Store for OneFile {
-    ghost contents = { λ s. Some (one_file s.text.items) };
-
     ghost may_hold = { λ s files. files ≡ one_file s.text.items };
 
     ghost calls = { λ s. s.history.calls };

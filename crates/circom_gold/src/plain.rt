@@ -3,9 +3,9 @@
 ghost use Rattle.std.specs.Prelude.{◌≡◌, None, IfOk, IfSome, IsErrOf, false, option_map};
 ghost use Rattle.std.specs.Result.{result_ok};
 ghost use Rattle.out_io.specs.Calls.{Counting};
-ghost use Rattle.out_io.specs.Faults.{Rose};
+ghost use Rattle.out_io.specs.Faults.{Rose, faults_after};
 ghost use Rattle.out_io.specs.declared.fault.IoFault.TheVariants.{Failed};
-ghost use Rattle.circom_files.specs.Held.{OfAll, OnlyReads};
+ghost use Rattle.out_io.specs.Held.{OfAll, OnlyReads};
 ghost use Rattle.circom_files.specs.Shown.{shown};
 ghost use Rattle.circom_gold.specs.Answering.{Assures, Fits, IsAnswered};
 ghost use Rattle.circom_gold.specs.Course.{device};
@@ -72,6 +72,7 @@ fn answered<'w, R: Threads + AllocGlobal + Sync, S: Store>(
         (device (S.may_hold store.old) (S.may_hold store.new)
         (S.calls store.old) (S.calls store.new) (S.faults store.old) (S.faults store.new))
         result }
+    ensures counted { S.faults store.new ≡ faults_after result (S.faults store.old) }
     ensures counting { Counting (S.faults store.old) (S.faults store.new)
         (S.never_fails store.old) (S.never_fails store.new) }
 {
@@ -97,6 +98,7 @@ fn reply_to<'w, R: Threads + AllocGlobal + Sync, S: Store>(
         → (S.calls store.new ≡ S.calls store.old) × (S.faults store.new ≡ S.faults store.old)
         × ¬ IsErrOf result Failed }
     ensures fault { IsErrOf result Failed → Rose (S.faults store.old) (S.faults store.new) }
+    ensures counted { S.faults store.new ≡ faults_after result (S.faults store.old) }
     ensures store { OnlyReads (S.may_hold store.old) (S.may_hold store.new)
         (S.faults store.old) (S.faults store.new)
         (S.never_fails store.old) (S.never_fails store.new) }

@@ -4,11 +4,13 @@ ghost use Rattle.std.specs.Prelude.{◌≡◌, ℕ, List, IfOk};
 ghost use Rattle.out_io.specs.Faults.{Rose};
 ghost use Rattle.cir_ast.specs.Program.{bare_program};
 ghost use Rattle.cir_checks.specs.Checked.{IsChecked};
+ghost use Rattle.cir_compile.specs.Compiled.{faults_by as compile_faults};
 ghost use Rattle.cir_names.specs.Loading.{IsOfSources};
 ghost use Rattle.wit_input.specs.Input.{input_of};
-ghost use Rattle.circom_files.specs.Held.{OnlyReads};
+ghost use Rattle.out_io.specs.Held.{OnlyReads};
 ghost use Rattle.circom_files.specs.Running.{accepted_input, input_in};
 ghost use Rattle.circom_files.specs.Steps.{Gets, Steps};
+ghost use Rattle.circom_files.specs.Stops.{faults_by};
 ghost use Rattle.circom_gold.specs.Source.{AreInputs, Codes, IsCoded, IsStopOf, LoadedFrom};
 ghost use Rattle.circom_gold.specs.Source.{Sources, SourcesBy};
 ghost use Rattle.circom_words.specs.Words.{Options as MeantOptions, meant_options};
@@ -103,6 +105,7 @@ pub fn source_in<S: Store>(
     ensures step { SourcesBy (S.may_hold store.new) name.now (meant_options options.entry)
         (Rose (S.faults store.old) (S.faults store.new)) result }
     ensures coded { IfOk result (IsCoded options.entry.level) }
+    ensures counted { S.faults store.new ≡ faults_by result (S.faults store.old) }
     ensures store { OnlyReads (S.may_hold store.old) (S.may_hold store.new)
         (S.faults store.old) (S.faults store.new)
         (S.never_fails store.old) (S.never_fails store.new) }
@@ -122,6 +125,7 @@ fn coded_in<S: Store>(
     ensures sources { Sources (S.may_hold store.new) name.now (meant_options options.entry)
         (Rose (S.faults store.old) (S.faults store.new)) result }
     ensures coded { IfOk result (IsCoded options.entry.level) }
+    ensures counted { S.faults store.new ≡ compile_faults result (S.faults store.old) }
     ensures store { OnlyReads (S.may_hold store.old) (S.may_hold store.new)
         (S.faults store.old) (S.faults store.new)
         (S.never_fails store.old) (S.never_fails store.new) }
@@ -176,6 +180,7 @@ pub fn start_in<S: Store>(
         (λ files. input_in files name.now coded.now.circuit.signals.inputs)
         (Rose (S.faults store.old) (S.faults store.new)) result }
     ensures inputs { IfOk result (λ v. AreInputs coded.now v.items) }
+    ensures counted { S.faults store.new ≡ faults_by result (S.faults store.old) }
     ensures store { OnlyReads (S.may_hold store.old) (S.may_hold store.new)
         (S.faults store.old) (S.faults store.new)
         (S.never_fails store.old) (S.never_fails store.new) }

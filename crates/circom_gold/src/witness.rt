@@ -1,13 +1,14 @@
-ghost use Rattle.std.specs.Prelude.{◌<◌, ◌≤◌, ℕ, List, Ok, IfOk, IsErrOf, length};
-ghost use Rattle.out_io.specs.Faults.{Rose};
+ghost use Rattle.std.specs.Prelude.{◌≡◌, ◌<◌, ◌≤◌, ℕ, List, Ok, IfOk, IsErrOf, length};
+ghost use Rattle.out_io.specs.Faults.{Rose, faults_after};
 ghost use Rattle.out_io.specs.declared.fault.IoFault.TheVariants.{Failed};
 ghost use Rattle.iden_files.specs.Limits.{most_wires};
 ghost use Rattle.wit_run.specs.Task.{IsTask};
-ghost use Rattle.circom_files.specs.Held.{OfAll, OnlyReads};
+ghost use Rattle.out_io.specs.Held.{OfAll, OnlyReads};
 ghost use Rattle.circom_files.specs.Reply.{Says};
 ghost use Rattle.circom_files.specs.Running.{values_of, witnessed};
 ghost use Rattle.circom_files.specs.Shown.{shown};
 ghost use Rattle.circom_files.specs.Steps.{StepsTo};
+ghost use Rattle.circom_files.specs.Stops.{faults_by};
 ghost use Rattle.circom_gold.specs.Source.{IsCoded, program_of};
 ghost use Rattle.circom_gold.specs.Witness.{IsRunOf, Witnesses};
 ghost use Rattle.circom_words.specs.Words.{meant_options};
@@ -43,6 +44,7 @@ pub fn witness_reply<'w, R: Threads + Wait + AllocGlobal + Sync, S: Store>(
         running.fuel found) (shown r))) }
     ensures status { IfOk result (λ r. r.status < 3) }
     ensures fault { IsErrOf result Failed → Rose (S.faults store.old) (S.faults store.new) }
+    ensures counted { S.faults store.new ≡ faults_after result (S.faults store.old) }
     ensures store { OnlyReads (S.may_hold store.old) (S.may_hold store.new)
         (S.faults store.old) (S.faults store.new)
         (S.never_fails store.old) (S.never_fails store.new) }
@@ -69,6 +71,7 @@ fn witness_in<R: Threads + Wait + AllocGlobal + Sync, S: Store>(
         (λ files found. Witnesses files source.now input.now (meant_options options.entry)
         running.fuel found) (Rose (S.faults store.old) (S.faults store.new)) result }
     ensures few { IfOk result (λ r. length (values_of r) ≤ most_wires) }
+    ensures counted { S.faults store.new ≡ faults_by result (S.faults store.old) }
     ensures store { OnlyReads (S.may_hold store.old) (S.may_hold store.new)
         (S.faults store.old) (S.faults store.new)
         (S.never_fails store.old) (S.never_fails store.new) }

@@ -1,3 +1,3 @@
 pub mod MapLemmas
-pub mod Telling
+pub mod Rising
 mod Walks

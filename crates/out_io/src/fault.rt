@@ -1,5 +1,4 @@
-ghost use Rattle.std.specs.Prelude.{◌≡◌, ◌↔◌, IsTrue};
-ghost use Rattle.out_io.specs.Faults.{Rose};
+ghost use Rattle.std.specs.Prelude.{◌≡◌};
 ghost use Rattle.out_io.specs.declared.fault.IoFault.TheVariants.{OutOfMemory};
 
 use std::alloc::{AllocError, AllocFailed};
@@ -29,11 +28,4 @@ impl<T: Drop> From<AllocFailed<T>> for IoFault {
     fn from(_: AllocFailed<T>) -> IoFault {
         IoFault::OutOfMemory
     }
-}
-
-/// Whether a count of faults rose: it is greater, or stands at the last value of its type.
-pub fn rose(before: u64, now: u64) -> bool
-    ensures { IsTrue result ↔ Rose before now }
-{
-    before < now || now == u64::MAX
 }

@@ -5,12 +5,13 @@
 mod fault;
 mod files;
 mod history;
+pub mod laws;
 mod memory;
 mod real;
 mod sink;
 mod store;
 
-pub use fault::{IoFault, rose};
+pub use fault::IoFault;
 pub use history::History;
 pub use memory::{MemSink, MemStore};
 pub use real::{RealSink, RealStore};

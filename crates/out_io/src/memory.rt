@@ -1,6 +1,6 @@
-ghost use Rattle.std.specs.Prelude.{◌≡◌, ◌↔◌, ◌≤◌, ◌∷◌, ◌++◌, [], ℕ, List, Some, if◌then◌else◌};
+ghost use Rattle.std.specs.Prelude.{◌≡◌, ◌↔◌, ◌≤◌, ◌∷◌, ◌++◌, [], ℕ, List, if◌then◌else◌};
 ghost use Rattle.std.specs.Prelude.{IfOk, OnOk, OnErr, IsTrue, IsErrOf};
-ghost use Rattle.out_io.specs.Contents.{Contents, Finds, Replaces, bytes_of};
+ghost use Rattle.out_io.specs.Contents.{Contents, Replaces, bytes_of};
 ghost use Rattle.out_io.specs.Faults.{CountsFaults, faults_after, one_more_fault};
 ghost use Rattle.out_io.specs.History.{Appended, Put, Read, Write, Wrote, found_of};
 ghost use Rattle.out_io.specs.Memory.{files_of, IsDue, next_call};
@@ -127,8 +127,6 @@ fn append(text: &mut Vec<u8>, bytes: &[u8]) -> Result<(), IoFault>
 }
 
 impl Store for MemStore {
-    ghost contents = { λ s. Some (files_of s.files) };
-
     ghost may_hold = { λ s files. files ≡ files_of s.files };
 
     ghost calls = { λ s. s.history.calls };
@@ -138,7 +136,8 @@ impl Store for MemStore {
     ghost never_fails = { λ s. s.fail.items ≡ [] };
 
     fn read(&mut self, alloc: Global, name: &str) -> Result<Option<Vec<u8>>, IoFault>
-        ensures found { IfOk result (Finds (Some (files_of self.old.files)) name.now) }
+        ensures found { IfOk result
+            (λ found. bytes_of found ≡ files_of self.old.files name.now) }
         ensures same { self.new.files ≡ self.old.files }
         ensures asked { self.new.history.calls
             ≡ Read name.now (found_of result) ∷ self.old.history.calls }
@@ -184,8 +183,6 @@ impl Store for MemStore {
 }
 
 impl Sink for MemSink {
-    ghost contents = { λ s. Some s.bytes.items };
-
     ghost may_have = { λ s text. text ≡ s.bytes.items };
 
     ghost calls = { λ s. s.history.calls };

@@ -1,4 +1,4 @@
-ghost use Rattle.std.specs.Prelude.{◌≡◌, ℕ, [], None};
+ghost use Rattle.std.specs.Prelude.{◌≡◌, ℕ, []};
 ghost use Rattle.out_io.specs.Faults.{CountsFaults, faults_after};
 ghost use Rattle.out_io.specs.History.{MayHave, MayHold};
 
@@ -67,8 +67,6 @@ fn counted<T>(faults: &mut u64, outcome: Result<T, IoFault>) -> Result<T, IoFaul
 }
 
 impl<R: Files + Drop> Store for RealStore<R> {
-    ghost contents = { λ s. None };
-
     ghost may_hold = { λ s. MayHold s.history.calls };
 
     ghost calls = { λ s. s.history.calls };
@@ -89,8 +87,6 @@ impl<R: Files + Drop> Store for RealStore<R> {
 }
 
 impl<R: Print + Drop> Sink for RealSink<R> {
-    ghost contents = { λ s. None };
-
     ghost may_have = { λ s. MayHave s.history.calls };
 
     ghost calls = { λ s. s.history.calls };

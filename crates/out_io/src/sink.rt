@@ -1,5 +1,4 @@
-ghost use Rattle.std.specs.Prelude.{◌≡◌, ◌∷◌, ℕ, List, Option, OnOk, OnErr};
-ghost use Rattle.out_io.specs.Written.{IsAppended, IsAppendedInPart};
+ghost use Rattle.std.specs.Prelude.{◌≡◌, ◌∷◌, ℕ, List};
 ghost use Rattle.out_io.specs.Faults.{CountsFaults, faults_after};
 ghost use Rattle.out_io.specs.History.{Appended, Call, Put};
 
@@ -7,9 +6,6 @@ use crate::IoFault;
 
 /// Where printed bytes go.
 pub trait Sink {
-    // What it was given so far, where it tells.
-    ghost contents: { Self → Option (List ℕ) };
-
     // Whether this may be what was put so far: it agrees with all its answers.
     ghost may_have: { Self → List ℕ → Type 0 };
 
@@ -24,10 +20,6 @@ pub trait Sink {
 
     /// Appends all of `bytes`, or after an error a prefix of them.
     fn put(&mut self, bytes: &[u8]) -> Result<(), IoFault>
-        ensures ok { OnOk result (IsAppended bytes.now (contents self.old) (contents self.new)) }
-        ensures err { OnErr result
-            (IsAppendedInPart bytes.now (contents self.old) (contents self.new)) }
-
         ensures appended { (text : List ℕ) → may_have self.new text →
             (before : List ℕ) × may_have self.old before
             × Appended result bytes.now before text }

@@ -1,6 +1,5 @@
-ghost use Rattle.std.specs.Prelude.{◌≡◌, ◌∷◌, ℕ, List, Option, IfOk, OnOk, OnErr};
-ghost use Rattle.out_io.specs.Contents.{Contents, Finds, Changes, Replaces, ReplacesInPart};
-ghost use Rattle.out_io.specs.Contents.{bytes_of};
+ghost use Rattle.std.specs.Prelude.{◌≡◌, ◌∷◌, ℕ, List, IfOk};
+ghost use Rattle.out_io.specs.Contents.{Contents, bytes_of};
 ghost use Rattle.out_io.specs.Faults.{CountsFaults, faults_after};
 ghost use Rattle.out_io.specs.History.{Call, Read, Write, Wrote, found_of};
 
@@ -9,9 +8,6 @@ use std::alloc::Global;
 
 /// Named files.
 pub trait Store {
-    // What it holds, where it tells.
-    ghost contents: { Self → Option Contents };
-
     // Whether these may be its contents: they agree with all its answers so far.
     ghost may_hold: { Self → Contents → Type 0 };
 
@@ -26,9 +22,6 @@ pub trait Store {
 
     /// The bytes under `name`, or `None` exactly where the name isn't there.
     fn read(&mut self, alloc: Global, name: &str) -> Result<Option<Vec<u8>>, IoFault>
-        ensures found { IfOk result (Finds (contents self.old) name.now) }
-        ensures same { contents self.new ≡ contents self.old }
-
         ensures there { IfOk result (λ found. (files : Contents) →
             may_hold self.new files → bytes_of found ≡ files name.now) }
         ensures still { (files : Contents) → may_hold self.new files → may_hold self.old files }
@@ -41,11 +34,6 @@ pub trait Store {
 
     /// Makes `name` hold exactly `bytes`. After an error it is as before or holds a prefix of them.
     fn write(&mut self, alloc: Global, name: &str, bytes: &[u8]) -> Result<(), IoFault>
-        ensures ok { OnOk result
-            (Changes (Replaces name.now bytes.now) (contents self.old) (contents self.new)) }
-        ensures err { OnErr result
-            (Changes (ReplacesInPart name.now bytes.now) (contents self.old) (contents self.new)) }
-
         ensures wrote { (after : Contents) → may_hold self.new after →
             (files : Contents) × may_hold self.old files
             × Wrote result name.now bytes.now files after }

@@ -1,6 +1,7 @@
-use Rattle.std.proofs.Common.{Some}
+use Rattle.std.proofs.lemmas.Result.{err_from_is_err_and}
+use Rattle.cir_ast.specs.Program.{bare_program}
 use Rattle.cir_scope.proofs.Loaded.{of_sources}
-use Rattle.cir_compile.proofs.Meaning.{not_loaded, not_written, compiled}
+use Rattle.cir_compile.proofs.Meaning.{unloaded, unwritten}
 use Rattle.cir_compile.proofs.compiling.compile.Goals as goal
 
 pub written-requires-clause-free : goal.written-requires-clause-free
@@ -8,28 +9,20 @@ written-requires-clause-free g c = (of_sources _ c.in_ok-program.ensures.theirs)
 
 pub returns-in_err-program-clause-compiles : goal.returns-in_err-program-clause-compiles
 returns-in_err-program-clause-compiles g c =
-    not_loaded _ _ _ _ _ c.from_residual.ensures.1 c.in_err-program.ensures.loads
+    let p = err_from_is_err_and c.from_residual.result c.from_residual.ensures.1 in
+    rw (p.1, p.2) (unloaded _ _ _ c.in_err-program.field-0.0 c.in_err-program.ensures.loads)
 
 pub returns-in_err-file-clause-compiles : goal.returns-in_err-file-clause-compiles
 returns-in_err-file-clause-compiles g c =
-    not_written _ _ _ _ _ _ c.from_residual-in_err-file.ensures.1 c.in_ok-program.ensures.loads
-    c.in_err-file.ensures.writes
+    let p = err_from_is_err_and c.from_residual-in_err-file.result
+    c.from_residual-in_err-file.ensures.1 in
+    rw (p.1, p.2)
+    (unwritten _ _ _ _ c.in_err-file.field-0.0 c.in_ok-program.ensures.loads
+    c.in_err-file.ensures.writes)
 
 pub returns-clause-compiles : goal.returns-clause-compiles
-returns-clause-compiles g c =
-    compiled _ _ _ _ c.in_ok-program.ensures.loads c.in_ok-file.ensures.writes
-
-pub returns-in_err-program-clause-answers : goal.returns-in_err-program-clause-answers
-returns-in_err-program-clause-answers g c = λ files held.
-    not_loaded (Some files) _ _ _ _ c.from_residual.ensures.1
-    (c.in_err-program.ensures.answers files held)
-
-pub returns-in_err-file-clause-answers : goal.returns-in_err-file-clause-answers
-returns-in_err-file-clause-answers g c = λ files held.
-    not_written (Some files) _ _ _ _ _ c.from_residual-in_err-file.ensures.1
-    (c.in_ok-program.ensures.answers files held) c.in_err-file.ensures.writes
-
-pub returns-clause-answers : goal.returns-clause-answers
-returns-clause-answers g c = λ files held.
-    compiled (Some files) _ _ _ (c.in_ok-program.ensures.answers files held)
-    c.in_ok-file.ensures.writes
+returns-clause-compiles g c = λ files may. record {
+  program = bare_program c.in_ok-program.program;
+  loaded = c.in_ok-program.ensures.loads files may;
+  written = c.in_ok-file.ensures.writes;
+}

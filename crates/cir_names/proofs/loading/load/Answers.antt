@@ -1,17 +1,10 @@
 use Rattle.std.specs.Option.{option_copied}
-use Rattle.out_io.proofs.Telling.{told_on}
 use Rattle.cir_ast.specs.Program.{bare_program}
 use Rattle.cir_names.specs.Resting.{IsLoadedWithout}
 use Rattle.cir_names.proofs.loading.load.Goals as goal
 
 pub returns-in-Ok-clause-loads : goal.returns-in-Ok-clause-loads
-returns-in-Ok-clause-loads g c =
-    told_on _ _ _ (λ files (all : IsLoadedWithout files c.args.name.now
-    (option_copied c.args.library) c.in-Ok.loaded.missing (bare_program c.in-Ok.loaded.program)).
-    all.loaded) c.in-Ok.ensures.loads
-
-pub returns-in-Ok-clause-answers : goal.returns-in-Ok-clause-answers
-returns-in-Ok-clause-answers g c = λ files held.
+returns-in-Ok-clause-loads g c = λ files held.
     let all : IsLoadedWithout files c.args.name.now (option_copied c.args.library)
     c.in-Ok.loaded.missing (bare_program c.in-Ok.loaded.program) =
-    c.in-Ok.ensures.answers files held in all.loaded
+    c.in-Ok.ensures.loads files held in all.loaded

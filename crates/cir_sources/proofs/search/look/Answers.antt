@@ -1,7 +1,7 @@
-use Rattle.std.proofs.Common.{None, Some, string_bytes, subst, sym}
+use Rattle.std.proofs.Common.{string_bytes, subst, sym}
 use Rattle.std.specs.Str.{IsUtf8}
 use Rattle.std.proofs.lemmas.Map.Text.{btree_set_updates_text}
-use Rattle.cir_sources.proofs.Searching.{learns_found, learns_missing, no_text, reads}
+use Rattle.cir_sources.proofs.Searching.{learns_found, learns_missing, no_text}
 use Rattle.cir_sources.proofs.search.look.Goals as goal
 
 pub returns-in_default-clause-looks : goal.returns-in_default-clause-looks
@@ -10,22 +10,21 @@ returns-in_default-clause-looks g c =
 
 pub returns-in_ok-insert-in-None-clause-learns : goal.returns-in_ok-insert-in-None-clause-learns
 returns-in_ok-insert-in-None-clause-learns g c =
-    learns_missing _ _ c.args.names.now c.args.missing.now c.in-Ok.text.now
-    (sym c.if-contains.ensures) c.insert.new.self
+    learns_missing c.args.missing.now c.insert.new.self
     (rw c.in_ok-name-in-None.ensures.ok at (btree_set_updates_text
     (string_bytes c.in_ok-name-in-None.name) c.args.missing.now c.insert.new.self _
     c.in_ok-insert-in-None.ensures.updates))
-    (reads _ _ _ _ c.in-Ok.text.now None c.read.ensures.same
-    (rw c.in-None.is at c.in_ok-read.ensures.found) c.read.ensures.still
-    (rw c.in-None.is at c.in_ok-read.ensures.there))
+    record {
+      still = c.read.ensures.still;
+      found = rw c.in-None.is at c.in_ok-read.ensures.there;
+    }
 
 pub returns-in_ok-name-in-Some-clause-learns : goal.returns-in_ok-name-in-Some-clause-learns
 returns-in_ok-name-in-Some-clause-learns g c =
-    let same = c.in_ok-name-in-Some.ensures.ok in
-    let utf8 = subst IsUtf8 (sym c.in-Ok.ensures.cases.0) c.in-Ok.ensures.cases.1 in
-    learns_found _ _ c.args.names.now c.args.missing.now c.in_ok-name-in-Some.name c.in-Some.bytes
-    (subst IsUtf8 (sym same) utf8) (rw same (sym c.if-contains.ensures))
-    (rw same (sym c.if-contains-2.ensures))
-    (rw same (reads _ _ _ _ c.in-Ok.text.now (Some c.in-Some.bytes) c.read.ensures.same
-    (rw c.in-Some.is at c.in_ok-read.ensures.found) c.read.ensures.still
-    (rw c.in-Some.is at c.in_ok-read.ensures.there)))
+    learns_found c.args.missing.now c.in_ok-name-in-Some.name c.in-Some.bytes
+    (subst IsUtf8 (sym c.in-Ok.ensures.cases.0) c.in-Ok.ensures.cases.1)
+    c.in_ok-name-in-Some.ensures.ok
+    record {
+      still = c.read.ensures.still;
+      found = rw c.in-Some.is at c.in_ok-read.ensures.there;
+    }

@@ -5,7 +5,7 @@ use Rattle.circom_files.proofs.Accepts.{says_accepted}
 use Rattle.circom_files.proofs.Ended.{ended_below, ended_to}
 use Rattle.circom_files.proofs.Statuses.{audit_below, below_by}
 use Rattle.circom_files.specs.Accepted.{IsAccepted}
-use Rattle.circom_files.specs.Held.{OfAll}
+use Rattle.out_io.specs.Held.{OfAll}
 use Rattle.circom_files.specs.Proving.{Audits}
 use Rattle.circom_files.specs.Reply.{Says, audited}
 use Rattle.circom_files.specs.Shown.{shown}

@@ -2,9 +2,9 @@ use Rattle.std.proofs.Common.{◌≡◌, ℕ, None, Some, Ok, Err, Vec}
 use Rattle.std.specs.declared.alloc.Global.{Global}
 use Rattle.std.proofs.lemmas.Result.{err_from_is_err_and}
 use Rattle.out_io.specs.Faults.{Rose}
-use Rattle.out_io.proofs.Telling.{rose_on}
+use Rattle.out_io.proofs.Rising.{rose_on}
 use Rattle.circom_files.specs.Files.{bytes_in}
-use Rattle.circom_files.specs.Held.{OfAll}
+use Rattle.out_io.specs.Held.{OfAll}
 use Rattle.circom_files.specs.Steps.{HeldWith}
 use Rattle.circom_files.specs.declared.outcome.Offer.{Offer}
 use Rattle.circom_files.proofs.Reading.{one_read, steps_later, two_read}

@@ -2,7 +2,7 @@ use Rattle.std.proofs.Common.{◌≡◌, ℕ, None, Err, Vec}
 use Rattle.std.specs.declared.alloc.Global.{Global}
 use Rattle.std.proofs.lemmas.Result.{err_from_is_err_and}
 use Rattle.out_io.specs.Faults.{Rose}
-use Rattle.out_io.proofs.Telling.{rose_on}
+use Rattle.out_io.proofs.Rising.{rose_on}
 use Rattle.circom_files.specs.Files.{bytes_in}
 use Rattle.cir_determined.specs.declared.rule.Rule.{Rule}
 use Rattle.circom_files.specs.Determining.{claim_of}

@@ -1,6 +1,6 @@
 use Rattle.std.proofs.Common.{◌∙◌, IfOk, Option, Some, ap, option_map, subst, sym}
 use Rattle.std.proofs.lemmas.Result.{IfOk-weaker}
-use Rattle.circom_files.specs.Held.{OfAll}
+use Rattle.out_io.specs.Held.{OfAll}
 use Rattle.circom_files.specs.Reply.{Says}
 use Rattle.circom_files.specs.Running.{generated}
 use Rattle.circom_files.specs.Shown.{shown}

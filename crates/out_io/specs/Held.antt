@@ -1,5 +1,4 @@
--- What is said of a store that doesn't tell what it holds: it is so of all contents that agree with
--- its answers.
+-- What is said of what a store holds: it is so of all contents that agree with its answers.
 use Rattle.std.specs.Prelude.{◌≡◌, ◌≤◌, ℕ}
 use Rattle.out_io.specs.Contents.{Contents}
 
