@@ -74,7 +74,7 @@ pub fn audit_laws()
 
 /// `check` of a file that `compile` writes and of one that `witness` writes, from the same source
 /// at the same level, says that it is satisfied. Files may have been written between the two, but
-/// none that the source loads.
+/// none by which the source would load as another program.
 pub fn check_accepts_witnesses()
     ensures { (first second after : Contents) (source input r1cs wtns : List ℕ)
         (options : Options) (fuel : ℕ) → LoadsAgain first second source options
