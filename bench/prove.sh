@@ -2,10 +2,10 @@
 # Times `circom_gold check`, and `prove` and `audit` in both versions of a proof, on satisfied files
 # of each given number of constraints, three terms each, or on the files NAME.r1cs and NAME.wtns.
 # Prints the least seconds of the runs by the clock, reading and writing of the files included, the
-# least of the processor's seconds, and these in units. A unit is what python's hashlib takes for the
-# SHA-256 of 256 MB of zeros without the processor's instructions for it, which make it four times
-# faster where there are any; each run is followed by one, and the least of these counts. So figures
-# of different machines and hours can be compared. The last line says how long a unit took.
+# least of the processor's seconds, and these in units. A unit is what python's hashlib takes for
+# the SHA-256 of 256 MB of zeros without the processor's instructions for it, which make it four
+# times faster where there are any; each run is followed by one, and the least of these counts. So
+# figures of different machines and hours can be compared. The last line says how long a unit took.
 #
 # usage: bench/prove.sh [CONSTRAINTS or NAME ..]
 # (4096, 16384 and 131072 where none is given; RUNS=3 sets the runs)
