@@ -9,3 +9,4 @@ pub mod Numbers
 pub mod Once
 pub mod Given
 pub mod Statuses
+pub mod Asking

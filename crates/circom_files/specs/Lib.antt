@@ -1,4 +1,5 @@
 pub mod Accepted
+pub mod Asked
 pub mod Check
 pub mod Determining
 pub mod Files

@@ -1,8 +1,9 @@
-ghost use Rattle.std.specs.Prelude.{◌≡◌, ◌↔◌, ◌<◌, IfOk, IsErrOf};
+ghost use Rattle.std.specs.Prelude.{◌≡◌, ◌∷◌, [], ◌↔◌, ◌<◌, IfOk, IsErrOf};
 ghost use Rattle.out_io.specs.Held.{OfAll, OnlyReads};
 ghost use Rattle.out_io.specs.Faults.{Rose, faults_after};
 ghost use Rattle.out_io.specs.declared.fault.IoFault.TheVariants.{Failed};
 ghost use Rattle.iden_files.specs.File.{InLimits};
+ghost use Rattle.circom_files.specs.Asked.{Asks};
 ghost use Rattle.circom_files.specs.Accepted.{IsAccepted};
 ghost use Rattle.circom_files.specs.Proving.{Audits, IsAudited, offer_of};
 ghost use Rattle.circom_files.specs.Reply.{Says, audited};
@@ -36,6 +37,8 @@ pub fn audit_reply<'w, R: Threads + AllocGlobal + Sync, S: Store>(
         (r.status ≡ 0) ↔ IsAccepted files r1cs.now publics.now proof.now)) }
     ensures status { IfOk result (λ r. r.status < 3) }
     ensures fault { IsErrOf result Failed → Rose (S.faults store.old) (S.faults store.new) }
+    ensures asked { Asks (r1cs.now ∷ publics.now ∷ proof.now ∷ [])
+        (S.calls store.old) (S.calls store.new) }
     ensures counted { S.faults store.new ≡ faults_after result (S.faults store.old) }
     ensures store { OnlyReads (S.may_hold store.old) (S.may_hold store.new)
         (S.faults store.old) (S.faults store.new)
@@ -59,6 +62,8 @@ fn verdict_in<R: Threads + AllocGlobal + Sync, S: Store>(
     ensures step { StepsTo (λ verdict. verdict) (S.may_hold store.new)
         (λ files found. Audits files r1cs.now publics.now proof.now found)
         (Rose (S.faults store.old) (S.faults store.new)) result }
+    ensures asked { Asks (r1cs.now ∷ publics.now ∷ proof.now ∷ [])
+        (S.calls store.old) (S.calls store.new) }
     ensures counted { S.faults store.new ≡ faults_by result (S.faults store.old) }
     ensures store { OnlyReads (S.may_hold store.old) (S.may_hold store.new)
         (S.faults store.old) (S.faults store.new)
@@ -94,6 +99,8 @@ fn offer_in<S: Store>(
         (λ files. offer_of files r1cs.now publics.now proof.now)
         (Rose (S.faults store.old) (S.faults store.new)) result }
     ensures limits { IfOk result (λ o. InLimits o.file) }
+    ensures asked { Asks (r1cs.now ∷ publics.now ∷ proof.now ∷ [])
+        (S.calls store.old) (S.calls store.new) }
     ensures counted { S.faults store.new ≡ faults_by result (S.faults store.old) }
     ensures store { OnlyReads (S.may_hold store.old) (S.may_hold store.new)
         (S.faults store.old) (S.faults store.new)

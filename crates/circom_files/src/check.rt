@@ -1,7 +1,8 @@
 ghost use Rattle.out_io.specs.Held.{OfAll, OnlyReads};
-ghost use Rattle.std.specs.Prelude.{◌≡◌, ◌<◌, IfOk, IsErrOf};
+ghost use Rattle.std.specs.Prelude.{◌≡◌, ◌∷◌, [], ◌<◌, IfOk, IsErrOf};
 ghost use Rattle.out_io.specs.Faults.{Rose, faults_after};
 ghost use Rattle.iden_files.specs.File.{InLimits};
+ghost use Rattle.circom_files.specs.Asked.{Asks};
 ghost use Rattle.circom_files.specs.Check.{verdict, check_of};
 ghost use Rattle.circom_files.specs.Reply.{Says, checked};
 ghost use Rattle.circom_files.specs.Shown.{shown};
@@ -29,6 +30,7 @@ pub fn check_reply<'w, S: Store>(
         (λ found. check_of files r1cs.now wtns.now ≡ found) (shown r))) }
     ensures status { IfOk result (λ r. r.status < 3) }
     ensures fault { IsErrOf result Failed → Rose (S.faults store.old) (S.faults store.new) }
+    ensures asked { Asks (r1cs.now ∷ wtns.now ∷ []) (S.calls store.old) (S.calls store.new) }
     ensures counted { S.faults store.new ≡ faults_after result (S.faults store.old) }
     ensures store { OnlyReads (S.may_hold store.old) (S.may_hold store.new)
         (S.faults store.old) (S.faults store.new)
@@ -45,6 +47,7 @@ fn check<S: Store>(alloc: Global, r1cs: &str, wtns: &str, store: &mut S) -> Resu
     ensures step { Steps (λ verdict. verdict) (S.may_hold store.new)
         (λ files. check_of files r1cs.now wtns.now)
         (Rose (S.faults store.old) (S.faults store.new)) result }
+    ensures asked { Asks (r1cs.now ∷ wtns.now ∷ []) (S.calls store.old) (S.calls store.new) }
     ensures counted { S.faults store.new ≡ faults_by result (S.faults store.old) }
     ensures store { OnlyReads (S.may_hold store.old) (S.may_hold store.new)
         (S.faults store.old) (S.faults store.new)

@@ -1,10 +1,11 @@
 //! The commands `determine` and `confirm`.
 
-ghost use Rattle.std.specs.Prelude.{◌≡◌, ◌<◌, ◌^◌, length, IfOk, IsErrOf};
+ghost use Rattle.std.specs.Prelude.{◌≡◌, ◌∷◌, [], ◌<◌, ◌^◌, length, IfOk, IsErrOf};
 ghost use Rattle.out_io.specs.Held.{OfAll, OnlyReads};
 ghost use Rattle.out_io.specs.Faults.{Rose, faults_after};
 ghost use Rattle.out_io.specs.declared.fault.IoFault.TheVariants.{Failed};
 ghost use Rattle.iden_files.specs.File.{InLimits};
+ghost use Rattle.circom_files.specs.Asked.{Asks};
 ghost use Rattle.circom_files.specs.Determining.{Confirms, IsConfirmed, IsSearched, Searches};
 ghost use Rattle.circom_files.specs.Determining.{HasDetermined, WritesCertificate, circuit_of};
 ghost use Rattle.circom_files.specs.Determining.{claim_of};
@@ -40,6 +41,7 @@ pub fn determine_reply<'w, S: Store>(
         r.status ≡ 0 → WritesCertificate files r1cs.now out.entry.now (shown r))) }
     ensures status { IfOk result (λ r. r.status < 3) }
     ensures fault { IsErrOf result Failed → Rose (S.faults store.old) (S.faults store.new) }
+    ensures asked { Asks (r1cs.now ∷ []) (S.calls store.old) (S.calls store.new) }
     ensures counted { S.faults store.new ≡ faults_after result (S.faults store.old) }
     ensures store { OnlyReads (S.may_hold store.old) (S.may_hold store.new)
         (S.faults store.old) (S.faults store.new)
@@ -56,6 +58,7 @@ fn answer_in<S: Store>(alloc: Global, r1cs: &str, store: &mut S) -> Result<Answe
     ensures step { StepsTo (λ answer. answer) (S.may_hold store.new)
         (λ files found. Searches files r1cs.now found)
         (Rose (S.faults store.old) (S.faults store.new)) result }
+    ensures asked { Asks (r1cs.now ∷ []) (S.calls store.old) (S.calls store.new) }
     ensures counted { S.faults store.new ≡ faults_by result (S.faults store.old) }
     ensures store { OnlyReads (S.may_hold store.old) (S.may_hold store.new)
         (S.faults store.old) (S.faults store.new)
@@ -71,6 +74,7 @@ fn file_in<S: Store>(alloc: Global, store: &mut S, name: &str) -> Result<R1cs, S
     ensures step { Steps (λ f. f) (S.may_hold store.new) (λ files. r1cs_in files name.now)
         (Rose (S.faults store.old) (S.faults store.new)) result }
     ensures limits { IfOk result InLimits }
+    ensures asked { Asks (name.now ∷ []) (S.calls store.old) (S.calls store.new) }
     ensures counted { S.faults store.new ≡ faults_by result (S.faults store.old) }
     ensures store { OnlyReads (S.may_hold store.old) (S.may_hold store.new)
         (S.faults store.old) (S.faults store.new)
@@ -102,6 +106,7 @@ pub fn confirm_reply<'w, S: Store>(
         (λ files. r.status ≡ 0 → HasDetermined files r1cs.now)) }
     ensures status { IfOk result (λ r. r.status < 3) }
     ensures fault { IsErrOf result Failed → Rose (S.faults store.old) (S.faults store.new) }
+    ensures asked { Asks (r1cs.now ∷ certificate.now ∷ []) (S.calls store.old) (S.calls store.new) }
     ensures counted { S.faults store.new ≡ faults_after result (S.faults store.old) }
     ensures store { OnlyReads (S.may_hold store.old) (S.may_hold store.new)
         (S.faults store.old) (S.faults store.new)
@@ -125,6 +130,7 @@ fn verdict_in<S: Store>(
         (Rose (S.faults store.old) (S.faults store.new)) result }
     ensures determined { IfOk result (λ verdict. verdict ≡ Confirmed
         → OfAll (S.may_hold store.new) (λ files. HasDetermined files r1cs.now)) }
+    ensures asked { Asks (r1cs.now ∷ certificate.now ∷ []) (S.calls store.old) (S.calls store.new) }
     ensures counted { S.faults store.new ≡ faults_by result (S.faults store.old) }
     ensures store { OnlyReads (S.may_hold store.old) (S.may_hold store.new)
         (S.faults store.old) (S.faults store.new)
@@ -167,6 +173,7 @@ fn claim_in<S: Store>(
         (Rose (S.faults store.old) (S.faults store.new)) result }
     ensures limits { IfOk result (λ c. InLimits c.file) }
     ensures few { IfOk result (λ c. length c.rules < 2 ^ 32) }
+    ensures asked { Asks (r1cs.now ∷ certificate.now ∷ []) (S.calls store.old) (S.calls store.new) }
     ensures counted { S.faults store.new ≡ faults_by result (S.faults store.old) }
     ensures store { OnlyReads (S.may_hold store.old) (S.may_hold store.new)
         (S.faults store.old) (S.faults store.new)

@@ -1,12 +1,13 @@
 ghost use Rattle.out_io.specs.Held.{OnlyReads};
 ghost use Rattle.out_io.specs.Faults.{Rose};
 ghost use Rattle.iden_files.specs.File.{InLimits};
-ghost use Rattle.std.specs.Prelude.{◌≡◌, ◌<◌, ◌^◌, All, IfOk, length};
+ghost use Rattle.std.specs.Prelude.{◌≡◌, ◌∷◌, [], ◌<◌, ◌^◌, All, IfOk, length};
 ghost use Rattle.gold_field.specs.declared.gold.TheConstants.{P};
 ghost use Rattle.iden_files.specs.ReadR1cs.{r1cs_of};
 ghost use Rattle.iden_files.specs.ReadWtns.{wtns_of};
 ghost use Rattle.wit_input.specs.Publics.{publics_of};
 ghost use Rattle.cir_determined.specs.Text.{rules_of};
+ghost use Rattle.circom_files.specs.Asked.{Asks};
 ghost use Rattle.circom_files.specs.Files.{accepted, accepted_publics, accepted_rules, bytes_in};
 ghost use Rattle.circom_files.specs.Proving.{witness_of};
 ghost use Rattle.circom_files.specs.Steps.{Gets, HeldWith, Refuses, RefusesPublics};
@@ -36,6 +37,7 @@ pub struct Read<'n> {
 pub fn bytes_in<S: Store>(alloc: Global, store: &mut S, name: &str) -> Result<Vec<u8>, Stop>
     ensures step { Steps (λ v. v.items) (S.may_hold store.new) (λ files. bytes_in files name.now)
         (Rose (S.faults store.old) (S.faults store.new)) result }
+    ensures asked { Asks (name.now ∷ []) (S.calls store.old) (S.calls store.new) }
     ensures counted { S.faults store.new ≡ faults_by result (S.faults store.old) }
     ensures store { OnlyReads (S.may_hold store.old) (S.may_hold store.new)
         (S.faults store.old) (S.faults store.new)
@@ -61,6 +63,7 @@ pub fn bytes_after<S: Store>(
         (HeldWith (S.may_hold store.new) first.entry second.entry)
         (λ files. bytes_in files name.now)
         (Rose (S.faults store.old) (S.faults store.new)) result }
+    ensures asked { Asks (name.now ∷ []) (S.calls store.old) (S.calls store.new) }
     ensures counted { S.faults store.new ≡ faults_by result (S.faults store.old) }
     ensures store { OnlyReads (S.may_hold store.old) (S.may_hold store.new)
         (S.faults store.old) (S.faults store.new)
@@ -164,6 +167,7 @@ pub fn witness_in<S: Store>(
         (Rose (S.faults store.old) (S.faults store.new)) result }
     ensures limits { IfOk result (λ w. InLimits w.file) }
     ensures numbers { IfOk result (λ w. All (λ value. value < P) w.values) }
+    ensures asked { Asks (r1cs.now ∷ wtns.now ∷ []) (S.calls store.old) (S.calls store.new) }
     ensures counted { S.faults store.new ≡ faults_by result (S.faults store.old) }
     ensures store { OnlyReads (S.may_hold store.old) (S.may_hold store.new)
         (S.faults store.old) (S.faults store.new)

@@ -1,4 +1,4 @@
-ghost use Rattle.std.specs.Prelude.{◌≡◌, ◌<◌, ℕ, List, All, IfOk, IsErrOf};
+ghost use Rattle.std.specs.Prelude.{◌≡◌, ◌∷◌, [], ◌<◌, ℕ, List, All, IfOk, IsErrOf};
 ghost use Rattle.out_io.specs.Held.{OfAll, OnlyReads};
 ghost use Rattle.out_io.specs.Faults.{Rose, faults_after};
 ghost use Rattle.out_io.specs.declared.fault.IoFault.TheVariants.{Failed};
@@ -6,6 +6,7 @@ ghost use Rattle.iden_files.specs.File.{InLimits, IsFile};
 ghost use Rattle.gold_field.specs.declared.gold.TheConstants.{P};
 ghost use Rattle.lig_prover.specs.Proves.{IsProofOrRefusal};
 ghost use Rattle.circom_words.specs.Words.{meant_proving};
+ghost use Rattle.circom_files.specs.Asked.{Asks};
 ghost use Rattle.circom_files.specs.Accepted.{IsAcceptedFor, IsProofOf, WritesProof};
 ghost use Rattle.circom_files.specs.Proving.{IsProved, Proves};
 ghost use Rattle.circom_files.specs.Reply.{Says, proved};
@@ -45,6 +46,7 @@ pub fn prove_reply<'w, R: Threads + AllocGlobal + Sync, S: Store>(
         r.status ≡ 0 → WritesProof files r1cs.now wtns.now out.entry.now (shown r))) }
     ensures status { IfOk result (λ r. r.status < 3) }
     ensures fault { IsErrOf result Failed → Rose (S.faults store.old) (S.faults store.new) }
+    ensures asked { Asks (r1cs.now ∷ wtns.now ∷ []) (S.calls store.old) (S.calls store.new) }
     ensures counted { S.faults store.new ≡ faults_after result (S.faults store.old) }
     ensures store { OnlyReads (S.may_hold store.old) (S.may_hold store.new)
         (S.faults store.old) (S.faults store.new)
@@ -70,6 +72,7 @@ fn outcome_in<R: Threads + AllocGlobal + Sync, S: Store>(
         (Rose (S.faults store.old) (S.faults store.new)) result }
     ensures accepted { IfOk result (λ outcome. (proof : List ℕ) → outcome ≡ Made proof
         → OfAll (S.may_hold store.new) (λ files. IsProofOf files r1cs.now wtns.now proof)) }
+    ensures asked { Asks (r1cs.now ∷ wtns.now ∷ []) (S.calls store.old) (S.calls store.new) }
     ensures counted { S.faults store.new ≡ faults_by result (S.faults store.old) }
     ensures store { OnlyReads (S.may_hold store.old) (S.may_hold store.new)
         (S.faults store.old) (S.faults store.new)

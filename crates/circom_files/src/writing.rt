@@ -4,6 +4,7 @@ ghost use Rattle.std.specs.Prelude.{◌≡◌, None, IfOk, IsErrOf, IsOk, OnOk, 
 ghost use Rattle.out_io.specs.Calls.{Counting};
 ghost use Rattle.out_io.specs.Faults.{Rose, faults_after};
 ghost use Rattle.out_io.specs.declared.fault.IoFault.TheVariants.{Failed};
+ghost use Rattle.circom_files.specs.Asked.{PutsOnce, WritesOnce};
 ghost use Rattle.circom_files.specs.Given.{Exits, Leaves, LeavesInPart, Puts, PutsFault};
 ghost use Rattle.out_io.specs.Held.{Becomes};
 ghost use Rattle.circom_files.specs.Shown.{shown};
@@ -21,6 +22,7 @@ pub fn write_file<S: Store>(alloc: Global, reply: &Reply<'_>, store: &mut S) -> 
         (S.may_hold store.old) (S.may_hold store.new)) }
     ensures err { OnErr result (Becomes (LeavesInPart (shown reply.now).file)
         (S.may_hold store.old) (S.may_hold store.new)) }
+    ensures asked { WritesOnce (S.calls store.old) (S.calls store.new) }
     ensures none { (shown reply.now).file ≡ None → (S.calls store.new ≡ S.calls store.old)
         × (S.faults store.new ≡ S.faults store.old) × IsOk result }
     ensures fault { IsErrOf result Failed → Rose (S.faults store.old) (S.faults store.new) }
@@ -41,6 +43,7 @@ pub fn put_text<K: Sink>(reply: &Reply<'_>, out: &mut K) -> Result<u8, AllocErro
     ensures puts { Becomes
         (Puts (shown reply.now) (Rose (K.faults out.old) (K.faults out.new)) result)
         (K.may_have out.old) (K.may_have out.new) }
+    ensures asked { PutsOnce (K.calls out.old) (K.calls out.new) }
     ensures counting { Counting (K.faults out.old) (K.faults out.new)
         (K.never_fails out.old) (K.never_fails out.new) }
 {
@@ -56,6 +59,7 @@ pub fn put_fault<K: Sink>(alloc: Global, fault: IoFault, out: &mut K) -> Result<
     ensures exits { IfOk result (λ exit. (fault ≡ Failed) × (exit ≡ 3)) }
     ensures puts { Becomes (PutsFault fault (Rose (K.faults out.old) (K.faults out.new)) result)
         (K.may_have out.old) (K.may_have out.new) }
+    ensures asked { PutsOnce (K.calls out.old) (K.calls out.new) }
     ensures counting { Counting (K.faults out.old) (K.faults out.new)
         (K.never_fails out.old) (K.never_fails out.new) }
 {

@@ -7,19 +7,22 @@ use Rattle.std.proofs.lemmas.Result.{IfOk-weaker}
 use Rattle.std.specs.Result.{result_ok}
 use Rattle.std.specs.declared.alloc.AllocError.{AllocError}
 use Rattle.out_io.specs.Contents.{Contents}
-use Rattle.out_io.specs.Faults.{Rose}
+use Rattle.out_io.specs.Faults.{Rose, faults_after}
 use Rattle.out_io.specs.declared.fault.IoFault.{IoFault}
-use Rattle.out_io.specs.declared.fault.IoFault.TheVariants.{Failed}
+use Rattle.out_io.specs.declared.fault.IoFault.TheVariants.{Failed, OutOfMemory}
 use Rattle.circom_words.specs.Words.{Command}
+use Rattle.circom_files.specs.Asked.{PutsOnce}
 use Rattle.circom_files.specs.Given.{Exits, Puts, PutsFault}
 use Rattle.out_io.specs.Held.{Becomes, OfAll}
 use Rattle.circom_files.specs.Reply.{Reply, store_failed}
 use Rattle.circom_files.specs.Shown.{shown}
 use Rattle.circom_files.specs.declared.reply.Reply.{Reply as CodeReply}
 use Rattle.circom_gold.specs.Answering.{ExitsBy, Fits, IsAnswered, IsReply, PutsAnswer, Writing}
+use Rattle.circom_gold.specs.Asking.{Asked}
 use Rattle.circom_gold.specs.Course.{Course, Device, HasFailed, IsUnasked, course}
 use Rattle.circom_gold.specs.Means.{Means}
-use Rattle.circom_gold.specs.Run.{Did, Does, Ends, IsReplied, MeansIn, Stays}
+use Rattle.circom_gold.specs.Run.{Did, Does, Ends, IsReplied, MeansIn, Stays, StopsAtFault}
+use Rattle.circom_gold.proofs.Asking.{reads_nothing}
 use Rattle.circom_gold.proofs.Replies.{in_part, no_fault_status, usage_alone}
 
 some_of : (result : Result ℕ AllocError) (P : ℕ → Type 0) → IfOk result P
@@ -146,8 +149,8 @@ module _ (command : Option Command) (store : Device Contents) (sink : Device (Li
   -- nothing was asked, written or put
   pub does_nothing : OfAll store.new store.old
       → ((text : List ℕ) → sink.new text → sink.old text) → IsUnasked store
-      → Does command store sink None
-  does_nothing still unput unasked = record {
+      → sink.calls_after ≡ sink.calls → Does command store sink None
+  does_nothing still unput unasked unsaid = record {
     does = λ after may text has. (
       after,
       still after may,
@@ -157,6 +160,9 @@ module _ (command : Option Command) (store : Device Contents) (sink : Device (Li
     );
     fault = tt;
     unread = λ none. (unasked, tt);
+    asks = (store.calls, reads_nothing command store.calls, inl unasked.0);
+    first = inl unasked.1;
+    puts = inl unsaid;
     only_unread = tt;
   }
 
@@ -189,12 +195,31 @@ module _ (command : Option Command) (store : Device Contents) (sink : Device (Li
         inl (whole ∙ ap (λ (x : Reply). x.status) usage)
     given_unread r fits none exit (inr lost) = inr lost.1
 
+  -- the store's fault ends the run
+  first_fault : (fault : IoFault) (result : Result ℕ AllocError)
+      → store.faults_after ≡ faults_after {CodeReply} (Err fault) store.faults
+      → IfOk result (ExitsBy (Err fault) (HasFailed sink))
+      → StopsAtFault store (result_ok result)
+  first_fault Failed result more exits = inr (
+    more,
+    some_of result (λ exit. exit ≡ 3)
+        (IfOk-weaker result (ExitsBy (Err Failed) (HasFailed sink)) (λ exit. exit ≡ 3)
+        (λ exit e. e.1) exits),
+  )
+  first_fault OutOfMemory result same exits = inl same
+
   -- the answer is put
   pub does_answered : (answer : Result CodeReply IoFault) (result : Result ℕ AllocError)
-      → IsAnswered command store answer → IfOk result (ExitsBy answer (HasFailed sink))
+      → IsAnswered command store answer → Asked command store.calls store.calls_after
+      → store.faults_after ≡ faults_after answer store.faults
+      → IfOk result (ExitsBy answer (HasFailed sink))
       → Becomes (PutsAnswer answer (HasFailed sink) result) sink.old sink.new
+      → PutsOnce sink.calls sink.calls_after
       → Does command store sink (result_ok result)
-  does_answered (Ok reply) result h exits puts = record {
+  does_answered (Ok reply) result h asks counted exits puts once = record {
+    asks = asks;
+    first = inl counted;
+    puts = once;
     does = λ after may text has.
         let a = h.replied after may in
         let p = puts text has in (
@@ -218,7 +243,10 @@ module _ (command : Option Command) (store : Device Contents) (sink : Device (Li
         (IfOk-weaker result (Exits (shown reply).status (HasFailed sink)) (OnlyUnread result)
         (given_only result (shown reply) h.fits) exits);
   }
-  does_answered (Err fault) result h exits puts = record {
+  does_answered (Err fault) result h asks counted exits puts once = record {
+    asks = asks;
+    first = first_fault fault result counted exits;
+    puts = once;
     does = λ after may text has.
         let k = h.kept after may in
         let p = puts text has in (

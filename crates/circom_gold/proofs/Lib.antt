@@ -14,3 +14,4 @@ pub mod Generating
 pub mod Doing
 pub mod Meanings
 pub mod Chains
+pub mod Asking

@@ -1,4 +1,5 @@
 -- What the contract of `run` says.
+pub mod Asking
 pub mod Compile
 pub mod Course
 pub mod Witness

@@ -4,10 +4,13 @@ use Rattle.std.specs.Prelude.{None, Result, Ok}
 use Rattle.std.specs.Prelude.{Err, IfSome}
 use Rattle.std.specs.declared.alloc.AllocError.{AllocError}
 use Rattle.out_io.specs.Contents.{Contents}
+use Rattle.out_io.specs.Faults.{one_more_fault}
 use Rattle.circom_lines.specs.Lines.{fault_line}
 use Rattle.circom_words.specs.Words.{Command}
+use Rattle.circom_files.specs.Asked.{PutsOnce}
 use Rattle.circom_files.specs.Given.{IsFront, Leaves, LeavesInPart}
 use Rattle.circom_files.specs.Reply.{Reply}
+use Rattle.circom_gold.specs.Asking.{Asked}
 use Rattle.circom_gold.specs.Course.{Course, Device, HasFailed, IsUnasked, course}
 use Rattle.circom_gold.specs.Means.{Means}
 use Rattle.circom_gold.specs.Reply.{Answers}
@@ -79,6 +82,13 @@ pub record Did (command : Option Command) (store : Course Contents) (sink : Cour
   pub means : IfSome status
       (λ exit. IfSome command (λ c. exit ≢ 3 → MeansIn c store sink exit))
 
+-- The store's first fault ends the run: its count of faults is as before, or it is one more and the
+-- status is 3.
+abbrev pub StopsAtFault : Device Contents → (status : Option ℕ) → Type 0
+StopsAtFault store status =
+    (store.faults_after ≡ store.faults)
+    ⊎ ((store.faults_after ≡ one_more_fault store.faults) × IfSome status (λ exit. exit ≡ 3))
+
 -- What a run does, given the command that its words ask for, None where they have no reading, and
 -- the exit status, None where it wants memory.
 pub record Does (command : Option Command) (store : Device Contents) (sink : Device (List ℕ))
@@ -93,6 +103,13 @@ pub record Does (command : Option Command) (store : Device Contents) (sink : Dev
   -- for words without a reading the store isn't asked, and the status is 64, unless the sink failed
   pub unread : command ≡ None
       → IsUnasked store × IfSome status (λ exit. (exit ≡ 64) ⊎ HasFailed sink)
+  -- The names of the command's words are read, in their order and each at most once, then a file is
+  -- written at most once, and nothing else is asked of the store.
+  pub asks : Asked command store.calls store.calls_after
+  -- the first fault of the store ends the run
+  pub first : StopsAtFault store status
+  -- what is put is put at once
+  pub puts : PutsOnce sink.calls sink.calls_after
   -- it is 64 only there
   pub only_unread : IfSome status (λ exit. exit ≡ 64 → command ≡ None)
 

@@ -1,5 +1,5 @@
 -- What a source comes to before it is run, step by step.
-use Rattle.std.specs.Prelude.{◌≡◌, ℕ, List, Some, Result, Ok, Err, ⊤}
+use Rattle.std.specs.Prelude.{◌≡◌, ℕ, List, Result, Ok, Err, ⊤}
 use Rattle.out_io.specs.Contents.{Contents}
 use Rattle.iden_files.specs.File.{File, InLimits}
 use Rattle.cir_ast.specs.Program.{Program, bare_program}

@@ -4,6 +4,7 @@ ghost use Rattle.std.specs.Prelude.{IfOk};
 ghost use Rattle.out_io.specs.Calls.{Counting};
 ghost use Rattle.out_io.specs.Faults.{Rose};
 ghost use Rattle.out_io.specs.Held.{Becomes};
+ghost use Rattle.circom_files.specs.Asked.{PutsOnce};
 ghost use Rattle.circom_gold.specs.Answering.{ExitsBy, PutsAnswer};
 
 use circom_files::{Reply, put_fault, put_text};
@@ -21,6 +22,7 @@ pub fn give<K: Sink>(
     ensures puts { Becomes
         (PutsAnswer answer.entry (Rose (K.faults out.old) (K.faults out.new)) result)
         (K.may_have out.old) (K.may_have out.new) }
+    ensures asked { PutsOnce (K.calls out.old) (K.calls out.new) }
     ensures sink { Counting (K.faults out.old) (K.faults out.new)
         (K.never_fails out.old) (K.never_fails out.new) }
 {

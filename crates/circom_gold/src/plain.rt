@@ -8,6 +8,7 @@ ghost use Rattle.out_io.specs.declared.fault.IoFault.TheVariants.{Failed};
 ghost use Rattle.out_io.specs.Held.{OfAll, OnlyReads};
 ghost use Rattle.circom_files.specs.Shown.{shown};
 ghost use Rattle.circom_gold.specs.Answering.{Assures, Fits, IsAnswered};
+ghost use Rattle.circom_gold.specs.Asking.{Asked, ReadsFor};
 ghost use Rattle.circom_gold.specs.Course.{device};
 ghost use Rattle.circom_gold.specs.Reply.{Answers};
 ghost use Rattle.circom_gold.specs.Run.{Does};
@@ -72,6 +73,8 @@ fn answered<'w, R: Threads + AllocGlobal + Sync, S: Store>(
         (device (S.may_hold store.old) (S.may_hold store.new)
         (S.calls store.old) (S.calls store.new) (S.faults store.old) (S.faults store.new))
         result }
+    ensures asked { Asked (option_map meant_plain command.entry)
+        (S.calls store.old) (S.calls store.new) }
     ensures counted { S.faults store.new ≡ faults_after result (S.faults store.old) }
     ensures counting { Counting (S.faults store.old) (S.faults store.new)
         (S.never_fails store.old) (S.never_fails store.new) }
@@ -98,6 +101,8 @@ fn reply_to<'w, R: Threads + AllocGlobal + Sync, S: Store>(
         → (S.calls store.new ≡ S.calls store.old) × (S.faults store.new ≡ S.faults store.old)
         × ¬ IsErrOf result Failed }
     ensures fault { IsErrOf result Failed → Rose (S.faults store.old) (S.faults store.new) }
+    ensures asked { ReadsFor (option_map meant_plain command.entry)
+        (S.calls store.old) (S.calls store.new) }
     ensures counted { S.faults store.new ≡ faults_after result (S.faults store.old) }
     ensures store { OnlyReads (S.may_hold store.old) (S.may_hold store.new)
         (S.faults store.old) (S.faults store.new)

@@ -1,4 +1,4 @@
-use Rattle.std.proofs.Common.{◌≡◌, ℕ, None, Some, Ok, Err, Vec}
+use Rattle.std.proofs.Common.{◌≡◌, ◌∷◌, [], ℕ, None, Some, Ok, Err, Vec}
 use Rattle.std.specs.declared.alloc.Global.{Global}
 use Rattle.std.proofs.lemmas.Result.{err_from_is_err_and}
 use Rattle.out_io.specs.Faults.{Rose}
@@ -10,6 +10,7 @@ use Rattle.circom_files.specs.declared.outcome.Offer.{Offer}
 use Rattle.circom_files.proofs.Reading.{one_read, steps_later, two_read}
 use Rattle.circom_files.proofs.Offering.{offer_bad_publics, offer_bad_r1cs, offer_read}
 use Rattle.circom_files.proofs.Offering.{offer_unread, offer_unread_proof, offer_unread_publics}
+use Rattle.circom_files.proofs.Asking.{asks_both, asks_first}
 use Rattle.circom_files.proofs.audit.offer_in.Goals as goal
 
 pub returns-in_err-bytes-clause-step : goal.returns-in_err-bytes-clause-step
@@ -165,3 +166,53 @@ returns-clause-step g c =
     c.as_slice-3.result.now c.as_slice-3.ensures.value c.in_ok-values.values.items
     c.in_ok-values.ensures c.in_ok-offered.offered.items here
     (λ files may. c.in_ok-offered.ensures.step files (both files may)) made
+
+pub returns-in_err-bytes-clause-asked : goal.returns-in_err-bytes-clause-asked
+returns-in_err-bytes-clause-asked g c =
+    asks_first (c.args.r1cs.now ∷ []) (c.args.publics.now ∷ (c.args.proof.now ∷ []))
+    (g.S.Store.calls c.args.store.now) (g.S.Store.calls c.bytes_in.new.store)
+    c.bytes_in.ensures.asked
+
+pub returns-in_err-file-clause-asked : goal.returns-in_err-file-clause-asked
+returns-in_err-file-clause-asked g c =
+    asks_first (c.args.r1cs.now ∷ []) (c.args.publics.now ∷ (c.args.proof.now ∷ []))
+    (g.S.Store.calls c.args.store.now) (g.S.Store.calls c.bytes_in.new.store)
+    c.bytes_in.ensures.asked
+
+pub returns-in_err-text-clause-asked : goal.returns-in_err-text-clause-asked
+returns-in_err-text-clause-asked g c =
+    asks_first (c.args.r1cs.now ∷ (c.args.publics.now ∷ [])) (c.args.proof.now ∷ [])
+    (g.S.Store.calls c.args.store.now) (g.S.Store.calls c.bytes_after.new.store)
+    (asks_both (c.args.r1cs.now ∷ []) (c.args.publics.now ∷ [])
+    (g.S.Store.calls c.args.store.now) (g.S.Store.calls c.bytes_in.new.store)
+    (g.S.Store.calls c.bytes_after.new.store) c.bytes_in.ensures.asked
+    c.bytes_after.ensures.asked)
+
+pub returns-in_err-values-clause-asked : goal.returns-in_err-values-clause-asked
+returns-in_err-values-clause-asked g c =
+    asks_first (c.args.r1cs.now ∷ (c.args.publics.now ∷ [])) (c.args.proof.now ∷ [])
+    (g.S.Store.calls c.args.store.now) (g.S.Store.calls c.bytes_after.new.store)
+    (asks_both (c.args.r1cs.now ∷ []) (c.args.publics.now ∷ [])
+    (g.S.Store.calls c.args.store.now) (g.S.Store.calls c.bytes_in.new.store)
+    (g.S.Store.calls c.bytes_after.new.store) c.bytes_in.ensures.asked
+    c.bytes_after.ensures.asked)
+
+pub returns-in_err-offered-clause-asked : goal.returns-in_err-offered-clause-asked
+returns-in_err-offered-clause-asked g c =
+    asks_both (c.args.r1cs.now ∷ (c.args.publics.now ∷ [])) (c.args.proof.now ∷ [])
+    (g.S.Store.calls c.args.store.now) (g.S.Store.calls c.bytes_after.new.store)
+    (g.S.Store.calls c.bytes_after-2.new.store)
+    (asks_both (c.args.r1cs.now ∷ []) (c.args.publics.now ∷ [])
+    (g.S.Store.calls c.args.store.now) (g.S.Store.calls c.bytes_in.new.store)
+    (g.S.Store.calls c.bytes_after.new.store) c.bytes_in.ensures.asked
+    c.bytes_after.ensures.asked) c.bytes_after-2.ensures.asked
+
+pub returns-clause-asked : goal.returns-clause-asked
+returns-clause-asked g c =
+    asks_both (c.args.r1cs.now ∷ (c.args.publics.now ∷ [])) (c.args.proof.now ∷ [])
+    (g.S.Store.calls c.args.store.now) (g.S.Store.calls c.bytes_after.new.store)
+    (g.S.Store.calls c.bytes_after-2.new.store)
+    (asks_both (c.args.r1cs.now ∷ []) (c.args.publics.now ∷ [])
+    (g.S.Store.calls c.args.store.now) (g.S.Store.calls c.bytes_in.new.store)
+    (g.S.Store.calls c.bytes_after.new.store) c.bytes_in.ensures.asked
+    c.bytes_after.ensures.asked) c.bytes_after-2.ensures.asked

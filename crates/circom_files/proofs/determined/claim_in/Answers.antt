@@ -1,4 +1,4 @@
-use Rattle.std.proofs.Common.{◌≡◌, ℕ, None, Err, Vec}
+use Rattle.std.proofs.Common.{◌≡◌, ◌∷◌, [], ℕ, None, Err, Vec}
 use Rattle.std.specs.declared.alloc.Global.{Global}
 use Rattle.std.proofs.lemmas.Result.{err_from_is_err_and}
 use Rattle.out_io.specs.Faults.{Rose}
@@ -11,6 +11,7 @@ use Rattle.circom_files.specs.declared.outcome.Claim.{Claim}
 use Rattle.circom_files.proofs.Reading.{bad_first, bad_second, both_read, claim_is, claim_with}
 use Rattle.circom_files.proofs.Reading.{one_read, rules_at, steps_later, unread_first}
 use Rattle.circom_files.proofs.Reading.{unread_second}
+use Rattle.circom_files.proofs.Asking.{asks_both, asks_first}
 use Rattle.circom_files.proofs.determined.claim_in.Goals as goal
 
 pub returns-in_err-bytes-clause-step : goal.returns-in_err-bytes-clause-step
@@ -104,3 +105,36 @@ returns-clause-step g c =
     (λ f m. c.in_ok-bytes.ensures.step f (c.bytes_after.ensures.store.still f m)) files may))
     c.as_slice-3.result.now c.as_slice-3.ensures.value c.in_ok-rules.rules.items here
     c.in_ok-rules.ensures.step made
+
+pub returns-in_err-bytes-clause-asked : goal.returns-in_err-bytes-clause-asked
+returns-in_err-bytes-clause-asked g c =
+    asks_first (c.args.r1cs.now ∷ []) (c.args.certificate.now ∷ [])
+    (g.S.Store.calls c.args.store.now) (g.S.Store.calls c.bytes_in.new.store)
+    c.bytes_in.ensures.asked
+
+pub returns-in_err-file-clause-asked : goal.returns-in_err-file-clause-asked
+returns-in_err-file-clause-asked g c =
+    asks_first (c.args.r1cs.now ∷ []) (c.args.certificate.now ∷ [])
+    (g.S.Store.calls c.args.store.now) (g.S.Store.calls c.bytes_in.new.store)
+    c.bytes_in.ensures.asked
+
+pub returns-in_err-text-clause-asked : goal.returns-in_err-text-clause-asked
+returns-in_err-text-clause-asked g c =
+    asks_both (c.args.r1cs.now ∷ []) (c.args.certificate.now ∷ [])
+    (g.S.Store.calls c.args.store.now) (g.S.Store.calls c.bytes_in.new.store)
+    (g.S.Store.calls c.bytes_after.new.store) c.bytes_in.ensures.asked
+    c.bytes_after.ensures.asked
+
+pub returns-in_err-rules-clause-asked : goal.returns-in_err-rules-clause-asked
+returns-in_err-rules-clause-asked g c =
+    asks_both (c.args.r1cs.now ∷ []) (c.args.certificate.now ∷ [])
+    (g.S.Store.calls c.args.store.now) (g.S.Store.calls c.bytes_in.new.store)
+    (g.S.Store.calls c.bytes_after.new.store) c.bytes_in.ensures.asked
+    c.bytes_after.ensures.asked
+
+pub returns-clause-asked : goal.returns-clause-asked
+returns-clause-asked g c =
+    asks_both (c.args.r1cs.now ∷ []) (c.args.certificate.now ∷ [])
+    (g.S.Store.calls c.args.store.now) (g.S.Store.calls c.bytes_in.new.store)
+    (g.S.Store.calls c.bytes_after.new.store) c.bytes_in.ensures.asked
+    c.bytes_after.ensures.asked

@@ -1,4 +1,4 @@
-use Rattle.std.proofs.Common.{◌∙◌, option_map}
+use Rattle.std.proofs.Common.{◌∙◌, inl, option_map, refl}
 use Rattle.out_io.specs.Contents.{Contents}
 use Rattle.circom_words.specs.Words.{meant_circuit}
 use Rattle.circom_files.specs.Shown.{shown}
@@ -25,3 +25,24 @@ returns-clause-answered g c =
     let unwritten = c.in_ok-write_file.ensures.none file in
     let unasked = read.unread none in
     (unwritten.0 ∙ unasked.0, unwritten.1 ∙ unasked.1))
+
+pub returns-clause-asked : goal.returns-clause-asked
+returns-clause-asked g c = (
+  g.S.Store.calls c.reply_to.new.store,
+  c.in_ok-reply.ensures.asked,
+  c.in_ok-write_file.ensures.asked,
+)
+
+pub returns-in_err-write_file-clause-asked : goal.returns-in_err-write_file-clause-asked
+returns-in_err-write_file-clause-asked g c = (
+  g.S.Store.calls c.reply_to.new.store,
+  c.in_ok-reply.ensures.asked,
+  c.in_err-write_file.ensures.asked,
+)
+
+pub returns-in_err-reply-clause-asked : goal.returns-in_err-reply-clause-asked
+returns-in_err-reply-clause-asked g c = (
+  g.S.Store.calls c.reply_to.new.store,
+  c.in_err-reply.ensures.asked,
+  inl refl,
+)

@@ -20,7 +20,7 @@ returns-in_err-of-clause-does g c =
     let p = err_from_is_err_and c.from_residual.result c.from_residual.ensures.1 in
     rw p.1
     (does_nothing (command_of (texts c.args.words.now)) store sink (λ files may. may)
-    (λ text has. has) (refl, refl))
+    (λ text has. has) (refl, refl) refl)
 
 pub returns-clause-does : goal.returns-clause-does
 returns-clause-does g c =
@@ -36,4 +36,5 @@ returns-clause-does g c =
     (result_ok c.give.result)
     (does_answered (option_map meant_plain c.plain-command.result) store sink
     c.answered-answer.result c.give.result c.answered-answer.ensures.answered
-    c.give.ensures.exits c.give.ensures.puts)
+    c.answered-answer.ensures.asked c.answered-answer.ensures.counted c.give.ensures.exits
+    c.give.ensures.puts c.give.ensures.asked)

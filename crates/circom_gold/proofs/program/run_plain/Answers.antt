@@ -16,4 +16,4 @@ returns-then-waits-clause-does g c =
     (g.K.Sink.calls c.args.out.now) (g.K.Sink.calls c.args.out.now)
     (g.K.Sink.faults c.args.out.now) (g.K.Sink.faults c.args.out.now) in
     does_nothing (command_of (texts c.args.words.now)) store sink (λ files may. may)
-    (λ text has. has) (refl, refl)
+    (λ text has. has) (refl, refl) refl
