@@ -81,47 +81,63 @@ pub fn wrong_arity(
     source: Source<'_>,
     advice: &mut Advice,
 ) -> Result<(), AllocError> {
-    let mut left = statement(source.here);
-    while let Some((token, behind)) = left.split_first() {
-        left = behind;
-        if let Some(name) = name_of(token)
-            && let Some(given) = count_listed(behind)
-            && let Some(definition) = definition_of(source.tokens, name)
-            && let Some(wanted) = count_listed(definition.behind)
-            && given != wanted
+    let tokens = statement(source.here);
+    for (index, token) in tokens.iter().enumerate() {
+        if let Some(behind) = tokens.get(index.saturating_add(1)..)
+            && let Some(counts) = differing(source, token, behind)
         {
-            advice.spot = Some(spot_of(source.bytes, token));
-            return add_arity(alloc, advice, source, name, given, wanted);
+            let spot = spot_of(source.bytes, token);
+            *advice = Advice::new(alloc);
+            advice.spot = Some(spot);
+            return add_arity(alloc, advice, source, token, counts);
         }
     }
     Ok(())
+}
+
+// How many arguments are given, and how many parameters there are.
+#[derive(Clone, Copy)]
+struct Counts {
+    given: usize,
+    wanted: usize,
+}
+
+// The counts of a call of a definition of this file, where they differ.
+fn differing(source: Source<'_>, token: &Token, behind: &[Token]) -> Option<Counts> {
+    let name = name_of(token)?;
+    let given = count_listed(behind)?;
+    let definition = definition_of(source.tokens, name)?;
+    let wanted = count_listed(definition.behind)?;
+    if given == wanted {
+        return None;
+    }
+    Some(Counts { given, wanted })
 }
 
 fn add_arity(
     alloc: Global,
     advice: &mut Advice,
     source: Source<'_>,
-    name: &str,
-    given: usize,
-    wanted: usize,
+    token: &Token,
+    counts: Counts,
 ) -> Result<(), AllocError> {
-    let mut told = Advice::new(alloc);
-    told.spot = advice.spot;
+    let name = spelled(source.bytes, token);
+    let given = counts.given;
+    let wanted = counts.wanted;
     let given = format!(in alloc; "{given}")?;
     let count = format!(in alloc; "{wanted}")?;
-    told.note(&[name, " takes ", count.as_str()])?;
-    told.note(&[if wanted == 1 {
+    advice.note(&[name, " takes "])?;
+    advice.note(&[count.as_str()])?;
+    advice.note(&[if wanted == 1 {
         " argument"
     } else {
         " arguments"
     }])?;
     if let Some(definition) = definition_of(source.tokens, name) {
-        add_list(&mut told, source.bytes, definition.behind)?;
+        add_list(advice, source.bytes, definition.behind)?;
     }
-    told.note(&[", and ", given.as_str(), " are given"])?;
-    told.help(&["give one for each parameter"])?;
-    *advice = told;
-    Ok(())
+    advice.note(&[", and ", given.as_str(), " are given"])?;
+    advice.help(&["give one for each parameter"])
 }
 
 // The list in the parentheses at the front, as the source spells its tokens.
@@ -142,10 +158,10 @@ fn add_list(advice: &mut Advice, source: &[u8], tokens: &[Token]) -> Result<(), 
 }
 
 /// Which inputs main has, where the file of inputs has another key.
-pub fn unknown_key(
+pub fn unknown_key<'x>(
     alloc: Global,
-    tokens: &[Token],
-    key: &str,
+    tokens: &'x [Token],
+    key: &'x str,
     advice: &mut Advice,
 ) -> Result<(), AllocError> {
     let Some(main) = main_template(tokens) else {
