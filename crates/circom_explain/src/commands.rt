@@ -9,6 +9,8 @@ pub struct Form {
     /// What is typed behind the program's name.
     pub usage: &'static str,
     pub example: &'static str,
+    /// What it is at, once its files are read.
+    pub work: &'static str,
     /// Whether the last of the files is written.
     pub writes: bool,
 }
@@ -21,6 +23,7 @@ pub static FORMS: [Form; 9] = [
         options: &["--O0", "--O1", "--O2", "-l"],
         usage: "compile SRC OUT [--O0, --O1 or --O2] [-l DIR]",
         example: "compile mul.circom mul.r1cs",
+        work: "compiling",
         writes: true,
     },
     Form {
@@ -29,6 +32,7 @@ pub static FORMS: [Form; 9] = [
         options: &["--O0", "--O1", "--O2", "-l", "--workers", "--fuel"],
         usage: "witness SRC INPUT OUT [--O0, --O1 or --O2] [-l DIR] [--workers N] [--fuel N]",
         example: "witness mul.circom mul.json mul.wtns",
+        work: "compiling and running",
         writes: true,
     },
     Form {
@@ -37,6 +41,7 @@ pub static FORMS: [Form; 9] = [
         options: &[],
         usage: "check R1CS WTNS",
         example: "check mul.r1cs mul.wtns",
+        work: "checking",
         writes: false,
     },
     Form {
@@ -46,6 +51,7 @@ pub static FORMS: [Form; 9] = [
         usage: "prove R1CS WTNS OUT --seed HEX [--proof 1 or 2]",
         example: "prove mul.r1cs mul.wtns mul.proof \
             --seed $(od -An -N32 -tx1 /dev/urandom | tr -d ' \\n')",
+        work: "proving",
         writes: true,
     },
     Form {
@@ -54,6 +60,7 @@ pub static FORMS: [Form; 9] = [
         options: &[],
         usage: "public R1CS WTNS OUT",
         example: "public mul.r1cs mul.wtns public.json",
+        work: "checking",
         writes: true,
     },
     Form {
@@ -62,6 +69,7 @@ pub static FORMS: [Form; 9] = [
         options: &[],
         usage: "audit R1CS PUBLIC PROOF",
         example: "audit mul.r1cs public.json mul.proof",
+        work: "auditing",
         writes: false,
     },
     Form {
@@ -70,6 +78,7 @@ pub static FORMS: [Form; 9] = [
         options: &[],
         usage: "determine R1CS OUT",
         example: "determine mul.r1cs mul.cert",
+        work: "looking for rules",
         writes: true,
     },
     Form {
@@ -78,6 +87,7 @@ pub static FORMS: [Form; 9] = [
         options: &[],
         usage: "confirm R1CS CERT",
         example: "confirm mul.r1cs mul.cert",
+        work: "confirming",
         writes: false,
     },
     Form {
@@ -86,6 +96,7 @@ pub static FORMS: [Form; 9] = [
         options: &["--workers", "--fuel"],
         usage: "generate SEED SIZE [--workers N] [--fuel N]",
         example: "generate 7 1000 --workers 4",
+        work: "compiling and running",
         writes: false,
     },
 ];
@@ -93,6 +104,33 @@ pub static FORMS: [Form; 9] = [
 /// The form of the command of this name.
 pub fn form_of(name: &str) -> Option<&'static Form> {
     FORMS.iter().find(|form| form.name == name)
+}
+
+/// The number of the command that the words name, from 1; 0 where they name none.
+pub fn command_number(words: &[String]) -> u64 {
+    let Some(name) = words.first() else {
+        return 0;
+    };
+    let mut number: u64 = 0;
+    for form in FORMS.as_slice() {
+        number = number.saturating_add(1);
+        if form.name == name.as_str() {
+            return number;
+        }
+    }
+    0
+}
+
+/// What the command of this number is at, once its files are read.
+pub fn work_of(number: u64) -> &'static str {
+    let mut left = number;
+    for form in FORMS.as_slice() {
+        if left == 1 {
+            return form.work;
+        }
+        left = left.saturating_sub(1);
+    }
+    "working"
 }
 
 /// Whether a value stands behind the option.

@@ -16,4 +16,5 @@ mod verdicts;
 
 pub use answers::{explanation, file_to_show};
 pub use case::Case;
+pub use commands::{command_number, work_of};
 pub use files::overwriting;

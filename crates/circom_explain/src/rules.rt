@@ -156,7 +156,8 @@ fn known_rule(code: &str) -> Option<Rule> {
 fn write_rule(code: &str) -> Option<Rule> {
     match code {
         "E12" => says(
-            "a signal is read before it is written, or an output before all inputs of its component",
+            "a signal is read before it is written, or an output before all of its component's \
+            inputs",
             "move the line that writes it up",
         ),
         "E13" => says(

@@ -237,12 +237,8 @@ fn add_no_option(
 // What is missing, or too much, among the names.
 fn add_counts(advice: &mut Advice, form: &Form, names: &[&str]) -> Result<(), AllocError> {
     if let Some(extra) = names.get(form.files.len()) {
-        return advice.note(&[
-            form.name,
-            " takes no further word, and ",
-            extra,
-            " is given",
-        ]);
+        advice.note(&[form.name, " takes no further word, and "])?;
+        return add_given(advice, extra);
     }
     if let Some(missing) = form.files.get(names.len()) {
         return advice.note(&[form.name, " wants ", missing, " too"]);

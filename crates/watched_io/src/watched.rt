@@ -5,23 +5,25 @@ use crate::watcher::{Step, Watcher};
 use out_io::{IoFault, Store};
 use std::alloc::{AllocError, Global};
 
-/// A store, the calls that it was asked, and who is told of them. A call for which there is no
-/// memory isn't noted.
+/// A store, the calls that it was asked, and who is told of them. Where `notes` is off, and where
+/// there is no memory for it, a call isn't noted.
 #[derive(Drop)]
 pub struct Watched<S: Store + Drop, W: Watcher + Drop> {
     inner: S,
     asked: Vec<Asked>,
+    notes: bool,
     watcher: W,
 }
 
 impl<S: Store + Drop, W: Watcher + Drop> Watched<S, W> {
     /// The store, and nothing asked.
-    pub fn new(alloc: Global, inner: S, watcher: W) -> Watched<S, W>
+    pub fn new(alloc: Global, inner: S, watcher: W, notes: bool) -> Watched<S, W>
         ensures inner { result.inner ≡ inner }
     {
         Watched {
             inner,
             asked: Vec::new(alloc),
+            notes,
             watcher,
         }
     }
@@ -69,7 +71,9 @@ impl<S: Store + Drop, W: Watcher + Drop> Store for Watched<S, W> {
             Ok(None) => Outcome::NotThere,
             Err(_) => Outcome::ReadFailed,
         };
-        note(alloc, &mut self.asked, name, outcome);
+        if self.notes {
+            note(alloc, &mut self.asked, name, outcome);
+        }
         self.watcher.tell(Step::Working);
         found
     }
@@ -81,7 +85,9 @@ impl<S: Store + Drop, W: Watcher + Drop> Store for Watched<S, W> {
             Ok(()) => Outcome::Written,
             Err(_) => Outcome::WriteFailed,
         };
-        note(alloc, &mut self.asked, name, outcome);
+        if self.notes {
+            note(alloc, &mut self.asked, name, outcome);
+        }
         self.watcher.tell(Step::Working);
         done
     }

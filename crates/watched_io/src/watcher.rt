@@ -3,7 +3,7 @@ pub trait Watcher {
     fn tell(&mut self, step: Step<'_>);
 }
 
-/// What a program is at, as far as its store sees it.
+/// What a program is at, as far as its store and its sink see it.
 #[derive(Clone, Copy)]
 pub enum Step<'a> {
     /// It reads the file of this name.
@@ -12,4 +12,6 @@ pub enum Step<'a> {
     Working,
     /// It writes the file of this name.
     Writing(&'a str),
+    /// It prints.
+    Printing,
 }
