@@ -40,12 +40,12 @@ pub fn include_advice(alloc: Global, case: &Case<'_>) -> Result<Advice, AllocErr
 
 // The last calls that found no file, two at most.
 fn last_absent(asked: &[Asked]) -> &[Asked] {
-    let mut count = 0;
+    let mut count: usize = 0;
     for call in asked.iter().rev() {
         if count == 2 || call.outcome != Outcome::NotThere {
             break;
         }
-        count += 1;
+        count = count.saturating_add(1);
     }
     match asked.get(asked.len().saturating_sub(count)..) {
         Some(last) => last,

@@ -113,6 +113,10 @@ fn sentences(slip: Slip) -> (&'static str, &'static str) {
             "a declaration of several components gives none of them a value",
             "component a = A(); component b = B();",
         ),
+        Slip::Block => (
+            "a block is wanted here: {",
+            "a template or a function is NAME(..) { .. }",
+        ),
         Slip::Cut => (
             "the file ends before this item does",
             "put ; or the closing bracket behind it",

@@ -27,6 +27,8 @@ pub enum Slip {
     SignalValue,
     /// A declaration of several components gives one a value.
     ComponentValue,
+    /// A block is wanted before it, with its `{`.
+    Block,
     /// The file ends behind it, and the item doesn't.
     Cut,
 }
@@ -54,8 +56,8 @@ struct Scan {
     before: Option<Class>,
     // The word that the next parenthesis belongs to.
     word: Option<Reserved>,
-    // Whether the token before closed the parenthesis of a condition or of a definition.
-    closed_head: bool,
+    // The word of the condition or definition whose parenthesis the token before closed.
+    closed_head: Option<Reserved>,
     first: Option<Class>,
     first_at: usize,
     has_effect: bool,
@@ -92,7 +94,7 @@ impl Scan {
             open: Vec::new(alloc),
             before: None,
             word: None,
-            closed_head: false,
+            closed_head: None,
             first: None,
             first_at: 0,
             has_effect: false,
@@ -165,15 +167,22 @@ impl Scan {
             Some(Class::Sign(Symbol::Semicolon | Symbol::OpenBrace | Symbol::CloseBrace)) => {
                 self.at_start(class)
             }
-            Some(_) if self.closed_head => unless(
-                begins_statement(class) || class == Class::Sign(Symbol::OpenBrace),
-                Slip::Unexpected,
-            ),
+            Some(_) if self.closed_head.is_some() => self.behind_head(class),
             Some(before) if ends_operand(before) => self.behind_operand(before, class),
             Some(before) => unless(
                 begins_operand(class) || may_open(before, class),
                 Slip::Unexpected,
             ),
+        }
+    }
+
+    // A token behind the parentheses of a condition or a definition.
+    fn behind_head(&self, class: Class) -> Option<Slip> {
+        match self.closed_head {
+            Some(Reserved::Template | Reserved::Function) => {
+                unless(class == Class::Sign(Symbol::OpenBrace), Slip::Block)
+            }
+            _ => unless(begins_statement(class), Slip::Unexpected),
         }
     }
 
@@ -253,7 +262,7 @@ impl Scan {
             self.has_equal = false;
             self.has_comma = false;
         }
-        self.closed_head = false;
+        self.closed_head = None;
         match class {
             Class::Word(word) => self.add_word(word),
             Class::Sign(symbol) => self.add_symbol(symbol, at)?,
@@ -268,7 +277,7 @@ impl Scan {
         match self.before {
             None => true,
             Some(Class::Sign(Symbol::Semicolon | Symbol::OpenBrace | Symbol::CloseBrace)) => true,
-            Some(before) => self.closed_head || before == Class::Word(Reserved::Else),
+            Some(before) => self.closed_head.is_some() || before == Class::Word(Reserved::Else),
         }
     }
 
@@ -292,7 +301,7 @@ impl Scan {
             }
             Symbol::CloseParenthesis | Symbol::CloseBracket | Symbol::CloseBrace => {
                 if let Some(open) = self.open.pop() {
-                    self.closed_head = open.is_head();
+                    self.closed_head = open.head();
                     if symbol == Symbol::CloseBrace {
                         self.word = open.word;
                     }
@@ -314,19 +323,18 @@ impl Scan {
 }
 
 impl Open {
-    // Whether it is the parenthesis of a condition, or of a definition's parameters.
-    fn is_head(&self) -> bool {
-        self.symbol == Symbol::OpenParenthesis
-            && matches!(
-                self.word,
-                Some(
-                    Reserved::If
-                        | Reserved::For
-                        | Reserved::While
-                        | Reserved::Template
-                        | Reserved::Function
-                )
-            )
+    // The word, where it is the parenthesis of a condition or of a definition's parameters.
+    fn head(&self) -> Option<Reserved> {
+        match self.word {
+            Some(
+                Reserved::If
+                | Reserved::For
+                | Reserved::While
+                | Reserved::Template
+                | Reserved::Function,
+            ) if self.symbol == Symbol::OpenParenthesis => self.word,
+            _ => None,
+        }
     }
 
     fn may_hold_semicolon(&self) -> bool {
