@@ -18,7 +18,7 @@ use Rattle.cir_ast.specs.declared.refusal.Place.{Place}
 use Rattle.cir_ast.specs.declared.refusal.Refusal.{Refusal as SourceRefusal}
 use Rattle.circom_lines.specs.declared.answer.Refusal.{Refusal}
 use Rattle.circom_lines.specs.declared.answer.Refusal.TheVariants.{NoSuchFile, BadFile, BadRules}
-use Rattle.circom_lines.specs.declared.answer.Refusal.TheVariants.{BadSource}
+use Rattle.circom_lines.specs.declared.answer.Refusal.TheVariants.{BadSource, LargeBatch}
 use Rattle.circom_lines.specs.declared.answer.Refusal.TheVariants.{BadInput as BadInputs}
 use Rattle.circom_lines.specs.declared.answer.BadInput.{BadInput}
 use Rattle.circom_lines.specs.declared.answer.BadInput.TheVariants.{NotJson, Missing, UnknownSignal}
@@ -165,6 +165,7 @@ refusal_line (BadRules name cause number) =
     bad_rules_line name (rules_text cause) (decimal number)
 refusal_line (BadSource r) = source_line r
 refusal_line (BadInputs r) = input_line r
+refusal_line (LargeBatch size) = line (codes "refused: B1 Limit " ∷ decimal size ∷ [])
 
 abbrev pub verdict_line : Verdict → List ℕ
 verdict_line (CountsDiffer values wires) =

@@ -14,4 +14,4 @@ pub use determined::{confirmed_line, confirmed_status, determined_line, undeterm
 pub use generated::{generated_start, generated_text};
 pub use lines::{compiled_line, fault_line, usage_line};
 pub use proving::{audit_line, audit_status, proved_line, public_line};
-pub use run_lines::{generated_line, log_text, stop_line, witness_line};
+pub use run_lines::{batch_line, generated_line, log_text, stop_line, witness_line};

@@ -33,6 +33,10 @@ impl Refusal {
             }
             Refusal::BadSource(refusal) => source_line(alloc, refusal),
             Refusal::BadInput(refusal) => refusal.line(alloc),
+            Refusal::LargeBatch { size } => {
+                let size = format!(in alloc; "{size}")?;
+                line(alloc, &[b"refused: B1 Limit ", size.as_bytes()])
+            }
         }
     }
 }
