@@ -1,6 +1,7 @@
 -- What the contract of `run` says.
 pub mod Asking
 pub mod Compile
+pub mod Symbols
 pub mod Course
 pub mod Witness
 pub mod Means

@@ -12,6 +12,7 @@ mod plain;
 mod program;
 mod running;
 mod source;
+mod symbols;
 mod witness;
 
 pub use circom_files::check_laws;
