@@ -4,7 +4,7 @@ use Rattle.std.proofs.Common.{Bool, true, false, List, [], ◌∷◌, ◌++◌, 
 use Rattle.std.proofs.Common.{set, replicate}
 use Rattle.std.proofs.Common.{All, find, nat_lt, slice_get, if◌then◌else◌, Option, Some, None}
 use Rattle.std.proofs.Common.{refl, ap, sym, subst, arith}
-use Rattle.std.proofs.lemmas.List.{append-nil, drop_all, drop_more, length-replicate}
+use Rattle.std.proofs.lemmas.List.{append-nil, drop_more, length-replicate}
 use Rattle.std.proofs.lemmas.Option.{slice_get-get_or, slice_get_past}
 use Rattle.std.proofs.lemmas.Bool.{ltb-true}
 use Rattle.std.proofs.lemmas.Bool.Decides.{Decides-eqb, nat_tests}
@@ -69,7 +69,8 @@ none_first lines wires first is = record {
   within = omega arith;
   each = λ wire inside.
       let none : get_or first wire None ≡ None = grind (arith, common_steps, is) in
-      ap (find (is_of wire)) (drop_all lines (length lines) (omega arith))
+      let past : drop (length lines) lines ≡ [] = grind (arith, common_steps) in
+      ap (find (is_of wire)) past
       ∙ ap (option_and_then (slice_get lines)) (sym none);
 }
 

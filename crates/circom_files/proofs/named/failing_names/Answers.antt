@@ -28,4 +28,4 @@ returns-in-None c =
     rw c.in-ConstraintFails.is
     (c.new.ensures.items
     ∙ fails_nowhere c.args.file.now c.constraints.result.now c.in-ConstraintFails.index
-    c.args.lines.now c.constraints.ensures.constraints c.in-None.ensures.lookup)
+    c.args.lines.now c.constraints.ensures.constraints c.in-None.ensures.lookup.0)
