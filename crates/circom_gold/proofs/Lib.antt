@@ -10,6 +10,7 @@ pub mod WitnessLaws
 pub mod NoInput
 pub mod Sourcing
 pub mod Witnessing
+pub mod Batching
 pub mod Generating
 pub mod Doing
 pub mod Meanings
