@@ -11,6 +11,7 @@ pub mod NoInput
 pub mod Sourcing
 pub mod SymbolLines
 pub mod Witnessing
+pub mod Batching
 pub mod Generating
 pub mod Doing
 pub mod Meanings

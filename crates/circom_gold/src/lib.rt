@@ -2,6 +2,7 @@
 //! and the file that is written.
 #![tactic(auto)]
 
+mod batch;
 mod circuit;
 mod compile;
 mod generate;
