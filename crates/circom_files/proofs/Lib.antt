@@ -10,5 +10,3 @@ pub mod Once
 pub mod Given
 pub mod Statuses
 pub mod Asking
-pub mod Wired
-pub mod Describing

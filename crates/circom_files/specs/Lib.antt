@@ -4,7 +4,6 @@ pub mod Check
 pub mod Determining
 pub mod Files
 pub mod Given
-pub mod Named
 pub mod Proving
 pub mod Reply
 pub mod Running

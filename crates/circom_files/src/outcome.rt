@@ -25,21 +25,6 @@ impl Drop for Witness {
     }
 }
 
-/// A witness, and what is said of signals.
-pub struct Described {
-    pub witness: Witness,
-    pub lines: Items<SymLine>,
-}
-
-impl Drop for Described {
-    fn drop(self) {
-        let Described {
-            witness: _witness,
-            lines: _lines,
-        } = self;
-    }
-}
-
 /// What `check` finds, and the names of the wires of the constraint that fails, if one does.
 pub struct Named {
     pub verdict: Verdict,

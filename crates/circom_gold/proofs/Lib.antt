@@ -15,5 +15,4 @@ pub mod Batching
 pub mod Generating
 pub mod Doing
 pub mod Meanings
-pub mod Chains
 pub mod Asking

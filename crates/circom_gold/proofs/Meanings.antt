@@ -28,7 +28,7 @@ use Rattle.circom_files.specs.Determining.{AreCertificate, HasCertificate}
 use Rattle.circom_files.specs.Determining.{HoldsCertificate, IsConfirmed, IsSearched, claim_of}
 use Rattle.circom_files.specs.Files.{r1cs_in}
 use Rattle.circom_files.specs.Given.{Leaves}
-use Rattle.circom_files.specs.Named.{described_of, failing_names, named}
+use Rattle.circom_named.specs.Named.{described_of, failing_names, named}
 use Rattle.circom_files.specs.Proving.{FoundIn, IsProved, public_of}
 use Rattle.circom_files.specs.Proving.{published_values, witness_of}
 use Rattle.circom_files.specs.Reply.{NewFile, Reply, checked, checked_by_name, confirmed}
@@ -36,7 +36,7 @@ use Rattle.circom_files.specs.Reply.{determined, proved, published, said}
 use Rattle.circom_files.specs.Running.{generated, halted}
 use Rattle.circom_files.specs.Satisfaction.{FailsFirstAt, IsAssignment, Satisfies}
 use Rattle.circom_files.specs.declared.outcome.Claim.{Claim}
-use Rattle.circom_files.specs.declared.outcome.Described.{Described}
+use Rattle.circom_named.specs.declared.described.Described.{Described}
 use Rattle.circom_files.specs.declared.outcome.Generated.{Generated}
 use Rattle.circom_files.specs.declared.outcome.Generated.TheVariants as made
 use Rattle.circom_files.specs.declared.outcome.Named.{Named}
@@ -48,7 +48,7 @@ use Rattle.circom_files.specs.declared.outcome.Ran.TheVariants.{Halted}
 use Rattle.circom_files.specs.declared.outcome.Witness.{Witness}
 use Rattle.circom_files.proofs.Accepts.{says_accepted}
 use Rattle.circom_files.proofs.CheckLaws.{least as least_failing, satisfied}
-use Rattle.circom_files.proofs.Describing.{check_named_by, finding}
+use Rattle.circom_named.proofs.Describing.{check_named_by, finding}
 use Rattle.circom_files.proofs.Reading.{check_by, public_by}
 use Rattle.circom_files.proofs.Certified.{confirmed_is, one_confirm}
 use Rattle.circom_gold.specs.Answering.{Assures}

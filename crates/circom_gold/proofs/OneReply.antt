@@ -10,7 +10,7 @@ use Rattle.circom_files.proofs.Certified.{one_confirm, one_search, shown_written
 use Rattle.circom_files.proofs.Once.{one_outcome, one_audit}
 use Rattle.circom_files.specs.Check.{check_of}
 use Rattle.circom_files.specs.Determining.{Confirms, Searches}
-use Rattle.circom_files.specs.Named.{check_named_of}
+use Rattle.circom_named.specs.Named.{check_named_of}
 use Rattle.circom_files.specs.Proving.{Audits, Proves, public_of}
 use Rattle.circom_files.specs.Reply.{Reply, Says, audited, checked, checked_by_name, confirmed}
 use Rattle.circom_files.specs.Reply.{determined, proved, published, said}

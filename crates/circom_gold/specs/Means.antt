@@ -12,11 +12,11 @@ use Rattle.circom_words.specs.Words.{public, audit, name_signals, confirm, deter
 use Rattle.circom_files.specs.Accepted.{IsAccepted, IsProofOf}
 use Rattle.circom_files.specs.Determining.{HasCertificate, HasDetermined, HoldsCertificate}
 use Rattle.circom_files.specs.Determining.{IsCertificateOf}
-use Rattle.circom_files.specs.Named.{described_of, failing_names}
+use Rattle.circom_named.specs.Named.{described_of, failing_names}
 use Rattle.circom_files.specs.Proving.{witness_of}
 use Rattle.circom_files.specs.Running.{halted}
 use Rattle.circom_files.specs.Satisfaction.{FailsFirstAt, IsAssignment, Satisfies}
-use Rattle.circom_files.specs.declared.outcome.Described.{Described}
+use Rattle.circom_named.specs.declared.described.Described.{Described}
 use Rattle.circom_files.specs.declared.outcome.Halt.{Halt}
 use Rattle.circom_files.specs.declared.outcome.Ran.TheVariants.{Halted}
 use Rattle.circom_files.specs.declared.outcome.Witness.{Witness}

@@ -8,7 +8,7 @@ use Rattle.circom_words.specs.Words.{Command, check, check_named, compile, witne
 use Rattle.circom_words.specs.Words.{public, audit, name_signals, confirm, determine, generate}
 use Rattle.circom_files.specs.Check.{check_of}
 use Rattle.circom_files.specs.Determining.{Confirms, Searches, WritesRules}
-use Rattle.circom_files.specs.Named.{check_named_of}
+use Rattle.circom_named.specs.Named.{check_named_of}
 use Rattle.circom_files.specs.Proving.{Audits, Proves, public_of}
 use Rattle.circom_files.specs.Reply.{Reply, Says, audited, checked, checked_by_name, confirmed}
 use Rattle.circom_files.specs.Reply.{determined, proved, published, usage, written}

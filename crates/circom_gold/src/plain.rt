@@ -19,9 +19,10 @@ use crate::compile::compile_reply;
 use crate::giving::give;
 use crate::symbols::symbols_reply;
 use circom_files::{
-    Reply, audit_reply, check_named_reply, check_reply, confirm_reply, determine_reply,
-    prove_reply, public_reply, write_file,
+    Reply, audit_reply, check_reply, confirm_reply, determine_reply, prove_reply, public_reply,
+    write_file,
 };
+use circom_named::check_named_reply;
 use circom_words::{Command, PlainCommand};
 use out_io::{IoFault, Sink, Store};
 use std::alloc::{AllocError, Global};
