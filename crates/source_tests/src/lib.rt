@@ -6,6 +6,8 @@ mod checks;
 #[cfg(test)]
 mod compiling;
 #[cfg(test)]
+mod naming;
+#[cfg(test)]
 mod refusing;
 #[cfg(test)]
 mod running;
