@@ -11,6 +11,8 @@ pub mod NoInput
 pub mod Sourcing
 pub mod Witnessing
 pub mod Batching
+pub mod OneBatch
+pub mod BatchLaws
 pub mod Generating
 pub mod Doing
 pub mod Meanings

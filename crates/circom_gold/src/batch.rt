@@ -147,12 +147,7 @@ fn items_of(
     Ok(items)
 }
 
-fn item_at(
-    alloc: Global,
-    built: &Built,
-    entry: Entry,
-    ends: &[RunEnd],
-) -> Result<Item, AllocError>
+fn item_at(alloc: Global, built: &Built, entry: Entry, ends: &[RunEnd]) -> Result<Item, AllocError>
     requires limits { InLimits built.now.file }
     requires within { IsWithin (length ends.now) entry }
     ensures { IfOk result (IsEntryItem built.now.loaded.program.files

@@ -3,6 +3,7 @@
 #![tactic(auto)]
 
 mod batch;
+mod batch_law;
 mod circuit;
 mod compile;
 mod generate;
@@ -15,6 +16,7 @@ mod running;
 mod source;
 mod witness;
 
+pub use batch_law::batch_laws;
 pub use circom_files::check_laws;
 pub use laws::{
     audit_laws, check_accepts_witnesses, compile_laws, compile_witness_check, determine_confirm,

@@ -24,7 +24,9 @@ pub enum Refusal {
     /// What is wrong with inputs or public values.
     BadInput(BadInput),
     /// A batch counts so much, which is above the limit.
-    LargeBatch { size: u128 },
+    LargeBatch {
+        size: u128,
+    },
 }
 
 /// What is wrong with a JSON file of inputs, or of public values, whose name is then `public`.

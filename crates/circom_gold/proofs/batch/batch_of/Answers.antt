@@ -21,10 +21,13 @@ pub run_batch-requires-clause-tasks : goal.run_batch-requires-clause-tasks
 run_batch-requires-clause-tasks g c κs within =
     let x = c.args.coded in (
       program_of x,
-      rw (c.as_slice-2.ensures.value, c.in_ok-cut.ensures,
-      c.take_code-code.ensures.code)
-      (all_tasks c.requires.coded.0 x c.requires.coded.1 c.in_ok-starts.field-0.starts.items
-      (rw c.take_code-code.ensures.circuit at c.in_ok-starts.ensures.starts)),
+      rw (
+        c.as_slice-2.ensures.value,
+        c.in_ok-cut.ensures,
+        c.take_code-code.ensures.code,
+      )
+          (all_tasks c.requires.coded.0 x c.requires.coded.1 c.in_ok-starts.field-0.starts.items
+          (rw c.take_code-code.ensures.circuit at c.in_ok-starts.ensures.starts)),
     )
 
 pub run_batch-requires-clause-small : goal.run_batch-requires-clause-small
@@ -51,8 +54,12 @@ items_of-requires-clause-within g c =
     rw c.as_slice-3.ensures.value
     (all_within c.requires.coded.0 x c.requires.coded.1 c.args.running.fuel given.starts.items
     c.in_ok-ends.ends.items
-    (rw (c.as_slice-2.ensures.value, c.in_ok-cut.ensures,
-    c.take_code-code.ensures.code, c.from-fuel.ensures) at c.in_ok-ends.ensures (program_of x))
+    (rw (
+      c.as_slice-2.ensures.value,
+      c.in_ok-cut.ensures,
+      c.take_code-code.ensures.code,
+      c.from-fuel.ensures,
+    ) at c.in_ok-ends.ensures (program_of x))
     (λ line. line.now) c.in_ok-lines.lines.items given.entries.items
     (rw (c.as_slice.ensures.value, c.take_code-code.ensures.circuit)
     at c.in_ok-starts.ensures.entries))
@@ -86,14 +93,22 @@ returns-clause-batches g c =
     rw c.of-2.ensures
     (all_batched c.requires.coded.0 x c.requires.coded.1 c.args.running.fuel c.args.text.now
     given.starts.items c.in_ok-ends.ends.items
-    (rw (c.as_slice-2.ensures.value, c.in_ok-cut.ensures,
-    c.take_code-code.ensures.code, c.from-fuel.ensures) at c.in_ok-ends.ensures (program_of x))
+    (rw (
+      c.as_slice-2.ensures.value,
+      c.in_ok-cut.ensures,
+      c.take_code-code.ensures.code,
+      c.from-fuel.ensures,
+    ) at c.in_ok-ends.ensures (program_of x))
     (λ line. line.now) lines.items given.entries.items c.in_ok-items.items.items
     c.in_ok-lines.ensures
     (rw (c.as_slice.ensures.value, c.take_code-code.ensures.circuit)
     at c.in_ok-starts.ensures.entries)
-    (rw (c.as_slice-3.ensures.value, c.take_code-code.ensures.loaded,
-    c.take_code-code.ensures.circuit, c.take_code-code.ensures.file)
+    (rw (
+      c.as_slice-3.ensures.value,
+      c.take_code-code.ensures.loaded,
+      c.take_code-code.ensures.circuit,
+      c.take_code-code.ensures.file,
+    )
     at c.in_ok-items.ensures)
     (omega (arith, size, small)))
 

@@ -8,9 +8,11 @@ use Rattle.circom_gold.proofs.Batching.{batched_below}
 use Rattle.circom_gold.proofs.batch.batch_reply.Goals as goal
 
 pub returns-in_ok-written-in-Ok-clause-says : goal.returns-in_ok-written-in-Ok-clause-says
-returns-in_ok-written-in-Ok-clause-says g c = λ files may.
-    (Ok c.in-Ok.items, c.in-Ok.ensures.step files may,
-    c.in_ok-written-in-Ok.ensures ∙ ap (batched c.args.out.now) c.as_slice.ensures)
+returns-in_ok-written-in-Ok-clause-says g c = λ files may. (
+  Ok c.in-Ok.items,
+  c.in-Ok.ensures.step files may,
+  c.in_ok-written-in-Ok.ensures ∙ ap (batched c.args.out.now) c.as_slice.ensures,
+)
 
 pub returns-in_ok-written-in-Ok-clause-status : goal.returns-in_ok-written-in-Ok-clause-status
 returns-in_ok-written-in-Ok-clause-status g c =
