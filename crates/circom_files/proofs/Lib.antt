@@ -9,3 +9,5 @@ pub mod Numbers
 pub mod Once
 pub mod Given
 pub mod Statuses
+pub mod Wired
+pub mod Describing

@@ -4,6 +4,7 @@ pub mod Determining
 pub mod Files
 pub mod Given
 pub mod Held
+pub mod Named
 pub mod Proving
 pub mod Reply
 pub mod Running

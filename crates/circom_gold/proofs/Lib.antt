@@ -9,6 +9,7 @@ pub mod Satisfied
 pub mod WitnessLaws
 pub mod NoInput
 pub mod Sourcing
+pub mod SymbolLines
 pub mod Witnessing
 pub mod Batching
 pub mod OneBatch

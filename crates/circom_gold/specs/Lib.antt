@@ -1,5 +1,6 @@
 -- What the contract of `run` says.
 pub mod Compile
+pub mod Symbols
 pub mod Course
 pub mod Witness
 pub mod Batch

@@ -14,6 +14,7 @@ mod plain;
 mod program;
 mod running;
 mod source;
+mod symbols;
 mod witness;
 
 pub use batch_law::batch_laws;
