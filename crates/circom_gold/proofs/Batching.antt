@@ -31,7 +31,7 @@ use Rattle.wit_run.specs.declared.ending.RunEnd.TheVariants as end
 use Rattle.circom_words.specs.Words.{Options}
 use Rattle.circom_lines.specs.declared.answer.Refusal.{Refusal}
 use Rattle.circom_lines.specs.declared.answer.Refusal.TheVariants.{LargeBatch}
-use Rattle.circom_files.specs.Held.{OfAll}
+use Rattle.out_io.specs.Held.{OfAll}
 use Rattle.circom_files.specs.Files.{bytes_in}
 use Rattle.circom_files.specs.Running.{accepted_input, input_in}
 use Rattle.circom_files.specs.Steps.{Steps, StepsTo}
@@ -48,7 +48,7 @@ use Rattle.circom_gold.specs.Batch.{Batches, Counts, GivesLine, IsItem, batched,
 use Rattle.circom_gold.specs.Batching.{BatchesOn, IsEntryItem, IsWithin, end_item}
 use Rattle.circom_gold.specs.Running.{EndsIn, shown_place}
 use Rattle.circom_gold.specs.Source.{IsCoded, IsLoadedFrom, program_of}
-use Rattle.circom_gold.specs.Witness.{IsRunOf, IsSource, values_by_wire}
+use Rattle.circom_gold.specs.Witness.{GivesInput, IsRunOf, IsSource, values_by_wire}
 use Rattle.circom_gold.specs.declared.source.Coded.{Coded}
 use Rattle.circom_gold.proofs.Sourcing.{Compiling, input_is}
 use Rattle.circom_gold.proofs.Witnessing.{first, has_inputs, run_of, same_instances, source_of, task}
@@ -120,6 +120,18 @@ few_lines cells steps lines small =
 
 -- ---- what a line comes to
 
+-- a line as a file alone
+abbrev pub alone : List ℕ → Contents
+alone line name = Some line
+
+pub as_given : (line : List ℕ) (p : Program) (found : Result (List ℕ) Refusal)
+    → GivesLine line p found → GivesInput (alone line) [] p found
+as_given line p found g = record {
+  inputs = g.inputs;
+  has = g.has;
+  reads = input_is (alone line) [] g.inputs ∙ g.reads;
+}
+
 abbrev ran_of : (files instances : List (List ℕ)) → File → RunEnd → Ran
 ran_of files instances file (end.Ended numbers log) = Ended (values_by_wire file numbers) log
 ran_of files instances file (end.Stopped stop place log) =
@@ -145,10 +157,6 @@ module _ (level : Level) (x : Coded) (coded : IsCoded level x) (fuel : ℕ)
 
   abbrev shown_end : RunEnd → Item
   shown_end e = end_item p.files instances x.file e
-
-  -- a line as a file alone
-  abbrev alone : List ℕ → Contents
-  alone line name = Some line
 
   given : (line : List ℕ) (found : Result (List ℕ) Refusal)
       → accepted_input inputs (input_of line inputs) ≡ found → GivesLine line p found

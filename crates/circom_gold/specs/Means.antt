@@ -8,7 +8,7 @@ use Rattle.cir_compile.specs.Compiled.{IsCompiled}
 use Rattle.circom_lines.specs.Symbols.{named_line}
 use Rattle.circom_lines.specs.declared.answer.Verdict.TheVariants.{ConstraintFails}
 use Rattle.circom_words.specs.Words.{Command, check, check_named, compile, witness, prove}
-use Rattle.circom_words.specs.Words.{public, audit, name_signals, confirm, determine, generate}
+use Rattle.circom_words.specs.Words.{public, audit, name_signals, batch, confirm, determine, generate}
 use Rattle.circom_files.specs.Accepted.{IsAccepted, IsProofOf}
 use Rattle.circom_files.specs.Determining.{HasCertificate, HasDetermined, HoldsCertificate}
 use Rattle.circom_files.specs.Determining.{IsCertificateOf}
@@ -20,6 +20,7 @@ use Rattle.circom_named.specs.declared.described.Described.{Described}
 use Rattle.circom_files.specs.declared.outcome.Halt.{Halt}
 use Rattle.circom_files.specs.declared.outcome.Ran.TheVariants.{Halted}
 use Rattle.circom_files.specs.declared.outcome.Witness.{Witness}
+use Rattle.circom_gold.specs.Batch.{HasBatch, IsBatchOf}
 use Rattle.circom_gold.specs.Compile.{AreConstraintsOf, task_of}
 use Rattle.circom_gold.specs.Symbols.{AreNamesIn}
 use Rattle.circom_gold.specs.Witness.{HasGenerated, HasWitness, IsWitnessOf, IsWitnessed}
@@ -89,6 +90,11 @@ Means (audit r1cs publics proof) files after exit text =
 Means (name_signals source out options) files after exit text =
     ((exit ≡ 0) ↔ ((file : File) × IsCompiled files (task_of source options) file))
     × (exit ≡ 0 → IsSomeAnd (after out) (AreNamesIn files source options))
+-- 0 exactly where the source compiles, the inputs are there, and they don't count more than a batch
+-- may; the items of their lines are under OUT then, each that of its line alone
+Means (batch source inputs out options running) files after exit text =
+    ((exit ≡ 0) ↔ HasBatch files source inputs options running.fuel)
+    × (exit ≡ 0 → IsSomeAnd (after out) (IsBatchOf files source inputs options running.fuel))
 -- 0 exactly where there are rules that show that the inputs determine the outputs; such rules are
 -- under OUT then
 Means (determine r1cs out) files after exit text =
