@@ -8,7 +8,8 @@ use Rattle.cir_compile.specs.Compiled.{IsCompiled}
 use Rattle.circom_lines.specs.Symbols.{named_line}
 use Rattle.circom_lines.specs.declared.answer.Verdict.TheVariants.{ConstraintFails}
 use Rattle.circom_words.specs.Words.{Command, check, check_named, compile, witness, prove}
-use Rattle.circom_words.specs.Words.{public, audit, name_signals, batch, confirm, determine, generate}
+use Rattle.circom_words.specs.Words.{public, audit, name_signals, batch, confirm, determine}
+use Rattle.circom_words.specs.Words.{generate}
 use Rattle.circom_files.specs.Accepted.{IsAccepted, IsProofOf}
 use Rattle.circom_files.specs.Determining.{HasCertificate, HasDetermined, HoldsCertificate}
 use Rattle.circom_files.specs.Determining.{IsCertificateOf}

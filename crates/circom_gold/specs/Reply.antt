@@ -5,7 +5,8 @@ use Rattle.iden_files.specs.File.{File}
 use Rattle.iden_files.specs.Spelling.{r1cs_bytes}
 use Rattle.circom_lines.specs.Lines.{compiled_line}
 use Rattle.circom_words.specs.Words.{Command, check, check_named, compile, witness, prove}
-use Rattle.circom_words.specs.Words.{public, audit, name_signals, batch, confirm, determine, generate}
+use Rattle.circom_words.specs.Words.{public, audit, name_signals, batch, confirm, determine}
+use Rattle.circom_words.specs.Words.{generate}
 use Rattle.circom_files.specs.Check.{check_of}
 use Rattle.circom_files.specs.Determining.{Confirms, Searches, WritesRules}
 use Rattle.circom_named.specs.Named.{check_named_of}
