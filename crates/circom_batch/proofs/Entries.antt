@@ -1,5 +1,6 @@
 -- Entries of lines, while lists of numbers are added.
-use Rattle.std.proofs.Common.{◌≡◌, ℕ, zero, suc, ◌+◌, ◌≤◌, ◌<◌, List, [], ◌∷◌, ◌++◌, length}
+use Rattle.std.proofs.Common.{◌≡◌, ℕ, zero, suc, ◌+◌, ◌≤◌, ◌<◌, List, []}
+use Rattle.std.proofs.Common.{◌∷◌, ◌++◌, length}
 use Rattle.std.proofs.Common.{Ok, Err, All, Vec, Global, ap, arith, slice_get, subst}
 use Rattle.std.proofs.Common.{subst₂, sym, get_or, take}
 use Rattle.std.specs.Prelude.{IsSomeAnd}
@@ -94,7 +95,8 @@ module _ (inputs : List InputShape) where
         → IsTaken inputs starts (text (get_or lines i d)) after entry
         → Give after (take (i + 1) lines) (entries ++ entry ∷ [])
     entries_more starts after lines entries i d entry near h t =
-        subst (λ (ls : List A). Give after ls (entries ++ entry ∷ [])) (sym (take_more lines i d near))
+        subst (λ (ls : List A). Give after ls (entries ++ entry ∷ []))
+        (sym (take_more lines i d near))
         (all_zipped_more (λ (l : A) (e : Entry). IsEntry inputs after (text l) e) (take i lines)
         entries (get_or lines i d) entry
         (subst (λ (ss : List (Vec ℕ Global)). Give ss (take i lines) entries) (sym t.behind)

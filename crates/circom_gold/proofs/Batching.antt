@@ -1,6 +1,8 @@
 -- What the lines of a batch come to.
-use Rattle.std.proofs.Common.{◌≡◌, ◌∙◌, ℕ, zero, suc, ◌+◌, ◌*◌, ◌<◌, ◌≤◌, List, [], ◌∷◌, ◌++◌, length}
-use Rattle.std.proofs.Common.{append_assoc, Some, Result, Ok, Err, All, Vec, Global, refl, ap, arith, sym}
+use Rattle.std.proofs.Common.{◌≡◌, ◌∙◌, ℕ, zero, suc, ◌+◌, ◌*◌, ◌<◌}
+use Rattle.std.proofs.Common.{◌≤◌, List, [], ◌∷◌, ◌++◌, length}
+use Rattle.std.proofs.Common.{append_assoc, Some, Result, Ok, Err, All, Vec, Global, refl, ap}
+use Rattle.std.proofs.Common.{arith, sym}
 use Rattle.std.proofs.Common.{map, slice_get, subst, inl, inr}
 use Rattle.std.specs.Prelude.{IsSomeAnd}
 use Rattle.std.specs.List.{AllZip}
@@ -51,7 +53,8 @@ use Rattle.circom_gold.specs.Source.{IsCoded, IsLoadedFrom, program_of}
 use Rattle.circom_gold.specs.Witness.{GivesInput, IsRunOf, IsSource, values_by_wire}
 use Rattle.circom_gold.specs.declared.source.Coded.{Coded}
 use Rattle.circom_gold.proofs.Sourcing.{Compiling, input_is}
-use Rattle.circom_gold.proofs.Witnessing.{first, has_inputs, run_of, same_instances, source_of, task}
+use Rattle.circom_gold.proofs.Witnessing.{first, has_inputs, run_of, same_instances, source_of}
+use Rattle.circom_gold.proofs.Witnessing.{task}
 use Rattle.circom_gold.proofs.Witnessing.{task_of_first}
 
 -- ---- a list that is taken one by one
@@ -168,7 +171,8 @@ module _ (level : Level) (x : Coded) (coded : IsCoded level x) (fuel : ℕ)
     read : input_in (alone line) [] inputs ≡ Ok start
     read = input_is (alone line) [] inputs ∙ reads
 
-    ran_on : (e : RunEnd) → IsRunFrom p x.code fuel start e → IsItem p x.file fuel line (shown_end e)
+    ran_on : (e : RunEnd) → IsRunFrom p x.code fuel start e
+        → IsItem p x.file fuel line (shown_end e)
     ran_on e run = (Ok ran, (numbers, gives, runs_so), is e)
       where
         ran : Ran

@@ -1,5 +1,6 @@
 -- What `batch` finds is one.
-use Rattle.std.proofs.Common.{◌≡◌, ◌∙◌, ℕ, ◌*◌, ◌+◌, ◌<◌, ◌≤◌, inl, inr, List, [], ◌∷◌, length, Some}
+use Rattle.std.proofs.Common.{◌≡◌, ◌∙◌, ℕ, ◌*◌, ◌+◌, ◌<◌, ◌≤◌, inl}
+use Rattle.std.proofs.Common.{inr, List, [], ◌∷◌, length, Some}
 use Rattle.std.proofs.Common.{Result, Ok, Err, refl, ap, ap₂, arith, subst, sym}
 use Rattle.std.specs.List.{AllZip}
 use Rattle.text_lines.specs.Lines.{lines_of}

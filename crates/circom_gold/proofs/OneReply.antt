@@ -3,7 +3,8 @@ use Rattle.std.proofs.Common.{◌≡◌, ◌∙◌, ℕ, List, Option, Some, Non
 use Rattle.std.proofs.Common.{inr, subst, sym}
 use Rattle.out_io.specs.Contents.{Contents}
 use Rattle.circom_words.specs.Words.{Command, check, check_named, compile, witness, prove}
-use Rattle.circom_words.specs.Words.{public, audit, name_signals, batch, confirm, determine, generate}
+use Rattle.circom_words.specs.Words.{public, audit, name_signals, batch, confirm, determine}
+use Rattle.circom_words.specs.Words.{generate}
 use Rattle.circom_lines.specs.declared.answer.Refusal.{Refusal}
 use Rattle.cir_determined.specs.declared.rule.Answer.{Answer}
 use Rattle.circom_files.proofs.Certified.{one_confirm, one_search, shown_written}

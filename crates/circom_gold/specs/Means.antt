@@ -33,8 +33,8 @@ pub record AreRead (P : File → List ℕ → Type 0) (files : Contents) (r1cs w
   pub read : witness_of files r1cs wtns ≡ Ok witness
   pub so : P witness.file witness.values
 
--- the files under the three names are read as constraints, as values that satisfy them, and as names
--- of wires
+-- the files under the three names are read as constraints, as values that satisfy them, and as
+-- names of wires
 pub record AreSatisfied (files : Contents) (r1cs wtns names : List ℕ) : Type 0 where
   pub described : Described
   pub read : described_of files r1cs wtns names ≡ Ok described
