@@ -2,9 +2,10 @@
 # Times `circom_gold check`, and `prove` and `audit` in both versions of a proof, on satisfied files
 # of each given number of constraints, three terms each, or on the files NAME.r1cs and NAME.wtns.
 # Prints the least seconds of the runs by the clock, reading and writing of the files included, the
-# least of the processor's seconds, and these in units. A unit is what python's hashlib takes for the
-# SHA-256 of 256 MB of zeros; each run is followed by one, and the least of these counts. So figures
-# of different machines and hours can be compared.
+# least of the processor's seconds, and these in units. A unit is what python's hashlib takes for
+# the SHA-256 of 256 MB of zeros without the processor's instructions for it, which make it four
+# times faster where there are any; each run is followed by one, and the least of these counts. So
+# figures of different machines and hours can be compared. The last line says how long a unit took.
 #
 # usage: bench/prove.sh [CONSTRAINTS or NAME ..]
 # (4096, 16384 and 131072 where none is given; RUNS=3 sets the runs)
@@ -23,8 +24,9 @@ done
 cc -O2 -o make_circuit "$top/bench/make_circuit.c"
 seed=$(printf '%064d' 7)
 
+# The variable is OpenSSL's, and takes the instructions for SHA-256 away.
 unit() {
-    python3 -c '
+    OPENSSL_ia32cap=':~0x20000000' python3 -c '
 import hashlib, time
 block = bytes(1 << 20)
 start = time.process_time()
@@ -70,3 +72,4 @@ for name in "${names[@]}"; do
         row audit $version accepted "$program" audit made.r1cs made.json made.proof
     done
 done
+printf 'unit: %.3f seconds\n' "$(unit)"

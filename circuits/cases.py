@@ -540,6 +540,7 @@ BAD_PARAMETERS = {
     "range": {"AssertRange": ([64],), "AssertBetween": ([5, 4], [0, 2**62]),
               "AssertDistinct": ([1],)},
     "select": {"MultiMux": ([0, 1], [17, 1])},
+    "sort": {"AssertSorted": ([2, 63],)},
     "words": {"Num2Bytes": ([8],), "Bytes2Num": ([8],), "Bitwise": ([63],),
               "RotateLeft": ([8, 8],)},
     "arithmetic": {"AddWords": ([62, 4],), "DivideWithRemainder": ([32, 32], [0, 8])},

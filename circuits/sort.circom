@@ -76,6 +76,7 @@ template Sort(k, n) {
 // Constrains: each in[i] is 0 to 2^n - 1, and in[i] <= in[i + 1].
 // The caller must: nothing.
 template AssertSorted(k, n) {
+  assert(n <= 62);
   signal input in[k];
   AssertRanges(k, n)(in);
   for (var i = 0; i + 1 < k; i++) { AssertRange(n)(in[i + 1] - in[i]); }

@@ -47,18 +47,23 @@ def written():
     return files
 
 
+def read(name):
+    with open(f"{CRATE}/{name}") as file:
+        return file.read()
+
+
 def main():
     if sys.argv[1:] not in ([], ["--check"]):
         sys.exit(__doc__)
+    if sys.argv[1:]:
+        there = {"texts.rt"} | {f"texts/{name}" for name in os.listdir(f"{CRATE}/texts")}
+        if there != set(written()) or any(read(name) != it for name, it in written().items()):
+            sys.exit("library_tests hasn't the texts that tools/library_texts.py writes")
+        return
     os.makedirs(f"{CRATE}/texts", exist_ok=True)
     for name, text in written().items():
-        if sys.argv[1:]:
-            with open(f"{CRATE}/{name}") as file:
-                if file.read() != text:
-                    sys.exit(f"{name} of library_tests isn't what tools/library_texts.py writes")
-        else:
-            with open(f"{CRATE}/{name}", "w") as file:
-                file.write(text)
+        with open(f"{CRATE}/{name}", "w") as file:
+            file.write(text)
 
 
 main()

@@ -16,9 +16,10 @@
     --at K        only constraint, or wire, or line K
 
 It reads .r1cs and .wtns files over p = 2^64 - 2^32 + 1 with numbers of 8 bytes, as the program
-does, and refuses what the program refuses, by the same line (docs/file-formats.md). Nothing is
-printed of a file that is refused. Nothing here is proved. Its status is 0, 1 for a file that is
-refused, 3 where the system fails, and 64 where the words have no reading.
+does, and refuses what the program refuses, by the same line with a reason behind it in brackets
+(docs/file-formats.md). Nothing is printed of a file that is refused. Nothing here is proved. Its
+status is 0, 1 for a file that is refused, 3 where the system fails, and 64 where the words have no
+reading.
 """
 import io
 import json
@@ -240,8 +241,13 @@ class Wtns(Binary):
         return self.numbers(2, 8)
 
 
+def number_of(digits):
+    """The number of these digits. Of one with too many, some number that is as much too great."""
+    return int(digits.lstrip(b"0")[:30] or b"0")
+
+
 class Sym:
-    """A file of symbols, a line `LABEL,WIRE,COMPONENT,NAME` a signal."""
+    """A file of symbols, a line `LABEL,WIRE,INSTANCE,NAME` a signal."""
 
     LINE = re.compile(rb"([0-9]+),(-1|[0-9]+),([0-9]+),(.+)", re.DOTALL)
 
@@ -254,7 +260,7 @@ class Sym:
         raise Refused(f"refused: {self.name}: {cause} at line {number}")
 
     def lines(self):
-        """Each line in turn: its label, its wire or None, its component and its name."""
+        """Each line in turn: its label, its wire or None, its instance and its name."""
         self.file.seek(0)
         for number, line in enumerate(self.file, 1):
             if number > MOST_LINES:
@@ -265,14 +271,14 @@ class Sym:
         found = self.LINE.fullmatch(line)
         if not found:
             self.refuse("S1 BadLine", number)
-        label, wire, component = (int(it) for it in found.groups()[:3])
-        if label >= 2**64 or wire >= 2**32 or component >= 2**64:
+        label, wire, instance = (number_of(it) for it in found.groups()[:3])
+        if label >= 2**64 or wire >= 2**32 or instance >= 2**64:
             self.refuse("S1 BadLine", number)
         try:
             name = found[4].decode()
         except UnicodeDecodeError:
             self.refuse("S1 BadLine", number)
-        return label, None if wire < 0 else wire, component, name
+        return label, None if wire < 0 else wire, instance, name
 
     def names(self):
         """The name of each wire, by the first line that has it."""
@@ -462,17 +468,17 @@ def wtns_json(name, options):
 
 def sym_print(name, options):
     lines = Sym(name).lines()
-    for number, (label, wire, component, name) in enumerate(lines, 1):
+    for number, (label, wire, instance, name) in enumerate(lines, 1):
         if "--at" not in options or number == options["--at"]:
             where = "no wire" if wire is None else f"wire {wire}"
-            yield f"signal {label}: {name}, {where}, component {component}"
+            yield f"signal {label}: {name}, {where}, instance {instance}"
 
 
 def sym_json(name, options):
     yield "["
-    yield from listed(json.dumps({"label": label, "wire": wire, "component": component,
+    yield from listed(json.dumps({"label": label, "wire": wire, "instance": instance,
                                   "name": name}, ensure_ascii=False)
-                      for label, wire, component, name in Sym(name).lines())
+                      for label, wire, instance, name in Sym(name).lines())
     yield "]"
 
 

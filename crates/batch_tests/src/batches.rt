@@ -37,7 +37,7 @@ fn are_same(one: &Outcome, other: &Outcome) -> bool {
     }
 }
 
-/// Lists of one start value each: of so many numbers below a million, and after each tenth of them
+/// Lists of one start value each: of so many numbers below 2^20, and after each tenth of them
 /// one with which the first step of a sample stops, or a step of a chain after it.
 fn starts_of<R: AllocGlobal + Abort>(rt: &R, count: u32) -> Vec<Vec<Gold>>
     ensures { All (λ start. length start.items ≡ 1) result.items }

@@ -51,6 +51,14 @@ steps_later view before held meaning fails failed (Err (Refused r)) fewer rose s
 steps_later view before held meaning fails failed (Err StoreFailed) fewer rose step = rose step
 steps_later view before held meaning fails failed (Err OutOfMemory) fewer rose step = tt
 
+-- a step that gave nothing, whatever it would have given
+pub none_given : {X Z Y : Type 0} (view : X → Y) (other : Z → Y) (held : Contents → Type 0)
+    (meaning : Contents → Result Y Refusal) (failed : Type 0) (e : Stop)
+    → Steps view held meaning failed (Err e) → Steps other held meaning failed (Err e)
+none_given view other held meaning failed (Refused r) step = step
+none_given view other held meaning failed StoreFailed step = step
+none_given view other held meaning failed OutOfMemory step = tt
+
 -- what was read before is known of all contents that there may be
 module _ (held : Contents → Type 0) (first : Read) (bytes : List ℕ)
     (all : first.bytes.now ≡ bytes)

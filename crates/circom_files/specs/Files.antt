@@ -10,12 +10,16 @@ use Rattle.text_lines.specs.Reading.{LineRefusal, bad, over}
 use Rattle.cir_determined.specs.Text.{rules_of}
 use Rattle.cir_determined.specs.declared.rule.Rule.{Rule}
 use Rattle.circom_lines.specs.declared.answer.Refusal.{Refusal}
-use Rattle.circom_lines.specs.declared.answer.Refusal.TheVariants.{NoSuchFile, BadFile, BadRules}
-use Rattle.circom_lines.specs.declared.answer.RuleCause.TheVariants.{BadLine, Limit}
+use Rattle.circom_lines.specs.declared.answer.Refusal.TheVariants.{NoSuchFile, BadFile, BadLines}
+use Rattle.circom_lines.specs.declared.answer.LineKind.{LineKind}
+use Rattle.circom_lines.specs.declared.answer.LineKind.TheVariants.{Rule as OfRules, Symbol}
+use Rattle.circom_lines.specs.declared.answer.LineCause.TheVariants.{BadLine, Limit}
 use Rattle.circom_lines.specs.declared.answer.Refusal.TheVariants.{BadInput as BadInputs}
 use Rattle.circom_lines.specs.declared.answer.BadInput.{BadInput}
 use Rattle.circom_lines.specs.declared.answer.BadInput.TheVariants.{NotJson}
 use Rattle.circom_lines.specs.declared.answer.BadInput.TheVariants.{BadNumber as BadNumbers}
+use Rattle.sym_file.specs.Line.{symbols_of}
+use Rattle.sym_file.specs.declared.line.SymLine.{SymLine}
 use Rattle.wit_input.specs.Publics.{publics_of}
 use Rattle.wit_input.specs.declared.fault.InputFault.{InputFault}
 use Rattle.wit_input.specs.declared.fault.InputFault.TheVariants.{BadNumber}
@@ -60,15 +64,29 @@ publics_in files name = do
   bytes ← bytes_in files name
   accepted_publics (publics_of bytes)
 
--- what a text of rules says, or what is wrong with it
+-- what a text of such lines says, or what is wrong with it
+abbrev pub accepted_lines : {X : Type 0} → LineKind → List ℕ → Result X LineRefusal
+    → Result X Refusal
+accepted_lines kind name (Ok lines) = Ok lines
+accepted_lines kind name (Err (bad line)) = Err (BadLines name kind BadLine line)
+accepted_lines kind name (Err (over line)) = Err (BadLines name kind Limit line)
+
 abbrev pub accepted_rules : List ℕ → Result (List Rule) LineRefusal
     → Result (List Rule) Refusal
-accepted_rules name (Ok rules) = Ok rules
-accepted_rules name (Err (bad line)) = Err (BadRules name BadLine line)
-accepted_rules name (Err (over line)) = Err (BadRules name Limit line)
+accepted_rules name found = accepted_lines OfRules name found
 
 -- the rules under the name
 unfoldable pub rules_in : Contents → List ℕ → Result (List Rule) Refusal
 rules_in files name = do
   bytes ← bytes_in files name
   accepted_rules name (rules_of bytes)
+
+abbrev pub accepted_symbols : List ℕ → Result (List SymLine) LineRefusal
+    → Result (List SymLine) Refusal
+accepted_symbols name found = accepted_lines Symbol name found
+
+-- the names of wires under the name
+unfoldable pub symbols_in : Contents → List ℕ → Result (List SymLine) Refusal
+symbols_in files name = do
+  bytes ← bytes_in files name
+  accepted_symbols name (symbols_of bytes)

@@ -10,9 +10,12 @@ use Rattle.circom_lines.specs.Determining.{confirmed_line, confirmed_status, det
 use Rattle.circom_lines.specs.Determining.{undetermined_line}
 use Rattle.circom_lines.specs.Lines.{usage_line, fault_line, refusal_line, verdict_status}
 use Rattle.circom_lines.specs.Lines.{verdict_line}
+use Rattle.circom_lines.specs.Symbols.{named_line, symbols_line}
 use Rattle.circom_lines.specs.Proving.{proved_line, public_line, audit_status, audit_line}
 use Rattle.circom_lines.specs.declared.answer.Refusal.{Refusal}
 use Rattle.circom_lines.specs.declared.answer.Verdict.{Verdict}
+use Rattle.circom_lines.specs.declared.answer.Verdict.TheVariants.{ConstraintFails}
+use Rattle.circom_files.specs.declared.outcome.Named.{Named}
 use Rattle.circom_files.specs.declared.outcome.Outcome.{Outcome}
 use Rattle.circom_files.specs.declared.outcome.Outcome.TheVariants.{Made, Unmade}
 use Rattle.circom_files.specs.declared.outcome.Published.{Published}
@@ -47,6 +50,18 @@ checked verdict = record {
   file = None;
 }
 
+-- the same, and where a constraint fails, the names of its wires
+abbrev pub text_by_name : Verdict → (names : List (List ℕ)) → List ℕ
+text_by_name (ConstraintFails index) names = named_line index names
+text_by_name verdict names = verdict_line verdict
+
+abbrev pub checked_by_name : Named → Reply
+checked_by_name found = record {
+  status = verdict_status found.verdict;
+  text = text_by_name found.verdict found.names;
+  file = None;
+}
+
 -- success, with this line, and a file under the name
 abbrev pub written : (text out bytes : List ℕ) → Reply
 written text out bytes = record {
@@ -54,6 +69,10 @@ written text out bytes = record {
   text = text;
   file = Some (record { name = out; bytes = bytes });
 }
+
+-- so many lines that name signals are written under the name
+abbrev pub symbols_written : List ℕ → (lines : ℕ) → (text : List ℕ) → Reply
+symbols_written out lines text = written (symbols_line lines) out text
 
 -- the proof is written under the name
 abbrev pub proved : List ℕ → Outcome → Reply

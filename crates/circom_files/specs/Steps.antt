@@ -6,8 +6,9 @@ use Rattle.iden_files.specs.declared.fault.FileFault.TheVariants as file
 use Rattle.text_lines.specs.declared.reading.LineFault.{LineFault}
 use Rattle.text_lines.specs.declared.reading.LineFault.TheVariants as lines
 use Rattle.circom_lines.specs.declared.answer.Refusal.{Refusal}
-use Rattle.circom_lines.specs.declared.answer.Refusal.TheVariants.{BadFile, BadInput, BadRules}
-use Rattle.circom_lines.specs.declared.answer.RuleCause.TheVariants.{BadLine, Limit}
+use Rattle.circom_lines.specs.declared.answer.Refusal.TheVariants.{BadFile, BadInput, BadLines}
+use Rattle.circom_lines.specs.declared.answer.LineKind.{LineKind}
+use Rattle.circom_lines.specs.declared.answer.LineCause.TheVariants.{BadLine, Limit}
 use Rattle.wit_input.specs.declared.fault.InputFault.{InputFault}
 use Rattle.wit_input.specs.declared.fault.InputFault.TheVariants as input
 use Rattle.circom_files.specs.Files.{bad_publics, bytes_in}
@@ -58,12 +59,13 @@ Refuses name (file.At cause offset) (Refused refusal) = refusal ≡ BadFile name
 Refuses name fault OutOfMemory = ⊤
 Refuses name fault stop = ⊥
 
--- and for this fault of a text of rules under the name
-abbrev pub RefusesRules : List ℕ → LineFault → Stop → Type 0
-RefusesRules name (lines.BadLine line) (Refused refusal) = refusal ≡ BadRules name BadLine line
-RefusesRules name (lines.Limit line) (Refused refusal) = refusal ≡ BadRules name Limit line
-RefusesRules name fault OutOfMemory = ⊤
-RefusesRules name fault stop = ⊥
+-- and for this fault of a text of such lines under the name
+abbrev pub RefusesLines : LineKind → List ℕ → LineFault → Stop → Type 0
+RefusesLines kind name (lines.BadLine line) (Refused refusal) =
+    refusal ≡ BadLines name kind BadLine line
+RefusesLines kind name (lines.Limit line) (Refused refusal) = refusal ≡ BadLines name kind Limit line
+RefusesLines kind name fault OutOfMemory = ⊤
+RefusesLines kind name fault stop = ⊥
 
 -- and for this fault of a public file
 abbrev pub RefusesPublics : InputFault → Stop → Type 0

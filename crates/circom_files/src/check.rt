@@ -57,8 +57,8 @@ fn check<S: Store>(alloc: Global, r1cs: &str, wtns: &str, store: &mut S) -> Resu
     Ok(verdict(&witness.file, witness.values.as_slice()))
 }
 
-// By the count of values, then wire 0, which stands for 1, then the constraints.
-fn verdict(file: &R1cs, values: &[Gold]) -> Verdict
+/// By the count of values, then wire 0, which stands for 1, then the constraints.
+pub fn verdict(file: &R1cs, values: &[Gold]) -> Verdict
     requires { InLimits file.now }
     ensures { result ≡ verdict file.now values.now }
 {

@@ -1,29 +1,33 @@
-ghost use Rattle.out_io.specs.Held.{OnlyReads};
+ghost use Rattle.out_io.specs.Held.{OfAll, OnlyReads};
 ghost use Rattle.out_io.specs.Faults.{Rose};
 ghost use Rattle.iden_files.specs.File.{InLimits};
-ghost use Rattle.std.specs.Prelude.{◌≡◌, ◌∷◌, [], ◌<◌, ◌^◌, All, IfOk, length};
+ghost use Rattle.std.specs.Prelude.{◌≡◌, ◌∷◌, [], ◌<◌, ◌≤◌, ◌^◌, All, IfOk, length, Ok};
 ghost use Rattle.gold_field.specs.declared.gold.TheConstants.{P};
 ghost use Rattle.iden_files.specs.ReadR1cs.{r1cs_of};
 ghost use Rattle.iden_files.specs.ReadWtns.{wtns_of};
 ghost use Rattle.wit_input.specs.Publics.{publics_of};
 ghost use Rattle.cir_determined.specs.Text.{rules_of};
+ghost use Rattle.sym_file.specs.Line.{symbols_of};
 ghost use Rattle.circom_files.specs.Asked.{Asks};
-ghost use Rattle.circom_files.specs.Files.{accepted, accepted_publics, accepted_rules, bytes_in};
+ghost use Rattle.circom_files.specs.Files.{accepted, accepted_publics, accepted_rules};
+ghost use Rattle.circom_files.specs.Files.{accepted_symbols, bytes_in};
 ghost use Rattle.circom_files.specs.Proving.{witness_of};
 ghost use Rattle.circom_files.specs.Steps.{Gets, HeldWith, Refuses, RefusesPublics};
-ghost use Rattle.circom_files.specs.Steps.{RefusesRules, Steps};
+ghost use Rattle.circom_files.specs.Steps.{RefusesLines, Steps};
 ghost use Rattle.circom_files.specs.Stops.{faults_by};
 
 use crate::outcome::Witness;
 use crate::stop::Stop;
 use cir_ast::Text;
-use cir_determined::{Rule, RuleFault, read_rules};
-use circom_lines::{BadInput, Refusal, RuleCause};
+use cir_determined::{Rule, read_rules};
+use circom_lines::{BadInput, LineCause, LineKind, Refusal};
 use gold_field::Gold;
 use iden_files::{FileFault, R1cs, read_r1cs, read_wtns};
 use items::Items;
 use out_io::Store;
 use std::alloc::Global;
+use sym_file::{SymLine, read_sym};
+use text_lines::LineFault;
 use wit_input::{InputFault, read_publics};
 
 /// The bytes that were read under a name.
@@ -136,21 +140,37 @@ pub fn rules_from(alloc: Global, name: &str, bytes: &[u8]) -> Result<Vec<Rule>, 
 {
     match read_rules(alloc, bytes) {
         Ok(rules) => Ok(rules),
-        Err(fault) => Err(refused_rules(alloc, name, fault)),
+        Err(fault) => Err(refused_lines(alloc, name, LineKind::Rule, fault)),
     }
 }
 
-// Why the rules aren't read.
-fn refused_rules(alloc: Global, name: &str, fault: RuleFault) -> Stop
-    ensures { RefusesRules name.now fault result }
+/// What is said of signals in the bytes that were read under the name.
+pub fn symbols_from(alloc: Global, name: &str, bytes: &[u8]) -> Result<Vec<SymLine>, Stop>
+    ensures step { Gets (λ v. v.items) (accepted_symbols name.now (symbols_of bytes.now)) result }
+    ensures few { IfOk result (λ v. length v.items ≤ 16777216) }
+{
+    match read_sym(alloc, bytes) {
+        Ok(lines) => Ok(lines),
+        Err(fault) => Err(refused_lines(alloc, name, LineKind::Symbol, fault)),
+    }
+}
+
+// Why a text of lines isn't read.
+fn refused_lines(alloc: Global, name: &str, kind: LineKind, fault: LineFault) -> Stop
+    ensures { RefusesLines kind name.now fault result }
 {
     let (cause, line) = match fault {
-        RuleFault::BadLine { line } => (RuleCause::BadLine, line),
-        RuleFault::Limit { line } => (RuleCause::Limit, line),
-        RuleFault::OutOfMemory => return Stop::OutOfMemory,
+        LineFault::BadLine { line } => (LineCause::BadLine, line),
+        LineFault::Limit { line } => (LineCause::Limit, line),
+        LineFault::OutOfMemory => return Stop::OutOfMemory,
     };
     match Text::from_slice(alloc, name.as_bytes()) {
-        Ok(name) => Stop::Refused(Refusal::BadRules { name, cause, line }),
+        Ok(name) => Stop::Refused(Refusal::BadLines {
+            name,
+            kind,
+            cause,
+            line,
+        }),
         Err(_) => Stop::OutOfMemory,
     }
 }
@@ -173,6 +193,32 @@ pub fn witness_in<S: Store>(
         (S.faults store.old) (S.faults store.new)
         (S.never_fails store.old) (S.never_fails store.new) }
 {
+    let (witness, _) = witness_with_text(alloc, r1cs, wtns, store)?;
+    Ok(witness)
+}
+
+/// The same, with the bytes of the file of values.
+pub fn witness_with_text<S: Store>(
+    alloc: Global,
+    r1cs: &str,
+    wtns: &str,
+    store: &mut S,
+) -> Result<(Witness, Vec<u8>), Stop>
+    ensures step { Steps (λ read. read.0) (S.may_hold store.new)
+        (λ files. witness_of files r1cs.now wtns.now)
+        (Rose (S.faults store.old) (S.faults store.new)) result }
+    ensures bytes { IfOk result (λ read. OfAll (S.may_hold store.new)
+        (λ files. bytes_in files r1cs.now ≡ Ok read.0.bytes)) }
+    ensures text { IfOk result (λ read. OfAll (S.may_hold store.new)
+        (λ files. bytes_in files wtns.now ≡ Ok read.1.items)) }
+    ensures limits { IfOk result (λ read. InLimits read.0.file) }
+    ensures numbers { IfOk result (λ read. All (λ value. value < P) read.0.values) }
+    ensures asked { Asks (r1cs.now ∷ wtns.now ∷ []) (S.calls store.old) (S.calls store.new) }
+    ensures counted { S.faults store.new ≡ faults_by result (S.faults store.old) }
+    ensures store { OnlyReads (S.may_hold store.old) (S.may_hold store.new)
+        (S.faults store.old) (S.faults store.new)
+        (S.never_fails store.old) (S.never_fails store.new) }
+{
     let bytes = bytes_in(alloc, store, r1cs)?;
     let file = r1cs_from(alloc, r1cs, bytes.as_slice())?;
     let read = Read {
@@ -181,11 +227,12 @@ pub fn witness_in<S: Store>(
     };
     let text = bytes_after(alloc, store, read, None, wtns)?;
     let values = wtns_from(alloc, wtns, text.as_slice())?;
-    Ok(Witness {
+    let witness = Witness {
         bytes: Items::of(bytes),
         file,
         values: Items::of(values),
-    })
+    };
+    Ok((witness, text))
 }
 
 // Why the public values aren't read.

@@ -16,11 +16,11 @@ mod stop;
 mod writing;
 
 pub use audit::audit_reply;
-pub use check::check_reply;
+pub use check::{check_reply, verdict};
 pub use determined::{confirm_reply, determine_reply};
-pub use inputs::bytes_in;
+pub use inputs::{Read, bytes_after, bytes_in, symbols_from, witness_with_text};
 pub use laws::check_laws;
-pub use outcome::{Generated, Halt, Ran};
+pub use outcome::{Generated, Halt, Named, Ran, Witness};
 pub use prove::prove_reply;
 pub use publics::public_reply;
 pub use reply::{NewFile, Reply};

@@ -4,6 +4,7 @@ use circom_lines::Verdict;
 use gold_field::Gold;
 use iden_files::R1cs;
 use items::Items;
+use sym_file::SymLine;
 use wit_code::Stop;
 
 /// A file of constraints, with its bytes, and values for its wires.
@@ -20,6 +21,21 @@ impl Drop for Witness {
             bytes: _bytes,
             file: _file,
             values: _values,
+        } = self;
+    }
+}
+
+/// What `check` finds, and the names of the wires of the constraint that fails, if one does.
+pub struct Named {
+    pub verdict: Verdict,
+    pub names: Items<Text>,
+}
+
+impl Drop for Named {
+    fn drop(self) {
+        let Named {
+            verdict: _verdict,
+            names: _names,
         } = self;
     }
 }

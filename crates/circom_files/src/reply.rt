@@ -3,13 +3,13 @@ ghost use Rattle.iden_files.specs.Limits.{most_wires};
 ghost use Rattle.circom_lines.specs.RunLines.{log_text};
 ghost use Rattle.circom_files.specs.Shown.{shown};
 
-use crate::outcome::{Generated, Halt, Outcome, Published, Ran};
+use crate::outcome::{Generated, Halt, Named, Outcome, Published, Ran};
 use cir_ast::Text;
 use cir_determined::{Answer, Confirm, write_rules};
 use circom_lines::{
     Refusal, Verdict, audit_line, audit_status, confirmed_line, confirmed_status, determined_line,
-    fault_line, generated_line, log_text, proved_line, public_line, stop_line, undetermined_line,
-    usage_line, witness_line,
+    fault_line, generated_line, log_text, named_line, proved_line, public_line, stop_line,
+    symbols_line, undetermined_line, usage_line, witness_line,
 };
 use iden_files::write_wtns;
 use items::Items;
@@ -45,7 +45,8 @@ pub struct NewFile<'w> {
 
 impl<'w> Reply<'w> {
     ghost use Rattle.circom_files.specs.Reply.{usage, refused, checked, written, proved, published};
-    ghost use Rattle.circom_files.specs.Reply.{audited, confirmed, determined, store_failed};
+    ghost use Rattle.circom_files.specs.Reply.{audited, checked_by_name, confirmed, determined};
+    ghost use Rattle.circom_files.specs.Reply.{store_failed, symbols_written};
     ghost use Rattle.circom_files.specs.Determining.{IsReadBack};
     ghost use Rattle.circom_files.specs.Running.{witnessed, generated, halted, values_of};
 
@@ -79,6 +80,33 @@ impl<'w> Reply<'w> {
         ensures { IfOk result (λ r. shown r ≡ checked verdict) }
     {
         Ok(Reply::saying(verdict.status(), verdict.line(alloc)?))
+    }
+
+    /// The reply of `check` where wires have names.
+    pub fn checked_by_name(alloc: Global, found: Named) -> Result<Reply<'w>, AllocError>
+        ensures { IfOk result (λ r. shown r ≡ checked_by_name found) }
+    {
+        match found.verdict {
+            Verdict::ConstraintFails { index } => {
+                let text = named_line(alloc, index, found.names.as_slice())?;
+                Ok(Reply::saying(2, text))
+            }
+            Verdict::CountsDiffer { .. } | Verdict::WireZero | Verdict::Satisfied => {
+                Reply::checked(alloc, found.verdict)
+            }
+        }
+    }
+
+    /// The reply of `sym`: so many lines are written under the name.
+    pub fn symbols_written(
+        alloc: Global,
+        out: &'w str,
+        lines: u32,
+        text: Items<u8>,
+    ) -> Result<Reply<'w>, AllocError>
+        ensures { IfOk result (λ r. shown r ≡ symbols_written out.entry.now lines text) }
+    {
+        Ok(Reply::written(symbols_line(alloc, lines)?, out, text))
     }
 
     /// Success, with this line, and a file under the name.

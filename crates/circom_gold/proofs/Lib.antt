@@ -9,9 +9,10 @@ pub mod Satisfied
 pub mod WitnessLaws
 pub mod NoInput
 pub mod Sourcing
+pub mod SymbolLines
 pub mod Witnessing
+pub mod Batching
 pub mod Generating
 pub mod Doing
 pub mod Meanings
-pub mod Chains
 pub mod Asking

@@ -16,8 +16,9 @@ use Rattle.cir_determined.specs.declared.rule.Confirm.{Confirm}
 use Rattle.cir_determined.specs.declared.rule.Confirm.TheVariants.{Confirmed, BadRule, Short}
 use Rattle.cir_determined.specs.declared.rule.Rule.{Rule}
 use Rattle.circom_lines.specs.Lines.{verdict_status}
-use Rattle.circom_words.specs.Words.{Command, ProveOptions, check, compile, witness, prove}
-use Rattle.circom_words.specs.Words.{public, audit, confirm, determine, generate}
+use Rattle.circom_words.specs.Words.{Command, ProveOptions, check, check_named, compile, witness}
+use Rattle.circom_words.specs.Words.{prove, public, audit, name_signals, confirm, determine}
+use Rattle.circom_words.specs.Words.{generate}
 use Rattle.circom_lines.specs.declared.answer.Refusal.{Refusal}
 use Rattle.circom_lines.specs.declared.answer.Verdict.{Verdict}
 use Rattle.circom_lines.specs.declared.answer.Verdict.TheVariants.{CountsDiffer, WireZero}
@@ -27,15 +28,18 @@ use Rattle.circom_files.specs.Determining.{AreCertificate, HasCertificate}
 use Rattle.circom_files.specs.Determining.{HoldsCertificate, IsConfirmed, IsSearched, claim_of}
 use Rattle.circom_files.specs.Files.{r1cs_in}
 use Rattle.circom_files.specs.Given.{Leaves}
+use Rattle.circom_named.specs.Named.{described_of, failing_names, named}
 use Rattle.circom_files.specs.Proving.{FoundIn, IsProved, public_of}
 use Rattle.circom_files.specs.Proving.{published_values, witness_of}
-use Rattle.circom_files.specs.Reply.{NewFile, Reply, checked, confirmed, determined, proved}
-use Rattle.circom_files.specs.Reply.{published, said}
+use Rattle.circom_files.specs.Reply.{NewFile, Reply, checked, checked_by_name, confirmed}
+use Rattle.circom_files.specs.Reply.{determined, proved, published, said}
 use Rattle.circom_files.specs.Running.{generated, halted}
-use Rattle.circom_files.specs.Satisfaction.{IsAssignment, Satisfies}
+use Rattle.circom_files.specs.Satisfaction.{FailsFirstAt, IsAssignment, Satisfies}
 use Rattle.circom_files.specs.declared.outcome.Claim.{Claim}
+use Rattle.circom_named.specs.declared.described.Described.{Described}
 use Rattle.circom_files.specs.declared.outcome.Generated.{Generated}
 use Rattle.circom_files.specs.declared.outcome.Generated.TheVariants as made
+use Rattle.circom_files.specs.declared.outcome.Named.{Named}
 use Rattle.circom_files.specs.declared.outcome.Outcome.{Outcome}
 use Rattle.circom_files.specs.declared.outcome.Outcome.TheVariants.{Made, Unmade}
 use Rattle.circom_files.specs.declared.outcome.Published.{Published}
@@ -43,14 +47,16 @@ use Rattle.circom_files.specs.declared.outcome.Published.TheVariants.{Values, Wr
 use Rattle.circom_files.specs.declared.outcome.Ran.TheVariants.{Halted}
 use Rattle.circom_files.specs.declared.outcome.Witness.{Witness}
 use Rattle.circom_files.proofs.Accepts.{says_accepted}
-use Rattle.circom_files.proofs.CheckLaws.{satisfied}
+use Rattle.circom_files.proofs.CheckLaws.{least as least_failing, satisfied}
+use Rattle.circom_named.proofs.Describing.{check_named_by, finding}
 use Rattle.circom_files.proofs.Reading.{check_by, public_by}
 use Rattle.circom_files.proofs.Certified.{confirmed_is, one_confirm}
 use Rattle.circom_gold.specs.Answering.{Assures}
-use Rattle.circom_gold.specs.Means.{ArePublicsOf, AreRead, Means}
+use Rattle.circom_gold.specs.Means.{ArePublicsOf, AreRead, AreSatisfied, Means, NamesFailing}
 use Rattle.circom_gold.specs.Reply.{Answers}
 use Rattle.circom_gold.specs.Witness.{Generates, HasGenerated}
 use Rattle.circom_gold.proofs.CompileLaws as compiling
+use Rattle.circom_gold.proofs.SymbolLines as naming
 use Rattle.circom_gold.proofs.OneRun.{one_generated}
 use Rattle.circom_gold.proofs.WitnessLaws as witnessing
 
@@ -101,6 +107,65 @@ module _ (files : Contents) (r1cs wtns : List ℕ) where
         ∙ ap (λ (x : Result Witness Refusal). x >>= λ w. Ok (verdict w.file w.values)) a.read
         ∙ ap Ok ((satisfied a.witness.file a.witness.values).1 a.so))),
   )
+
+-- ---- check, where wires have names
+
+module _ (files : Contents) (r1cs wtns names : List ℕ) where
+  names_so : (read : Result Described Refusal) (found : Result Named Refusal)
+      → finding read ≡ found → (said checked_by_name found).status ≡ 0
+      → (d : Described) × (read ≡ Ok d) × Satisfies d.witness.file d.witness.values
+  names_so (Ok d) (Ok n) is zero =
+      let same : named d.witness.file d.witness.values d.lines ≡ n = cc in
+      let fits : verdict d.witness.file d.witness.values ≡ Satisfied =
+      ap (λ (x : Named). x.verdict) same ∙ zero_satisfied n.verdict zero in
+      (d, refl, (satisfied d.witness.file d.witness.values).0 fits)
+  names_so (Ok d) (Err r) is zero = let bad : ⊥ = cc in absurd bad
+  names_so (Err r) (Ok n) is zero = let bad : ⊥ = cc in absurd bad
+  names_so (Err r) (Err s) is zero = absurd (omega (arith, zero))
+
+  -- the reply where all three files are read
+  reply_named : (r : Reply) (d : Described)
+      → Answers files (Some (check_named r1cs wtns names)) r
+      → described_of files r1cs wtns names ≡ Ok d
+      → r ≡ checked_by_name (named d.witness.file d.witness.values d.lines)
+  reply_named r d (found, is, e) read =
+      e ∙ ap (said checked_by_name)
+      (sym is ∙ check_named_by files r1cs wtns names ∙ ap finding read)
+
+  check_named_means : (r : Reply) → Answers files (Some (check_named r1cs wtns names)) r
+      → (r.status ≡ 0) ↔ AreSatisfied files r1cs wtns names
+  check_named_means r (found, is, e) = (
+    λ zero.
+        let d = names_so (described_of files r1cs wtns names) found
+        (sym (check_named_by files r1cs wtns names) ∙ is)
+        (sym (ap (λ (x : Reply). x.status) e) ∙ zero) in
+        record { described = d.0; read = d.1; so = d.2 },
+    λ a. ap (λ (x : Reply). x.status) (reply_named r a.described (found, is, e) a.read)
+        ∙ ap verdict_status
+        ((satisfied a.described.witness.file a.described.witness.values).1 a.so),
+  )
+
+  failing_named : (r : Reply) → Answers files (Some (check_named r1cs wtns names)) r
+      → (d : Described) (k : ℕ) → described_of files r1cs wtns names ≡ Ok d
+      → FailsFirstAt d.witness.file d.witness.values k
+      → NamesFailing d k r.status r.text
+  failing_named r answers d k read fails =
+      let same : r ≡ checked_by_name (named d.witness.file d.witness.values d.lines) =
+      reply_named r d answers read in
+      let is : verdict d.witness.file d.witness.values ≡ ConstraintFails k =
+      (least_failing d.witness.file d.witness.values k).1 fails in
+      let all : r ≡ checked_by_name (record {
+        verdict = ConstraintFails k;
+        names = failing_names d.witness.file d.lines (ConstraintFails k);
+      }) =
+      same ∙ ap (λ (v : Verdict). checked_by_name (record {
+        verdict = v;
+        names = failing_names d.witness.file d.lines v;
+      })) is in
+      record {
+        status = ap (λ (x : Reply). x.status) all;
+        line = ap (λ (x : Reply). x.text) all;
+      }
 
 -- ---- prove
 
@@ -325,6 +390,10 @@ means_of : (c : Command) (files after : Contents) (r : Reply) → Answers files 
     → Leaves r.file files after → Assures c files r → Means c files after r.status r.text
 means_of (check r1cs wtns) files after r answers leaves assured =
     check_means files r1cs wtns r answers
+means_of (check_named r1cs wtns names) files after r answers leaves assured = (
+  check_named_means files r1cs wtns names r answers,
+  failing_named files r1cs wtns names r answers,
+)
 means_of (compile source out options) files after r answers leaves assured = (
   compiling.status_of files source out options r answers,
   λ zero.
@@ -355,6 +424,12 @@ means_of (public r1cs wtns out) files after r answers leaves assured = (
 )
 means_of (audit r1cs publics proof) files after r answers leaves assured =
     says_accepted files r1cs publics proof r answers
+means_of (name_signals source out options) files after r answers leaves assured = (
+  naming.status_of files source options out r answers,
+  λ zero.
+      let w = assured zero in
+      left_under _ out w.bytes r.file files after w.file leaves w.names,
+)
 means_of (determine r1cs out) files after r answers leaves assured = (
   determine_means files r1cs out r answers,
   λ zero.

@@ -12,7 +12,7 @@ use Rattle.circom_lines.specs.declared.answer.Refusal.TheVariants.{NoSuchFile, B
 use Rattle.circom_gold.specs.Compile.{CompilesTo, IsUncompiled, task_of}
 
 module _ (files : Contents) (source : List ℕ) (options : Options) where
-  compiled_and_not : (f : File) (r : Refusal) → CompilesTo files source options (Ok f)
+  pub compiled_and_not : (f : File) (r : Refusal) → CompilesTo files source options (Ok f)
       → IsUncompiled files source options r → ⊥
   compiled_and_not f r a (inl none) =
       there_or_compiled files (task_of source options) f none.1 a
@@ -25,7 +25,7 @@ module _ (files : Contents) (source : List ℕ) (options : Options) where
   there_and_refused r s none refused =
       there_or_refused files (task_of source options) refused.0 none.1 refused.2
 
-  one_uncompiled : (r s : Refusal) → IsUncompiled files source options r
+  pub one_uncompiled : (r s : Refusal) → IsUncompiled files source options r
       → IsUncompiled files source options s → r ≡ s
   one_uncompiled r s (inl a) (inl b) = a.0 ∙ sym b.0
   one_uncompiled r s (inl a) (inr b) = absurd (there_and_refused r s a b)

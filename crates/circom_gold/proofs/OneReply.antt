@@ -2,21 +2,24 @@
 use Rattle.std.proofs.Common.{◌≡◌, ◌∙◌, ℕ, List, Option, Some, None, Result, ap, inl}
 use Rattle.std.proofs.Common.{inr, subst, sym}
 use Rattle.out_io.specs.Contents.{Contents}
-use Rattle.circom_words.specs.Words.{Command, check, compile, witness, prove, public, audit}
-use Rattle.circom_words.specs.Words.{confirm, determine, generate}
+use Rattle.circom_words.specs.Words.{Command, check, check_named, compile, witness, prove}
+use Rattle.circom_words.specs.Words.{public, audit, name_signals, confirm, determine, generate}
 use Rattle.circom_lines.specs.declared.answer.Refusal.{Refusal}
 use Rattle.cir_determined.specs.declared.rule.Answer.{Answer}
 use Rattle.circom_files.proofs.Certified.{one_confirm, one_search, shown_written}
 use Rattle.circom_files.proofs.Once.{one_outcome, one_audit}
 use Rattle.circom_files.specs.Check.{check_of}
 use Rattle.circom_files.specs.Determining.{Confirms, Searches}
+use Rattle.circom_named.specs.Named.{check_named_of}
 use Rattle.circom_files.specs.Proving.{Audits, Proves, public_of}
-use Rattle.circom_files.specs.Reply.{Reply, Says, audited, checked, confirmed, determined, proved}
-use Rattle.circom_files.specs.Reply.{published, said}
+use Rattle.circom_files.specs.Reply.{Reply, Says, audited, checked, checked_by_name, confirmed}
+use Rattle.circom_files.specs.Reply.{determined, proved, published, said}
 use Rattle.circom_files.specs.Running.{witnessed, generated}
 use Rattle.circom_gold.specs.Compile.{CompilesTo}
 use Rattle.circom_gold.specs.Witness.{Witnesses, Generates}
 use Rattle.circom_gold.proofs.OneCompiled.{one_compiled}
+use Rattle.circom_gold.specs.Symbols.{NamesTo, names_written}
+use Rattle.circom_gold.proofs.SymbolLines.{one_named}
 use Rattle.circom_gold.proofs.OneRun.{one_witness, one_generated}
 use Rattle.circom_gold.specs.Reply.{Answers, AreAlike, AreOne, constraints_written}
 
@@ -62,6 +65,9 @@ one_reply files None a b p q = p ∙ sym q
 one_reply files (Some (check r1cs wtns)) a b p q =
     one_said checked (λ found. check_of files r1cs wtns ≡ found) a b
     (λ x y e f. sym e ∙ f) p q
+one_reply files (Some (check_named r1cs wtns names)) a b p q =
+    one_said checked_by_name (λ found. check_named_of files r1cs wtns names ≡ found) a b
+    (λ x y e f. sym e ∙ f) p q
 one_reply files (Some (compile source out options)) a b p q =
     one_said (constraints_written out) (λ found. CompilesTo files source options found) a b
     (one_compiled files source options) p q
@@ -81,6 +87,9 @@ one_reply files (Some (public r1cs wtns out)) a b p q =
 one_reply files (Some (audit r1cs publics proof)) a b p q =
     one_said audited (λ found. Audits files r1cs publics proof found) a b
     (one_audit files r1cs publics proof) p q
+one_reply files (Some (name_signals source out options)) a b p q =
+    one_said (names_written out) (λ found. NamesTo files source options found) a b
+    (one_named files source options) p q
 one_reply files (Some (determine r1cs out)) a b p q =
     alike files r1cs out a b p.0 q.0 p.1 q.1 p.2 q.2
 one_reply files (Some (confirm r1cs certificate)) a b p q =

@@ -41,7 +41,7 @@ use Rattle.circom_files.specs.declared.stop.Stop.TheVariants.{Refused, StoreFail
 use Rattle.circom_gold.specs.Running.{EndsIn, GeneratesIn, IsHaltAt, shown_place}
 use Rattle.circom_gold.specs.Source.{AreInputs, IsCoded, IsLoadedFrom, LoadedFrom, program_of}
 use Rattle.circom_gold.specs.Witness.{GivesInput, HaltsBy, HasInputs, IsGeneratedRun, IsRunOf}
-use Rattle.circom_gold.specs.Witness.{IsInputRefused, IsWitnessed, RunsTo, Witnesses}
+use Rattle.circom_gold.specs.Witness.{IsInputRefused, IsSource, IsWitnessed, RunsTo, Witnesses}
 use Rattle.circom_gold.specs.Witness.{values_by_wire}
 use Rattle.circom_gold.specs.declared.source.Coded.{Coded}
 use Rattle.circom_gold.proofs.Sourcing.{Compiling, Starting, input_is}
@@ -78,6 +78,14 @@ module _ (level : Level) (x : Coded) (coded : IsCoded level x) where
     each = each;
   }
 
+  pub source_of : (files : Contents) (source : List ℕ) (options : Options)
+      → options.level ≡ level → IsLoaded files source options.folder p
+      → IsSource files source options p x.file
+  source_of files source options same loaded = record {
+    loaded = loaded;
+    written = subst (λ (l : Level). IsWritten p l x.file) (sym same) coded.written;
+  }
+
   -- an input that is read
   module _ (files : Contents) (name start : List ℕ)
       (read : input_in files name x.circuit.signals.inputs ≡ Ok start) where
@@ -108,10 +116,7 @@ module _ (level : Level) (x : Coded) (coded : IsCoded level x) where
     witnessed_by source options fuel r same loaded runs = record {
       program = p;
       file = x.file;
-      compiled = record {
-        loaded = loaded;
-        written = subst (λ (l : Level). IsWritten p l x.file) (sym same) coded.written;
-      };
+      compiled = source_of files source options same loaded;
       inputs = first.0;
       given = gives;
       run = runs first.0 task_of_first;
@@ -133,10 +138,7 @@ module _ (level : Level) (x : Coded) (coded : IsCoded level x) where
   refused_by files source options name refusal same loaded read = record {
     program = p;
     file = x.file;
-    compiled = record {
-      loaded = loaded;
-      written = subst (λ (l : Level). IsWritten p l x.file) (sym same) coded.written;
-    };
+    compiled = source_of files source options same loaded;
     given = record { inputs = x.circuit.signals.inputs; has = has_inputs; reads = read };
   }
 

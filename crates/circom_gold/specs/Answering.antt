@@ -6,7 +6,8 @@ use Rattle.std.specs.declared.alloc.AllocError.{AllocError}
 use Rattle.out_io.specs.Contents.{Contents}
 use Rattle.out_io.specs.declared.fault.IoFault.{IoFault}
 use Rattle.out_io.specs.declared.fault.IoFault.TheVariants.{Failed}
-use Rattle.circom_words.specs.Words.{Command, Options, compile, confirm, determine, prove}
+use Rattle.circom_words.specs.Words.{Command, Options, compile, confirm, determine}
+use Rattle.circom_words.specs.Words.{name_signals, prove}
 use Rattle.circom_files.specs.Accepted.{WritesProof}
 use Rattle.circom_files.specs.Determining.{HasDetermined, WritesCertificate}
 use Rattle.circom_files.specs.Given.{Exits, Leaves, LeavesInPart, Puts, PutsFault}
@@ -18,6 +19,7 @@ use Rattle.circom_gold.specs.Compile.{AreConstraintsOf}
 use Rattle.circom_gold.specs.Course.{Device, HasFailed, IsUnasked}
 use Rattle.circom_gold.specs.Means.{Means}
 use Rattle.circom_gold.specs.Reply.{Answers}
+use Rattle.circom_gold.specs.Symbols.{WritesNames}
 
 -- the reply writes a file of the source's constraints under the name
 pub record WritesConstraintsOf (files : Contents) (source : List ℕ) (options : Options)
@@ -31,6 +33,8 @@ abbrev pub Assures : Command → Contents → Reply → Type 0
 Assures (compile source out options) files r =
     r.status ≡ 0 → WritesConstraintsOf files source options out r
 Assures (prove r1cs wtns out options) files r = r.status ≡ 0 → WritesProof files r1cs wtns out r
+Assures (name_signals source out options) files r =
+    r.status ≡ 0 → WritesNames files source options out r
 Assures (determine r1cs out) files r = r.status ≡ 0 → WritesCertificate files r1cs out r
 Assures (confirm r1cs certificate) files r = r.status ≡ 0 → HasDetermined files r1cs
 Assures _ files r = ⊤

@@ -5,18 +5,23 @@ use Rattle.iden_files.specs.File.{File}
 use Rattle.lig_layout.specs.Laws.{publics_of}
 use Rattle.wit_input.specs.Publics.{publics_text}
 use Rattle.cir_compile.specs.Compiled.{IsCompiled}
-use Rattle.circom_words.specs.Words.{Command, check, compile, witness, prove, public, audit}
-use Rattle.circom_words.specs.Words.{confirm, determine, generate}
+use Rattle.circom_lines.specs.Symbols.{named_line}
+use Rattle.circom_lines.specs.declared.answer.Verdict.TheVariants.{ConstraintFails}
+use Rattle.circom_words.specs.Words.{Command, check, check_named, compile, witness, prove}
+use Rattle.circom_words.specs.Words.{public, audit, name_signals, confirm, determine, generate}
 use Rattle.circom_files.specs.Accepted.{IsAccepted, IsProofOf}
 use Rattle.circom_files.specs.Determining.{HasCertificate, HasDetermined, HoldsCertificate}
 use Rattle.circom_files.specs.Determining.{IsCertificateOf}
+use Rattle.circom_named.specs.Named.{described_of, failing_names}
 use Rattle.circom_files.specs.Proving.{witness_of}
 use Rattle.circom_files.specs.Running.{halted}
-use Rattle.circom_files.specs.Satisfaction.{IsAssignment, Satisfies}
+use Rattle.circom_files.specs.Satisfaction.{FailsFirstAt, IsAssignment, Satisfies}
+use Rattle.circom_named.specs.declared.described.Described.{Described}
 use Rattle.circom_files.specs.declared.outcome.Halt.{Halt}
 use Rattle.circom_files.specs.declared.outcome.Ran.TheVariants.{Halted}
 use Rattle.circom_files.specs.declared.outcome.Witness.{Witness}
 use Rattle.circom_gold.specs.Compile.{AreConstraintsOf, task_of}
+use Rattle.circom_gold.specs.Symbols.{AreNamesIn}
 use Rattle.circom_gold.specs.Witness.{HasGenerated, HasWitness, IsWitnessOf, IsWitnessed}
 
 -- the files under the two names are read as constraints and as values, of which this holds
@@ -25,6 +30,19 @@ pub record AreRead (P : File → List ℕ → Type 0) (files : Contents) (r1cs w
   pub witness : Witness
   pub read : witness_of files r1cs wtns ≡ Ok witness
   pub so : P witness.file witness.values
+
+-- the files under the three names are read as constraints, as values that satisfy them, and as names
+-- of wires
+pub record AreSatisfied (files : Contents) (r1cs wtns names : List ℕ) : Type 0 where
+  pub described : Described
+  pub read : described_of files r1cs wtns names ≡ Ok described
+  pub so : Satisfies described.witness.file described.witness.values
+
+-- the text is the line of the first constraint that fails, with the names of its wires
+pub record NamesFailing (d : Described) (k exit : ℕ) (text : List ℕ) : Type 0 where
+  pub status : exit ≡ 2
+  pub line : text
+      ≡ named_line k (failing_names d.witness.file d.lines (ConstraintFails k))
 
 -- the bytes are the text of the public values among these values
 pub record ArePublicsOf (files : Contents) (r1cs wtns bytes : List ℕ) : Type 0 where
@@ -38,6 +56,12 @@ abbrev pub Means : Command → (files after : Contents) → (exit : ℕ) → (te
 -- 0 exactly where the values satisfy the constraints
 Means (check r1cs wtns) files after exit text =
     (exit ≡ 0) ↔ AreRead Satisfies files r1cs wtns
+-- 0 exactly where the values satisfy the constraints and the names are read; where a constraint is
+-- the first that fails, the names of its wires are put
+Means (check_named r1cs wtns names) files after exit text =
+    ((exit ≡ 0) ↔ AreSatisfied files r1cs wtns names)
+    × ((d : Described) (k : ℕ) → described_of files r1cs wtns names ≡ Ok d
+    → FailsFirstAt d.witness.file d.witness.values k → NamesFailing d k exit text)
 -- 0 exactly where the source compiles; the constraints that it compiles to are under OUT then
 Means (compile source out options) files after exit text =
     ((exit ≡ 0) ↔ ((file : File) × IsCompiled files (task_of source options) file))
@@ -61,6 +85,10 @@ Means (public r1cs wtns out) files after exit text =
 -- 0 exactly where the proof is accepted
 Means (audit r1cs publics proof) files after exit text =
     (exit ≡ 0) ↔ IsAccepted files r1cs publics proof
+-- 0 exactly where the source compiles; the lines that name its signals are under OUT then
+Means (name_signals source out options) files after exit text =
+    ((exit ≡ 0) ↔ ((file : File) × IsCompiled files (task_of source options) file))
+    × (exit ≡ 0 → IsSomeAnd (after out) (AreNamesIn files source options))
 -- 0 exactly where there are rules that show that the inputs determine the outputs; such rules are
 -- under OUT then
 Means (determine r1cs out) files after exit text =

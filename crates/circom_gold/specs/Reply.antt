@@ -4,15 +4,17 @@ use Rattle.out_io.specs.Contents.{Contents}
 use Rattle.iden_files.specs.File.{File}
 use Rattle.iden_files.specs.Spelling.{r1cs_bytes}
 use Rattle.circom_lines.specs.Lines.{compiled_line}
-use Rattle.circom_words.specs.Words.{Command, check, compile, witness, prove, public}
-use Rattle.circom_words.specs.Words.{audit, confirm, determine, generate}
+use Rattle.circom_words.specs.Words.{Command, check, check_named, compile, witness, prove}
+use Rattle.circom_words.specs.Words.{public, audit, name_signals, confirm, determine, generate}
 use Rattle.circom_files.specs.Check.{check_of}
 use Rattle.circom_files.specs.Determining.{Confirms, Searches, WritesRules}
+use Rattle.circom_named.specs.Named.{check_named_of}
 use Rattle.circom_files.specs.Proving.{Audits, Proves, public_of}
-use Rattle.circom_files.specs.Reply.{Reply, Says, audited, checked, confirmed, determined, proved}
-use Rattle.circom_files.specs.Reply.{published, usage, written}
+use Rattle.circom_files.specs.Reply.{Reply, Says, audited, checked, checked_by_name, confirmed}
+use Rattle.circom_files.specs.Reply.{determined, proved, published, usage, written}
 use Rattle.circom_files.specs.Running.{witnessed, generated}
 use Rattle.circom_gold.specs.Compile.{CompilesTo}
+use Rattle.circom_gold.specs.Symbols.{NamesTo, names_written}
 use Rattle.circom_gold.specs.Witness.{Witnesses, Generates}
 
 -- the file of constraints is written under the name
@@ -24,6 +26,8 @@ constraints_written out f = written (compiled_line f.wires (length f.constraints
 abbrev pub Answers : Contents → Option Command → Reply → Type 0
 Answers files None = λ r. r ≡ usage
 Answers files (Some (check r1cs wtns)) = Says checked (λ found. check_of files r1cs wtns ≡ found)
+Answers files (Some (check_named r1cs wtns names)) =
+    Says checked_by_name (λ found. check_named_of files r1cs wtns names ≡ found)
 Answers files (Some (compile source out options)) =
     Says (constraints_written out) (λ found. CompilesTo files source options found)
 Answers files (Some (witness source input out options running)) =
@@ -34,6 +38,8 @@ Answers files (Some (public r1cs wtns out)) =
     Says (published out) (λ found. public_of files r1cs wtns ≡ found)
 Answers files (Some (audit r1cs publics proof)) =
     Says audited (λ found. Audits files r1cs publics proof found)
+Answers files (Some (name_signals source out options)) =
+    Says (names_written out) (λ found. NamesTo files source options found)
 Answers files (Some (determine r1cs out)) =
     Says (determined out) (λ found. Searches files r1cs found)
 Answers files (Some (confirm r1cs certificate)) =

@@ -2,21 +2,17 @@
 //! and the file that is written.
 #![tactic(auto)]
 
+mod batch;
 mod circuit;
 mod compile;
 mod generate;
 mod giving;
-mod laws;
 mod one_file;
 mod plain;
 mod program;
 mod running;
 mod source;
+mod symbols;
 mod witness;
 
-pub use circom_files::check_laws;
-pub use laws::{
-    audit_laws, check_accepts_witnesses, compile_laws, compile_witness_check, determine_confirm,
-    one_reply, prove_public_audit, witness_laws,
-};
 pub use program::{run, run_in_memory, run_plain};

@@ -17,10 +17,12 @@ ghost use Rattle.circom_words.specs.Words.{runs_circuit};
 
 use crate::compile::compile_reply;
 use crate::giving::give;
+use crate::symbols::symbols_reply;
 use circom_files::{
     Reply, audit_reply, check_reply, confirm_reply, determine_reply, prove_reply, public_reply,
     write_file,
 };
+use circom_named::check_named_reply;
 use circom_words::{Command, PlainCommand};
 use out_io::{IoFault, Sink, Store};
 use std::alloc::{AllocError, Global};
@@ -111,6 +113,9 @@ fn reply_to<'w, R: Threads + AllocGlobal + Sync, S: Store>(
     match command {
         None => Ok(Reply::usage(alloc)?),
         Some(PlainCommand::Check { r1cs, wtns }) => check_reply(alloc, r1cs, wtns, store),
+        Some(PlainCommand::CheckNamed { r1cs, wtns, names }) => {
+            check_named_reply(alloc, r1cs, wtns, names, store)
+        }
         Some(
             PlainCommand::Compile {
                 source,
@@ -136,6 +141,13 @@ fn reply_to<'w, R: Threads + AllocGlobal + Sync, S: Store>(
                 proof,
             },
         ) => audit_reply(rt, alloc, r1cs, publics, proof, store),
+        Some(
+            PlainCommand::Sym {
+                source,
+                out,
+                options,
+            },
+        ) => symbols_reply(alloc, source, out, options, store),
         Some(PlainCommand::Determine { r1cs, out }) => determine_reply(alloc, r1cs, out, store),
         Some(PlainCommand::Confirm { r1cs, certificate }) => {
             confirm_reply(alloc, r1cs, certificate, store)

@@ -49,8 +49,8 @@ pub fn run_code<R: Threads + Wait + AllocGlobal + Sync>(
     )
 }
 
-// The place of a step, as a user sees it: with the names of its file and of its instance.
-fn place_in(
+/// The place of a step, as a user sees it: with the names of its file and of its instance.
+pub fn place_in(
     alloc: Global,
     files: &[Text],
     instances: &[Text],

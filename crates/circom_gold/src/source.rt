@@ -30,8 +30,8 @@ use out_io::Store;
 use std::alloc::Global;
 use wit_circuit::CircuitCode;
 
-// As many inputs as have numbers. There is no memory for more.
-const MOST_INPUTS: usize = 1 << 32;
+/// As many inputs as have numbers. There is no memory for more.
+pub const MOST_INPUTS: usize = 1 << 32;
 
 /// A loaded program, what its main component compiles to, the file of its constraints, and the code
 /// of its circuit.

@@ -3,3 +3,4 @@ pub mod Generated
 pub mod Lines
 pub mod Proving
 pub mod RunLines
+pub mod Symbols

@@ -17,14 +17,16 @@ use Rattle.cir_ast.specs.declared.refusal.Form.TheVariants as form
 use Rattle.cir_ast.specs.declared.refusal.Place.{Place}
 use Rattle.cir_ast.specs.declared.refusal.Refusal.{Refusal as SourceRefusal}
 use Rattle.circom_lines.specs.declared.answer.Refusal.{Refusal}
-use Rattle.circom_lines.specs.declared.answer.Refusal.TheVariants.{NoSuchFile, BadFile, BadRules}
-use Rattle.circom_lines.specs.declared.answer.Refusal.TheVariants.{BadSource}
+use Rattle.circom_lines.specs.declared.answer.Refusal.TheVariants.{NoSuchFile, BadFile, BadLines}
+use Rattle.circom_lines.specs.declared.answer.Refusal.TheVariants.{BadSource, LargeBatch}
 use Rattle.circom_lines.specs.declared.answer.Refusal.TheVariants.{BadInput as BadInputs}
 use Rattle.circom_lines.specs.declared.answer.BadInput.{BadInput}
 use Rattle.circom_lines.specs.declared.answer.BadInput.TheVariants.{NotJson, Missing, UnknownSignal}
 use Rattle.circom_lines.specs.declared.answer.BadInput.TheVariants.{WrongCount, BadNumber}
-use Rattle.circom_lines.specs.declared.answer.RuleCause.{RuleCause}
-use Rattle.circom_lines.specs.declared.answer.RuleCause.TheVariants as rules
+use Rattle.circom_lines.specs.declared.answer.LineKind.{LineKind}
+use Rattle.circom_lines.specs.declared.answer.LineKind.TheVariants.{Rule, Symbol}
+use Rattle.circom_lines.specs.declared.answer.LineCause.{LineCause}
+use Rattle.circom_lines.specs.declared.answer.LineCause.TheVariants as cause
 use Rattle.circom_lines.specs.declared.answer.Verdict.{Verdict}
 use Rattle.circom_lines.specs.declared.answer.Verdict.TheVariants.{CountsDiffer, WireZero}
 use Rattle.circom_lines.specs.declared.answer.Verdict.TheVariants.{ConstraintFails, Satisfied}
@@ -58,12 +60,14 @@ abbrev pub bad_file_line : List ℕ → List ℕ → List ℕ → List ℕ
 bad_file_line name cause offset =
     line (codes "refused: " ∷ name ∷ codes ": " ∷ cause ∷ codes " at byte " ∷ offset ∷ [])
 
-abbrev pub rules_text : RuleCause → List ℕ
-rules_text rules.BadLine = codes "C1 BadLine"
-rules_text rules.Limit = codes "C2 Limit"
+abbrev pub line_cause_text : LineKind → LineCause → List ℕ
+line_cause_text Rule cause.BadLine = codes "C1 BadLine"
+line_cause_text Rule cause.Limit = codes "C2 Limit"
+line_cause_text Symbol cause.BadLine = codes "S1 BadLine"
+line_cause_text Symbol cause.Limit = codes "S2 Limit"
 
-abbrev pub bad_rules_line : (name cause number : List ℕ) → List ℕ
-bad_rules_line name cause number =
+abbrev pub bad_lines_line : (name cause number : List ℕ) → List ℕ
+bad_lines_line name cause number =
     line (codes "refused: " ∷ name ∷ codes ": " ∷ cause ∷ codes " at line "
     ∷ number ∷ [])
 
@@ -161,10 +165,11 @@ input_line (BadNumber name index) =
 abbrev pub refusal_line : Refusal → List ℕ
 refusal_line (NoSuchFile name) = line (codes "refused: " ∷ name ∷ codes ": no such file" ∷ [])
 refusal_line (BadFile name cause offset) = bad_file_line name (cause_text cause) (decimal offset)
-refusal_line (BadRules name cause number) =
-    bad_rules_line name (rules_text cause) (decimal number)
+refusal_line (BadLines name kind what number) =
+    bad_lines_line name (line_cause_text kind what) (decimal number)
 refusal_line (BadSource r) = source_line r
 refusal_line (BadInputs r) = input_line r
+refusal_line (LargeBatch size) = line (codes "refused: B1 Limit " ∷ decimal size ∷ [])
 
 abbrev pub verdict_line : Verdict → List ℕ
 verdict_line (CountsDiffer values wires) =

@@ -27,6 +27,11 @@ stop_line stop place = placed_line (stop_text stop) [] [] place
 abbrev pub witness_line : ℕ → List ℕ
 witness_line values = line (codes "witness: values " ∷ decimal values ∷ [])
 
+abbrev pub batch_line : (inputs witnesses : ℕ) → List ℕ
+batch_line inputs witnesses =
+    line
+    (codes "batch: inputs " ∷ decimal inputs ∷ codes ", witnesses " ∷ decimal witnesses ∷ [])
+
 abbrev pub generated_line : (links wires constraints out : ℕ) → List ℕ
 generated_line links wires constraints out =
     line

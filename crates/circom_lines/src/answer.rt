@@ -13,16 +13,21 @@ pub enum Refusal {
         cause: FileCause,
         offset: u64,
     },
-    /// What is wrong with a text of rules, and its line, counted from 1.
-    BadRules {
+    /// What is wrong with a text of lines, and its line, counted from 1.
+    BadLines {
         name: Text,
-        cause: RuleCause,
+        kind: LineKind,
+        cause: LineCause,
         line: u32,
     },
     /// What is wrong with a source, and where.
     BadSource(cir_ast::Refusal),
     /// What is wrong with inputs or public values.
     BadInput(BadInput),
+    /// A batch counts so much, which is above the limit.
+    LargeBatch {
+        size: u128,
+    },
 }
 
 /// What is wrong with a JSON file of inputs, or of public values, whose name is then `public`.
@@ -47,10 +52,19 @@ pub enum Verdict {
     Satisfied,
 }
 
-/// What is wrong with a line of a text of rules.
+/// What the lines of a text are.
 #[derive(Clone, Copy)]
-pub enum RuleCause {
-    /// It isn't a rule.
+pub enum LineKind {
+    /// Rules of a certificate.
+    Rule,
+    /// Names of signals.
+    Symbol,
+}
+
+/// What is wrong with a line of such a text.
+#[derive(Clone, Copy)]
+pub enum LineCause {
+    /// It isn't of the form.
     BadLine,
     /// There are more lines than are read.
     Limit,

@@ -1,9 +1,9 @@
 ghost use Rattle.std.specs.Prelude.{◌≡◌, map, IfOk};
 ghost use Rattle.circom_lines.specs.Lines.{line, usage_line, fault_line, compiled_line};
 ghost use Rattle.circom_lines.specs.Lines.{bad_file_line, cause_text, count_line};
-ghost use Rattle.circom_lines.specs.Lines.{bad_rules_line, rules_text};
+ghost use Rattle.circom_lines.specs.Lines.{bad_lines_line, line_cause_text};
 
-use crate::answer::{BadInput, Refusal, RuleCause, Verdict};
+use crate::answer::{BadInput, LineCause, LineKind, Refusal, Verdict};
 use crate::sources::source_line;
 use iden_files::FileCause;
 use std::alloc::{AllocError, Global};
@@ -27,12 +27,22 @@ impl Refusal {
                 let offset = format!(in alloc; "{offset}")?;
                 bad_file_line(alloc, name.as_slice(), cause_text(*cause), offset.as_str())
             }
-            Refusal::BadRules { name, cause, line } => {
+            Refusal::BadLines {
+                name,
+                kind,
+                cause,
+                line,
+            } => {
                 let line = format!(in alloc; "{line}")?;
-                bad_rules_line(alloc, name.as_slice(), rules_text(*cause), line.as_str())
+                let cause = line_cause_text(*kind, *cause);
+                bad_lines_line(alloc, name.as_slice(), cause, line.as_str())
             }
             Refusal::BadSource(refusal) => source_line(alloc, refusal),
             Refusal::BadInput(refusal) => refusal.line(alloc),
+            Refusal::LargeBatch { size } => {
+                let size = format!(in alloc; "{size}")?;
+                line(alloc, &[b"refused: B1 Limit ", size.as_bytes()])
+            }
         }
     }
 }
@@ -158,13 +168,13 @@ fn bad_file_line<'a>(
     )
 }
 
-fn bad_rules_line<'a>(
+fn bad_lines_line<'a>(
     alloc: Global,
     name: &'a [u8],
     cause: &'a str,
     number: &'a str,
 ) -> Result<Vec<u8>, AllocError>
-    ensures { IfOk result (λ v. v.items ≡ bad_rules_line name.now cause.now number.now) }
+    ensures { IfOk result (λ v. v.items ≡ bad_lines_line name.now cause.now number.now) }
 {
     line(
         alloc,
@@ -179,12 +189,14 @@ fn bad_rules_line<'a>(
     )
 }
 
-fn rules_text(cause: RuleCause) -> &'static str
-    ensures { result.now ≡ rules_text cause }
+fn line_cause_text(kind: LineKind, cause: LineCause) -> &'static str
+    ensures { result.now ≡ line_cause_text kind cause }
 {
-    match cause {
-        RuleCause::BadLine => "C1 BadLine",
-        RuleCause::Limit => "C2 Limit",
+    match (kind, cause) {
+        (LineKind::Rule, LineCause::BadLine) => "C1 BadLine",
+        (LineKind::Rule, LineCause::Limit) => "C2 Limit",
+        (LineKind::Symbol, LineCause::BadLine) => "S1 BadLine",
+        (LineKind::Symbol, LineCause::Limit) => "S2 Limit",
     }
 }
 

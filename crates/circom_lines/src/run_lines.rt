@@ -2,7 +2,7 @@
 
 ghost use Rattle.std.specs.Prelude.{◌≡◌, IfOk};
 ghost use Rattle.circom_lines.specs.RunLines.{log_text, stop_text, stop_line, witness_line};
-ghost use Rattle.circom_lines.specs.RunLines.{generated_line};
+ghost use Rattle.circom_lines.specs.RunLines.{batch_line, generated_line};
 
 use crate::lines::line;
 use crate::sources::placed_line;
@@ -50,6 +50,23 @@ pub fn witness_line(alloc: Global, values: usize) -> Result<Vec<u8>, AllocError>
 {
     let values = format!(in alloc; "{values}")?;
     line(alloc, &[b"witness: values ", values.as_bytes()])
+}
+
+/// The line of a batch of so many inputs, of which so many have a witness.
+pub fn batch_line(alloc: Global, inputs: u32, witnesses: u32) -> Result<Vec<u8>, AllocError>
+    ensures { IfOk result (λ v. v.items ≡ batch_line inputs witnesses) }
+{
+    let inputs = format!(in alloc; "{inputs}")?;
+    let witnesses = format!(in alloc; "{witnesses}")?;
+    line(
+        alloc,
+        &[
+            b"batch: inputs ",
+            inputs.as_bytes(),
+            b", witnesses ",
+            witnesses.as_bytes(),
+        ],
+    )
 }
 
 /// The line of a generated circuit that was run: its links, wires and constraints, and the value of

@@ -46,9 +46,10 @@ with_options form = with_rule (with_levels form) folder
 abbrev pub with_running : App → App
 with_running form = with_rule (with_rule form (valued (codes "workers"))) (valued (codes "fuel"))
 
--- `check R1CS WTNS`
+-- `check R1CS WTNS [--sym SYM]`
 unfoldable pub check_form : App
-check_form = two_form (codes "check") (codes "R1CS") (codes "WTNS")
+check_form =
+    with_rule (two_form (codes "check") (codes "R1CS") (codes "WTNS")) (valued (codes "sym"))
 
 -- `compile SRC OUT [--O0, --O1 or --O2] [-l DIR]`
 unfoldable pub compile_form : App
@@ -69,6 +70,10 @@ public_form = three_form (codes "public") (codes "R1CS") (codes "WTNS") (codes "
 -- `audit R1CS PUBLIC PROOF`
 unfoldable pub audit_form : App
 audit_form = three_form (codes "audit") (codes "R1CS") (codes "PUBLIC") (codes "PROOF")
+
+-- `sym SRC OUT [--O0, --O1 or --O2] [-l DIR]`
+unfoldable pub sym_form : App
+sym_form = with_options (two_form (codes "sym") (codes "SRC") (codes "OUT"))
 
 -- `determine R1CS OUT`
 unfoldable pub determine_form : App
@@ -95,6 +100,7 @@ form_of word.Witness = witness_form
 form_of word.Prove = prove_form
 form_of word.Public = public_form
 form_of word.Audit = audit_form
+form_of word.Sym = sym_form
 form_of word.Determine = determine_form
 form_of word.Confirm = confirm_form
 form_of word.Generate = generate_form

@@ -45,11 +45,13 @@ pub record ProveOptions : Type 0 where
 -- a command, with the names of its files
 pub data Command : Type 0 where
   check : (r1cs wtns : List ℕ) → Command
+  check_named : (r1cs wtns names : List ℕ) → Command
   compile : (source out : List ℕ) → (options : Options) → Command
   witness : (source input out : List ℕ) → (options : Options) → (running : RunOptions) → Command
   prove : (r1cs wtns out : List ℕ) → (options : ProveOptions) → Command
   public : (r1cs wtns out : List ℕ) → Command
   audit : (r1cs publics proof : List ℕ) → Command
+  name_signals : (source out : List ℕ) → (options : Options) → Command
   determine : (r1cs out : List ℕ) → Command
   confirm : (r1cs certificate : List ℕ) → Command
   generate : (seed size : ℕ) → (running : RunOptions) → Command
@@ -140,15 +142,25 @@ two_in first second command rows = do
   b ← first_of second rows
   Some (command a b)
 
-abbrev pub check_in : List Row → Option Command
-check_in rows = two_in (codes "R1CS") (codes "WTNS") check rows
+-- `check`, with the names of wires where there is a file of them
+abbrev pub check_with : Option (List ℕ) → (r1cs wtns : List ℕ) → Command
+check_with None r1cs wtns = check r1cs wtns
+check_with (Some names) r1cs wtns = check_named r1cs wtns names
 
-abbrev pub compile_in : List Row → Option Command
-compile_in rows = do
+abbrev pub check_in : List Row → Option Command
+check_in rows =
+    two_in (codes "R1CS") (codes "WTNS") (check_with (first_of (codes "sym") rows)) rows
+
+-- the command of a source, the name of the file that is written, and options
+abbrev pub source_in : ((source out : List ℕ) → Options → Command) → List Row → Option Command
+source_in command rows = do
   options ← options_in rows
   source ← first_of (codes "SRC") rows
   out ← first_of (codes "OUT") rows
-  Some (compile source out options)
+  Some (command source out options)
+
+abbrev pub compile_in : List Row → Option Command
+compile_in rows = source_in compile rows
 
 abbrev pub prove_in : List Row → Option Command
 prove_in rows = do
@@ -164,6 +176,9 @@ public_in rows = option_map (λ names. public names.first names.second names.thi
 abbrev pub audit_in : List Row → Option Command
 audit_in rows = option_map (λ names. audit names.first names.second names.third)
     (names_in (codes "R1CS") (codes "PUBLIC") (codes "PROOF") rows)
+
+abbrev pub sym_in : List Row → Option Command
+sym_in rows = source_in name_signals rows
 
 abbrev pub determine_in : List Row → Option Command
 determine_in rows = two_in (codes "R1CS") (codes "OUT") determine rows
@@ -202,10 +217,11 @@ command_word name =
     else (if bytes_eq name (codes "prove") then Some word.Prove
     else (if bytes_eq name (codes "public") then Some word.Public
     else (if bytes_eq name (codes "audit") then Some word.Audit
+    else (if bytes_eq name (codes "sym") then Some word.Sym
     else (if bytes_eq name (codes "determine") then Some word.Determine
     else (if bytes_eq name (codes "confirm") then Some word.Confirm
     else (if bytes_eq name (codes "generate") then Some word.Generate
-    else None))))))))
+    else None)))))))))
 
 -- the command runs a circuit, and so waits for the threads that do
 abbrev pub waits : CommandWord → Bool
@@ -220,6 +236,7 @@ command_in word.Witness = witness_in
 command_in word.Prove = prove_in
 command_in word.Public = public_in
 command_in word.Audit = audit_in
+command_in word.Sym = sym_in
 command_in word.Determine = determine_in
 command_in word.Confirm = confirm_in
 command_in word.Generate = generate_in
@@ -246,12 +263,15 @@ meant_proving o = record { seed = o.seed; version = o.version }
 
 abbrev pub meant_plain : PlainCommand → Command
 meant_plain (plain.Check r1cs wtns) = check r1cs.now wtns.now
+meant_plain (plain.CheckNamed r1cs wtns names) = check_named r1cs.now wtns.now names.now
 meant_plain (plain.Compile source out options) =
     compile source.now out.now (meant_options options)
 meant_plain (plain.Prove r1cs wtns out options) =
     prove r1cs.now wtns.now out.now (meant_proving options)
 meant_plain (plain.Public r1cs wtns out) = public r1cs.now wtns.now out.now
 meant_plain (plain.Audit r1cs publics proof) = audit r1cs.now publics.now proof.now
+meant_plain (plain.Sym source out options) =
+    name_signals source.now out.now (meant_options options)
 meant_plain (plain.Determine r1cs out) = determine r1cs.now out.now
 meant_plain (plain.Confirm r1cs certificate) = confirm r1cs.now certificate.now
 

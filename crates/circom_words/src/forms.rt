@@ -7,7 +7,7 @@ ghost use Rattle.circom_words.specs.Forms.{given, folder, flag, valued, seed, tw
 ghost use Rattle.circom_words.specs.Forms.{with_levels, with_options, with_running, check_form};
 ghost use Rattle.circom_words.specs.Forms.{compile_form, prove_form, public_form, audit_form};
 ghost use Rattle.circom_words.specs.Forms.{witness_form, generate_form};
-ghost use Rattle.circom_words.specs.Forms.{determine_form, confirm_form};
+ghost use Rattle.circom_words.specs.Forms.{sym_form, determine_form, confirm_form};
 ghost use Rattle.circom_words.specs.Matches.{IsArg};
 
 use clap::{Arg, ArgAction};
@@ -108,13 +108,14 @@ fn with_running<'w>(alloc: Global, form: clap::Command<'w>) -> Result<clap::Comm
     Ok(form)
 }
 
-/// `check R1CS WTNS`
+/// `check R1CS WTNS [--sym SYM]`
 #[tactic(auto, unfolding(crate::specs::Forms::check_form))]
 pub fn check_form<'w>(alloc: Global) -> Result<clap::Command<'w>, AllocError>
     ensures form { IfOk result (λ form. app_of form ≡ check_form) }
     ensures simple { IfOk result (λ form. is_simple_and_free (app_of form) ≡ true) }
 {
-    two_form(alloc, "check", "R1CS", "WTNS")
+    let form = two_form(alloc, "check", "R1CS", "WTNS")?.arg(valued(alloc, "sym"))?;
+    Ok(form)
 }
 
 /// `compile SRC OUT [--O0, --O1 or --O2] [-l DIR]`
@@ -155,6 +156,16 @@ pub fn audit_form<'w>(alloc: Global) -> Result<clap::Command<'w>, AllocError>
     ensures simple { IfOk result (λ form. is_simple_and_free (app_of form) ≡ true) }
 {
     three_form(alloc, "audit", "R1CS", "PUBLIC", "PROOF")
+}
+
+/// `sym SRC OUT [--O0, --O1 or --O2] [-l DIR]`
+#[tactic(auto, unfolding(crate::specs::Forms::sym_form))]
+pub fn sym_form<'w>(alloc: Global) -> Result<clap::Command<'w>, AllocError>
+    ensures form { IfOk result (λ form. app_of form ≡ sym_form) }
+    ensures simple { IfOk result (λ form. is_simple_and_free (app_of form) ≡ true) }
+{
+    let form = two_form(alloc, "sym", "SRC", "OUT")?;
+    with_options(alloc, form)
 }
 
 /// `determine R1CS OUT`

@@ -8,7 +8,7 @@ ghost use Rattle.circom_words.specs.Words.{command_word, waits};
 
 use crate::forms::{
     audit_form, check_form, compile_form, confirm_form, determine_form, generate_form, prove_form,
-    public_form, witness_form,
+    public_form, sym_form, witness_form,
 };
 use std::alloc::{AllocError, Global};
 
@@ -21,6 +21,7 @@ pub enum CommandWord {
     Prove,
     Public,
     Audit,
+    Sym,
     Determine,
     Confirm,
     Generate,
@@ -37,6 +38,7 @@ impl CommandWord {
             "prove" => Some(CommandWord::Prove),
             "public" => Some(CommandWord::Public),
             "audit" => Some(CommandWord::Audit),
+            "sym" => Some(CommandWord::Sym),
             "determine" => Some(CommandWord::Determine),
             "confirm" => Some(CommandWord::Confirm),
             "generate" => Some(CommandWord::Generate),
@@ -65,6 +67,7 @@ impl CommandWord {
             CommandWord::Prove => prove_form(alloc),
             CommandWord::Public => public_form(alloc),
             CommandWord::Audit => audit_form(alloc),
+            CommandWord::Sym => sym_form(alloc),
             CommandWord::Determine => determine_form(alloc),
             CommandWord::Confirm => confirm_form(alloc),
             CommandWord::Generate => generate_form(alloc),

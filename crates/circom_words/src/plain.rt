@@ -3,7 +3,7 @@
 ghost use Rattle.std.specs.Prelude.{◌≡◌, option_map};
 ghost use Rattle.circom_words.specs.Matches.{rows_in};
 ghost use Rattle.circom_words.specs.Words.{meant_plain, check_in, compile_in, prove_in, public_in};
-ghost use Rattle.circom_words.specs.Words.{audit_in, determine_in, confirm_in};
+ghost use Rattle.circom_words.specs.Words.{audit_in, sym_in, determine_in, confirm_in};
 
 use crate::options::{Options, ProveOptions, ThreeNames, options_in, seed_in, version_in};
 use clap::ArgMatches;
@@ -14,6 +14,12 @@ pub enum PlainCommand<'w> {
     Check {
         r1cs: &'w str,
         wtns: &'w str,
+    },
+    /// The same, with the file of the names of wires.
+    CheckNamed {
+        r1cs: &'w str,
+        wtns: &'w str,
+        names: &'w str,
     },
     Compile {
         source: &'w str,
@@ -36,6 +42,11 @@ pub enum PlainCommand<'w> {
         publics: &'w str,
         proof: &'w str,
     },
+    Sym {
+        source: &'w str,
+        out: &'w str,
+        options: Options<'w>,
+    },
     Determine {
         r1cs: &'w str,
         out: &'w str,
@@ -53,7 +64,10 @@ impl<'w> PlainCommand<'w> {
     {
         let r1cs = matches.get_str("R1CS")?;
         let wtns = matches.get_str("WTNS")?;
-        Some(PlainCommand::Check { r1cs, wtns })
+        match matches.get_str("sym") {
+            None => Some(PlainCommand::Check { r1cs, wtns }),
+            Some(names) => Some(PlainCommand::CheckNamed { r1cs, wtns, names }),
+        }
     }
 
     #[tactic(auto, using(crate::proofs::Found::first_rows))]
@@ -103,6 +117,20 @@ impl<'w> PlainCommand<'w> {
             r1cs: names.first,
             publics: names.second,
             proof: names.third,
+        })
+    }
+
+    #[tactic(auto, using(crate::proofs::Found::first_rows))]
+    pub fn sym_in(matches: &ArgMatches<'w>) -> Option<PlainCommand<'w>>
+        ensures { option_map meant_plain result ≡ sym_in (rows_in matches.now) }
+    {
+        let options = options_in(matches)?;
+        let source = matches.get_str("SRC")?;
+        let out = matches.get_str("OUT")?;
+        Some(PlainCommand::Sym {
+            source,
+            out,
+            options,
         })
     }
 

@@ -237,3 +237,48 @@ fn repeated_wires_add_up(rt: HostRuntime) {
         is_sum(&rt, constraint);
     }
 }
+
+// c = a * b and c = 33, as another tool may write them. The bytes were put together by hand, by the
+// pages of the format: the sizes stand behind the constraints, and the terms of the second one are
+// out of order, with two that cancel.
+static OTHER: [u8; 228] = [
+    0x72, 0x31, 0x63, 0x73, 1, 0, 0, 0, 3, 0, 0, 0, // three sections
+    2, 0, 0, 0, 0x6c, 0, 0, 0, 0, 0, 0, 0, 1, 0, 0, 0, // constraints, one term
+    2, 0, 0, 0, 0, 0, 0, 0, 0xff, 0xff, 0xff, 0xff, // A: -w[2]
+    1, 0, 0, 0, 3, 0, 0, 0, 1, 0, 0, 0, 0, 0, 0, 0, // B: w[3]
+    1, 0, 0, 0, 1, 0, 0, 0, 0, 0, 0, 0, 0xff, 0xff, 0xff, 0xff, // C: -w[1]
+    0, 0, 0, 0, 0, 0, 0, 0, 4, 0, 0, 0, // A and B of the second one are 0, and C has four terms
+    3, 0, 0, 0, 5, 0, 0, 0, 0, 0, 0, 0, // 5 * w[3]
+    0, 0, 0, 0, 0x21, 0, 0, 0, 0, 0, 0, 0, // 33 * w[0]
+    3, 0, 0, 0, 0xfc, 0xff, 0xff, 0xff, 0xfe, 0xff, 0xff, 0xff, // -5 * w[3]
+    1, 0, 0, 0, 0, 0, 0, 0, 0xff, 0xff, 0xff, 0xff, // -w[1]
+    1, 0, 0, 0, 0x28, 0, 0, 0, 0, 0, 0, 0, // sizes: the type, the length
+    8, 0, 0, 0, 1, 0, 0, 0, 0xff, 0xff, 0xff, 0xff, // 8 bytes, and the prime
+    4, 0, 0, 0, 1, 0, 0, 0, 0, 0, 0, 0, 2, 0, 0, 0, // 4 wires, 1 output, 0 and 2 inputs
+    4, 0, 0, 0, 0, 0, 0, 0, 2, 0, 0, 0, // 4 labels, 2 constraints
+    3, 0, 0, 0, 0x20, 0, 0, 0, 0, 0, 0, 0, // labels: the type, the length
+    0, 0, 0, 0, 0, 0, 0, 0, 1, 0, 0, 0, 0, 0, 0, 0, // 0, 1
+    2, 0, 0, 0, 0, 0, 0, 0, 3, 0, 0, 0, 0, 0, 0, 0, // 2, 3
+];
+
+// The values 1, c, a and b.
+fn values<R: AllocGlobal + Abort>(rt: &R, c: u8, a: u8, b: u8) -> Vec<u8> {
+    let mut bytes = with_bytes(rt, &WTNS, 60, &[c]);
+    for (at, value) in [(68, a), (76, b)] {
+        bytes = with_bytes(rt, &bytes, at, &[value]);
+    }
+    bytes
+}
+
+#[test]
+fn a_file_of_another_form_is_read(rt: HostRuntime) {
+    let rows = [
+        ((33, 3, 11), None),
+        ((34, 3, 11), Some(0)),
+        ((36, 3, 12), Some(1)),
+    ];
+    for ((c, a, b), fails) in rows {
+        let wtns = values(&rt, c, a, b);
+        same(&rt, failing(rt.alloc(), &OTHER, &wtns), Some(fails));
+    }
+}

@@ -50,7 +50,8 @@ fn strands_of(flow: &Flow) -> u32
 /// Runs a flow on each list of start values, with 1 to 64 workers for all of them. Each outcome is
 /// that of one thread on its list, whatever the workers' number and whatever comes first in time;
 /// so no list's stop touches another. Want of memory in a worker is want of memory of the call. The
-/// gate is told the strand k of the list i as `i * strands + k`.
+/// gate is told the strand k of the list i as `i * strands + k`. The workers wait for each other, so
+/// this holds if it returns.
 pub fn run_batch<R: Threads + Wait + AllocGlobal + Sync, G: Gate>(
     rt: &R,
     flow: &Flow,

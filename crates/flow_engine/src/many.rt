@@ -52,7 +52,8 @@ fn first_pool(
 
 /// Runs the strands of all tasks on 1 to 64 workers, over one pool. Each outcome is that of one
 /// thread on its task, whatever the workers' number and whatever comes first in time; want of
-/// memory in a worker is want of memory of the call.
+/// memory in a worker is want of memory of the call. The workers wait for each other, so this holds
+/// if it returns.
 pub fn run_each<R: Threads + Wait + AllocGlobal + Sync, G: Gate>(
     rt: &R,
     tasks: &[FlowAnswers<'_>],
@@ -81,7 +82,7 @@ pub fn run_each<R: Threads + Wait + AllocGlobal + Sync, G: Gate>(
 
 /// Runs a flow's strands on 1 to 64 workers. The answer is that of one thread, whatever the
 /// workers' number and whatever comes first in time; want of memory in a worker is want of memory
-/// of the call.
+/// of the call. This holds if it returns.
 pub fn run_many<R: Threads + Wait + AllocGlobal + Sync, G: Gate>(
     rt: &R,
     flow: &Flow,

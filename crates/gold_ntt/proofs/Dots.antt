@@ -1,14 +1,13 @@
 -- Sums of products by their words, and lists of powers.
 use Rattle.std.proofs.Common.{◌≡◌, ℕ, suc, ◌+◌, ◌*◌, ◌/◌, ◌%◌, ◌^◌, ◌<◌, ◌≤◌, sym, ap, ◌∙◌, arith}
-use Rattle.std.proofs.Common.{List, [], ◌∷◌, ◌++◌, length, get_or, take, below_more}
-use Rattle.std.proofs.Math.Nat.{mod-mod, mul-le-mul_left}
+use Rattle.std.proofs.Common.{List, [], ◌∷◌, ◌++◌, length, get_or, below_more}
+use Rattle.std.proofs.Math.Nat.{mul-le-mul_left}
 use Rattle.std.proofs.Math.Seq.{get_or-append_seam}
-use Rattle.std.proofs.lemmas.List.{get_or_append_left, get_or-take}
+use Rattle.std.proofs.lemmas.List.{get_or_append_left}
 use Rattle.std.proofs.lemmas.Grind.{get_or_default_zero}
 use Rattle.gold_field.specs.declared.gold.TheConstants.{P}
-use Rattle.gold_ntt.specs.Polynomial.{sum_to, eval_at}
-use Rattle.gold_ntt.proofs.Sums.{sum_to-suc, sum_mod}
-use Rattle.gold_ntt.proofs.Values.{times_same}
+use Rattle.gold_ntt.specs.Polynomial.{sum_to}
+use Rattle.gold_ntt.proofs.Sums.{sum_to-suc}
 
 -- one more product, in two words
 pub one_more_product : (low high i x y : ℕ) (f : ℕ → ℕ)
@@ -39,18 +38,6 @@ high_word x y low_x low_y =
 pub read_there : (xs : List ℕ) (i x y z : ℕ) → i < length xs → x ≡ get_or xs i x → y ≡ x → z ≡ y
     → z ≡ get_or xs i 0
 read_there xs i x y z low is same again = again ∙ same ∙ is ∙ get_or_default_zero xs i x low
-
--- the products with powers
-pub by_powers : (coefs powers : List ℕ) (x : ℕ)
-    → ((k : ℕ) → k < length coefs → get_or powers k 0 ≡ x ^ k % P)
-    → sum_to (length coefs) (λ i. get_or coefs i 0 * get_or (take (length coefs) powers) i 0) % P
-    ≡ eval_at coefs x
-by_powers coefs powers x are =
-    let n : ℕ = length coefs in
-    sum_mod P n (λ i. get_or coefs i 0 * get_or (take n powers) i 0)
-    (λ i. get_or coefs i 0 * x ^ i)
-    (λ i l. times_same P (get_or coefs i 0) (get_or (take n powers) i 0) (x ^ i)
-    (ap (λ (y : ℕ). y % P) (get_or-take n powers i 0 l ∙ are i l) ∙ mod-mod (x ^ i) P))
 
 -- one more power in a list
 pub one_more_power : (all new : List ℕ) (x k power : ℕ) → length all ≡ k

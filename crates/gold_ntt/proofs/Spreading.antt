@@ -1,7 +1,7 @@
 -- Halving a block of coefficients: the values of its halves are its own.
 use Rattle.std.proofs.Common.{◌≡◌, ℕ, zero, suc, ◌+◌, ◌-◌, ◌*◌, ◌/◌, ◌%◌, ◌^◌, ◌<◌, ◌≤◌, ◌⊎◌}
-use Rattle.std.proofs.Common.{inl, inr, refl, sym, ◌∙◌, ap, subst, arith, lit<, mod-eq_of_lt, mod-lt}
-use Rattle.std.proofs.Common.{List, length, get_or, mul_assoc, mul_comm, pow-suc}
+use Rattle.std.proofs.Common.{inl, inr, refl, sym, ◌∙◌, ap, subst, arith, lit<, mod-eq_of_lt}
+use Rattle.std.proofs.Common.{mod-lt, List, length, get_or, mul_assoc, mul_comm, pow-suc}
 use Rattle.std.proofs.Math.Nat.{mod-mod, mul-le-mul_left, pow-zero, two-pow-succ}
 use Rattle.std.proofs.lemmas.Bool.{cases_lt}
 use Rattle.std.proofs.lemmas.Grind.{get_or_default_zero}
@@ -136,7 +136,8 @@ turned d k e b h p whole small two low =
         let exponent : 2 ^ d * (2 * r + h) * 2 ^ k ≡ 2 ^ e * r + half * h =
         spelled (2 ^ d) (2 ^ k) r h half (2 ^ e) parts full in
         let one : (w ^ (2 ^ e)) ^ r % P ≡ 1 =
-        pow_same P (w ^ (2 ^ e)) 1 r (root_one e small ∙ sym (mod-eq_of_lt {n = 1} {m = P} (lit< tt)))
+        pow_same P (w ^ (2 ^ e)) 1 r
+        (root_one e small ∙ sym (mod-eq_of_lt {n = 1} {m = P} (lit< tt)))
         ∙ ap (λ (y : ℕ). y % P) (one_pow r) ∙ mod-eq_of_lt {n = 1} {m = P} (lit< tt) in
         let minus : (w ^ half) ^ h % P ≡ (P - 1) ^ h % P =
         pow_same P (w ^ half) (P - 1) h
@@ -151,21 +152,22 @@ turned d k e b h p whole small two low =
         ∙ sym (mul-mod_first ((w ^ (2 ^ e)) ^ r) ((w ^ half) ^ h) P)
         ∙ ap (λ (y : ℕ). y * (w ^ half) ^ h % P) one ∙ ap (λ (y : ℕ). y % P) alone ∙ minus
 
-pub turned_low : (d k e b p : ℕ) (twiddles : List ℕ) → d + suc k ≡ e → e ≤ 32 → b < 2 ^ d → p < 2 ^ k
-    → AreTwiddles e twiddles
+pub turned_low : (d k e b p : ℕ) (twiddles : List ℕ) → d + suc k ≡ e → e ≤ 32 → b < 2 ^ d
+    → p < 2 ^ k → AreTwiddles e twiddles
     → point_at e (b * 2 ^ suc k + p) ^ (2 ^ k) % P ≡ get_or twiddles (2 ^ d + b) 0 % P
 turned_low d k e b p twiddles whole small block low are =
     let t : ℕ = 2 ^ k in
     let front : ℕ = (7 * root_of e ^ reversed d b) ^ t in
     let none : 0 * t + p ≡ p = omega arith in
-    let alone : front * (P - 1) ^ 0 ≡ front = ap (λ (y : ℕ). front * y) (pow-zero (P - 1)) ∙ omega arith in
+    let alone : front * (P - 1) ^ 0 ≡ front =
+    ap (λ (y : ℕ). front * y) (pow-zero (P - 1)) ∙ omega arith in
     ap (λ (y : ℕ). point_at e (b * 2 ^ suc k + y) ^ t % P) (sym none)
     ∙ turned d k e b 0 p whole small (lit< tt) low
     ∙ ap (λ (y : ℕ). y % P) alone ∙ sym (mod-mod front P)
     ∙ ap (λ (y : ℕ). y % P) (sym (are.each d k b whole block))
 
-pub turned_high : (d k e b p : ℕ) (twiddles : List ℕ) → d + suc k ≡ e → e ≤ 32 → b < 2 ^ d → p < 2 ^ k
-    → AreTwiddles e twiddles
+pub turned_high : (d k e b p : ℕ) (twiddles : List ℕ) → d + suc k ≡ e → e ≤ 32 → b < 2 ^ d
+    → p < 2 ^ k → AreTwiddles e twiddles
     → point_at e (b * 2 ^ suc k + (2 ^ k + p)) ^ (2 ^ k) % P
     ≡ (P - 1) * get_or twiddles (2 ^ d + b) 0 % P
 turned_high d k e b p twiddles whole small block low are =
@@ -241,8 +243,8 @@ pub whole_spread : (old mid one two twiddles : List ℕ) (e d k b start s₁ s�
     → AreParts old mid start m (get_or twiddles (2 ^ d + b) 0) count
     → HasSpread mid one e s₁ k → HasSpread one two e s₂ k
     → HasSpread old two e start (suc k)
-whole_spread old mid one two twiddles e d k b start s₁ s₂ m count size begin first_at second_at whole small
-    block are halved first_there second_there =
+whole_spread old mid one two twiddles e d k b start s₁ s₂ m count size begin first_at second_at
+    whole small block are halved first_there second_there =
     let First : ℕ → Type 0 = λ s. HasSpread mid one e s k in
     let first : HasSpread mid one e start k = subst First first_at first_there in
     let Second : ℕ → Type 0 = λ s. HasSpread one two e s k in
@@ -329,8 +331,8 @@ whole_at old mid one two twiddles d b (suc k) m count pos size small block are h
     let SecondIn : ℕ → Type 0 = λ y. HasSpread one two y ((2 * b + 1) * 2 ^ k) k in
     let at : m ≡ 2 ^ k = size ∙ ap (λ (y : ℕ). 2 ^ y) less in
     whole_spread old mid one two twiddles (d + suc k) d k b (b * 2 ^ suc k) (2 * b * 2 ^ k)
-    ((2 * b + 1) * 2 ^ k) m count at refl (first_start b k) (second_start b k m at) refl (omega arith)
-    block are halves (subst FirstIn deeper (subst First less first))
+    ((2 * b + 1) * 2 ^ k) m count at refl (first_start b k) (second_start b k m at) refl
+    (omega arith) block are halves (subst FirstIn deeper (subst First less first))
     (subst SecondIn deeper (subst Second less second))
 
 -- one place has the value of its only coefficient

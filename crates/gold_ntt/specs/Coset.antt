@@ -1,5 +1,6 @@
 -- The points 7 * w ^ j in the order in which halving a block of coefficients meets them.
-use Rattle.std.specs.Prelude.{◌≡◌, ℕ, suc, ◌+◌, ◌-◌, ◌*◌, ◌%◌, ◌^◌, ◌<◌, ◌≤◌, ◌⊎◌, List, length, slice_index}
+use Rattle.std.specs.Prelude.{◌≡◌, ℕ, suc, ◌+◌, ◌-◌, ◌*◌, ◌%◌, ◌^◌, ◌<◌, ◌≤◌, ◌⊎◌, List, length}
+use Rattle.std.specs.Prelude.{slice_index}
 use Rattle.gold_field.specs.declared.gold.TheConstants.{P}
 use Rattle.gold_ntt.specs.Polynomial.{poly}
 use Rattle.gold_ntt.specs.Reversal.{reversed}

@@ -2,7 +2,7 @@
 
 ghost use Rattle.std.specs.Prelude.{◌≡◌, ℕ, ◌*◌, ◌%◌, ◌^◌, ◌<◌, ◌≤◌, IfOk, length, slice_index};
 ghost use Rattle.gold_field.specs.declared.gold.TheConstants.{P};
-ghost use Rattle.gold_ntt.specs.Polynomial.{sum_to, eval_at};
+ghost use Rattle.gold_ntt.specs.Polynomial.{sum_to};
 
 use gold_field::Gold;
 use std::alloc::{AllocError, Global};
@@ -41,15 +41,4 @@ pub fn powers(alloc: Global, x: Gold, count: usize) -> Result<Vec<Gold>, AllocEr
         power = power.mul(x);
     }
     Ok(all)
-}
-
-/// The value of a polynomial with these coefficients, lowest first, at the number that has these
-/// powers.
-pub fn eval_by(coefs: &[Gold], powers: &[Gold]) -> Gold
-    requires enough { length coefs.now ≤ length powers.now }
-    requires small { length coefs.now ≤ 2 ^ 32 }
-    ensures { (x : ℕ) → ((k : ℕ) → k < length coefs.now → slice_index powers.now k ≡ x ^ k % P)
-        → result ≡ eval_at coefs.now x }
-{
-    sum_of_products(coefs, &powers[..coefs.len()])
 }

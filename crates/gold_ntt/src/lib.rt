@@ -9,7 +9,7 @@ mod roots;
 mod transform;
 
 pub use coset::Coset;
-pub use dot::{eval_by, powers, sum_of_products};
+pub use dot::{powers, sum_of_products};
 pub use polynomial::{eval, mul, padded};
 pub use roots::{ROOT, root};
 pub use transform::{intt, ntt, scale_by_powers};

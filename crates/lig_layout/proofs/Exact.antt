@@ -137,8 +137,8 @@ module _ (f : File) (publics : List ℕ) (v : Vectors) (file : IsFile f) (are : 
       ∙ length-differences start side f.constraints
 
   split : SolvesSystem f publics v
-      → Parts (length f.constraints) (part (x_start (params_of f)) A) (part (y_start (params_of f)) B)
-      (part (z_start (params_of f)) C) (values_of (wire_forms 0 (known_wires f))) (1 ∷ publics)
+      → Parts (length f.constraints) (part (x_start (params_of f)) A)
+      (part (y_start (params_of f)) B) (part (z_start (params_of f)) C) (values_of (wire_forms 0 (known_wires f))) (1 ∷ publics)
   split solved =
       let p = params_of f in
       parts (length f.constraints) (part (x_start p) A) (part (y_start p) B) (part (z_start p) C)
@@ -200,7 +200,8 @@ system_is_file f publics v file limits are = (
       let is = witness.2 in (
         ap (λ (u : Vectors).
             map (value_at (slice_index (message (params_of f) u))) (left_sides (params_of f) f)) is
-            ∙ solves f v.w file limits satisfied.count (numbers_at v.w satisfied.numbers) satisfied.one
+            ∙ solves f v.w file limits satisfied.count (numbers_at v.w satisfied.numbers)
+            satisfied.one
             ∙ ap (λ (ps : List ℕ). right_sides f ps) (sym witness.1),
         λ place.
             ap (λ (u : Vectors). (slice_index u.x place * slice_index u.y place) % P) is

@@ -86,7 +86,8 @@ one_side n st m w side (c ∷ ks) same below there =
     ∙ ap (λ xs. 0 ∷ xs) rest
 
 -- the first wires have their values
-pub wires_known : (n i count : ℕ) (m w : List ℕ) → ((i : ℕ) → i < n → slice_index m i ≡ slice_index w i)
+pub wires_known : (n i count : ℕ) (m w : List ℕ)
+    → ((i : ℕ) → i < n → slice_index m i ≡ slice_index w i)
     → ((i : ℕ) → slice_index w i < P) → n ≤ length w → i + count ≤ n
     → map (value_at (slice_index m)) (wire_forms i count) ≡ take count (drop i w)
 wires_known n i zero m w same reduced whole h = refl
@@ -99,7 +100,8 @@ wires_known n i (suc count) m w same reduced whole h =
     ∙ ap (λ xs. slice_index w i ∷ xs) rest
     ∙ ap (take (suc count)) (sym (drop_more w i 0 (omega arith)))
 
-pub zeros : (q : ℕ) → replicate {A = ℕ} q 0 ++ (replicate q 0 ++ replicate q 0) ≡ replicate (3 * q) 0
+pub zeros : (q : ℕ)
+    → replicate {A = ℕ} q 0 ++ (replicate q 0 ++ replicate q 0) ≡ replicate (3 * q) 0
 zeros q =
     let two : replicate {A = ℕ} q 0 ++ replicate q 0 ≡ replicate (q + q) 0 =
     replicate-append-replicate q q 0 in

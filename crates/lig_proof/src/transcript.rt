@@ -40,9 +40,9 @@ pub fn challenges(
 {
     let first = first_key(relation, publics, root);
     let mut words = ChaCha20Rng::from_seed(first);
-    let mut alpha = Vec::new(alloc);
-    let mut r = Vec::new(alloc);
-    let mut rho = Vec::new(alloc);
+    let mut alpha = Vec::with_capacity(alloc, 2 * params.rows as usize)?;
+    let mut r = Vec::with_capacity(alloc, 2 * equations as usize)?;
+    let mut rho = Vec::with_capacity(alloc, 2 * params.constraint_rows as usize)?;
     draw(&mut alpha, &mut words, params.rows)?;
     draw(&mut r, &mut words, equations)?;
     draw(&mut rho, &mut words, params.constraint_rows)?;

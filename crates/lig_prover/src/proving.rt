@@ -23,7 +23,7 @@ use lig_layout::{Params, Vectors, vectors};
 use lig_merkle::Hash;
 use lig_proof::{Relation, Version, challenges, equation_count, queries};
 use std::alloc::{AllocError, Global};
-use std::thread::Threads;
+use std::thread::{Threads, join};
 
 /// The proof of version 1 for values of the wires that satisfy the constraints of the file with
 /// these bytes. The seed gives its random numbers: it is to be kept secret, and used once.
@@ -125,11 +125,22 @@ pub fn prove_any_as<R: Threads + AllocGlobal + Sync>(
 {
     let alloc = rt.alloc();
     let params = Params::of(file);
-    let (polynomials, codewords) = encode(rt, alloc, &params, file, vectors, &seed)?;
+    // The digest of the file is taken beside the encoding.
+    let (relation, encoded) = join(
+        rt,
+        || -> Relation<'_>
+            ensures { result.bytes.now ≡ r1cs_bytes.entry.now }
+        { Relation::of(r1cs_bytes) },
+        || -> Result<(Vec<Items<Gold>>, Vec<Items<Gold>>), AllocError>
+            requires { (params ≡ params_of file.now) × IsParams params × AreOf file.now vectors.now }
+            ensures { IfOk result (λ m. IsEncoded params vectors.entry.now seed
+                (encoded_by params m.0.items) × AreCodewords params m.0.items m.1.items) }
+        { encode(rt, alloc, &params, file, vectors, &seed) },
+    );
+    let (polynomials, codewords) = encoded?;
     let tree = commit(rt, alloc, &params, &codewords)?;
     let publics = publics_of(file, vectors.w.as_slice());
     let equations = equation_count(file);
-    let relation = Relation::of(r1cs_bytes);
     let challenges = challenges(alloc, &params, &relation, publics, equations, &tree.root())?;
     let polys = sent(
         rt,

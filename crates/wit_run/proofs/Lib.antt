@@ -1,2 +1,3 @@
 mod Logs
 mod Ends
+mod Batches

@@ -1,3 +1,4 @@
 pub mod Lines
 pub mod Ending
 pub mod Task
+pub mod Batch

@@ -1,15 +1,18 @@
-ghost use Rattle.std.specs.Prelude.{◌≡◌, ◌<◌, ◌≤◌, ℕ, List, IfOk, length, map, slice_index};
+ghost use Rattle.std.specs.Prelude.{◌≡◌, ◌<◌, ◌≤◌, ℕ, All, List, IfOk, length, map, slice_index};
+ghost use Rattle.std.specs.List.{AllZip};
 ghost use Rattle.cir_ast.specs.Program.{Program};
 ghost use Rattle.cir_meaning.specs.RunBodies.{ran};
 ghost use Rattle.cir_meaning.specs.Scoped.{IsResolved};
 ghost use Rattle.cir_steps.specs.Places.{ArePlacesMeant};
 ghost use Rattle.wit_circuit.specs.Whole.{IsCircuitOf};
+ghost use Rattle.wit_run.specs.Batch.{HasTask, IsRunFrom, batch_size, most_batch};
 ghost use Rattle.wit_run.specs.Ending.{IsEndOf};
 ghost use Rattle.wit_flow.specs.declared.flow.Outcome.TheVariants.{Done, Refused};
 ghost use Rattle.wit_run.specs.Task.{EndsBy, HasPlace, IsTask, code_in};
 
 use crate::ending::RunEnd;
 use crate::lines::{Held, lines_before};
+use flow_batch::run_batch;
 use flow_engine::{Gate, run_many};
 use gold_field::Gold;
 use items::Items;
@@ -107,16 +110,29 @@ impl CutCircuit {
         })
     }
 
-    fn end_of(&self, alloc: Global, outcome: Outcome) -> Result<RunEnd, AllocError>
-        requires { HasPlace (code_in self.now) outcome }
-        ensures { IfOk result (EndsBy (code_in self.now) outcome) }
+    fn end_of(&self, alloc: Global, outcome: &Outcome) -> Result<RunEnd, AllocError>
+        requires { HasPlace (code_in self.now) outcome.now }
+        ensures { IfOk result (EndsBy (code_in self.now) outcome.now) }
     {
         match outcome {
             Outcome::Done(values) => self.ended(alloc, values.as_slice()),
             Outcome::Refused { step, stop, cells } => {
-                self.stopped(alloc, step, stop, cells.as_slice())
+                self.stopped(alloc, *step, *stop, cells.as_slice())
             }
         }
+    }
+
+    // How the runs with these outcomes end.
+    fn ends_of(&self, alloc: Global, outcomes: &[Outcome]) -> Result<Vec<RunEnd>, AllocError>
+        requires { All (HasPlace (code_in self.now)) outcomes.now }
+        ensures { IfOk result (λ ends. AllZip (EndsBy (code_in self.now)) outcomes.now ends.items) }
+    {
+        let mut ends = Vec::with_capacity(alloc, outcomes.len())?;
+        for outcome in outcomes {
+            let end = self.end_of(alloc, outcome)?;
+            ends.push(end)?;
+        }
+        Ok(ends)
     }
 
     /// Runs the steps on 1 to 64 workers, each step with this fuel, from these numbers in the start
@@ -139,6 +155,41 @@ impl CutCircuit {
             → IfOk result (λ end. IsEndOf task.meaning.instances end (ran p fuel inputs)) }
     {
         let outcome = run_many(rt, &self.flow, start, fuel, workers, gate)?;
-        self.end_of(rt.alloc(), outcome)
+        self.end_of(rt.alloc(), &outcome)
+    }
+
+    /// Runs the steps from each of these lists of numbers, as `run_many` from one, with 1 to 64
+    /// workers for all of them. Each end is that of the program's run on the inputs of its list,
+    /// whatever the others are.
+    pub fn run_batch<R: Threads + Wait + AllocGlobal + Sync, G: Gate>(
+        &self,
+        rt: &R,
+        starts: &[Vec<Gold>],
+        fuel: u64,
+        workers: u32,
+        gate: &G,
+    ) -> Result<Vec<RunEnd>, AllocError>
+        requires tasks { (p : Program)
+            × All (λ start. HasTask p (code_in self.now) start.items) starts.now }
+        requires some { 0 < workers }
+        requires few { workers ≤ 64 }
+        requires small { batch_size (code_in self.now) (length starts.now) ≤ most_batch }
+        ensures { (p : Program) → IfOk result (λ ends. AllZip
+            (λ start end. IsRunFrom p (code_in self.now) fuel start.items end)
+            starts.now ends.items) }
+    {
+        self.flow.facts();
+        let outcomes = run_batch(rt, &self.flow, starts, fuel, workers, gate)?;
+        self.ends_of(rt.alloc(), outcomes.as_slice())
+    }
+
+    /// What so many lists count: for each of them a word for each cell and each step, and 64
+    /// workers.
+    pub fn batch_size(&self, lists: usize) -> u128
+        ensures { result ≡ batch_size (code_in self.now) lists }
+    {
+        self.flow.facts();
+        let each = u128::from(self.flow.cells()) + self.flow.steps.len() as u128 + 64;
+        lists as u128 * each
     }
 }

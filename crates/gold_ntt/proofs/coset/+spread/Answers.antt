@@ -6,8 +6,8 @@ use Rattle.std.proofs.lemmas.Nat.{one_shl, pow_pos}
 use Rattle.gold_field.specs.declared.gold.TheConstants.{P}
 use Rattle.gold_ntt.specs.Coset.{AreTwiddles, AreParts, HasSpread}
 use Rattle.gold_ntt.proofs.Level.{half_fits}
-use Rattle.gold_ntt.proofs.Spreading.{block_fits, start_of, one_spread, whole_at, first_at, second_at}
-use Rattle.gold_ntt.proofs.Spreading.{halved, in_table, pair_spread}
+use Rattle.gold_ntt.proofs.Spreading.{block_fits, start_of, one_spread, whole_at, first_at}
+use Rattle.gold_ntt.proofs.Spreading.{second_at, halved, in_table, pair_spread}
 use Rattle.gold_ntt.proofs.coset.+spread.Goals as goal
 
 -- the numbers that the code computes

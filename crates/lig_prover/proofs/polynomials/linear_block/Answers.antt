@@ -30,7 +30,9 @@ returns c =
     let ok = sums.ok.0 in
     let len = c.in_ok-sums.ensures.len in
     let lent = ap length c.deref_mut.ensures.value in
-    c.of.ensures ∙ block_made (λ j. linear_value p c.args.codewords.now c.args.factors.now c.args.t (2 * j) j)
+    c.of.ensures
+    ∙ block_made
+    (λ j. linear_value p c.args.codewords.now c.args.factors.now c.args.t (2 * j) j)
     c.args.b size sums.len c.linear_sums.new.sums sums.items ok
     (c.linear_sums.auto.sums ∙ lent)
     (omega (arith, ok, len)) (λ i low. c.linear_sums.ensures i (omega (arith, lent)))

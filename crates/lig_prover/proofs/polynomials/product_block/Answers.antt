@@ -30,7 +30,9 @@ returns c =
     let ok = sums.ok.0 in
     let len = c.in_ok-sums.ensures.len in
     let lent = ap length c.deref_mut.ensures.value in
-    c.of.ensures ∙ block_made (λ j. product_value p c.args.challenges.now c.args.codewords.now c.args.t (2 * j))
+    c.of.ensures
+    ∙ block_made
+    (λ j. product_value p c.args.challenges.now c.args.codewords.now c.args.t (2 * j))
     c.args.b size sums.len c.product_sums.new.sums sums.items ok
     (c.product_sums.auto.sums ∙ lent)
     (omega (arith, ok, len)) (λ i low. c.product_sums.ensures i (omega (arith, lent)))

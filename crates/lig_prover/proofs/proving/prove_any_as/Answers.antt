@@ -2,12 +2,13 @@ use Rattle.std.proofs.Common.{◌≡◌, ◌*◌, length, map, ap, ◌∙◌}
 use Rattle.std.specs.List.{range_with_len}
 use Rattle.std.proofs.lemmas.List.FromFn.{length-map-range_with_len}
 use Rattle.rayon.proofs.ListFacts.{IfOk-then}
+use Rattle.std.proofs.lemmas.Result.{IfOk-at_ok}
 use Rattle.lig_layout.specs.Laws.{publics_of}
 use Rattle.lig_merkle.specs.Merkle.{leaf_hash, root_at}
 use Rattle.lig_proof.specs.Columns.{commitment}
-use Rattle.lig_proof.specs.Proving.{AreMade, bytes_in, proof_spelling}
+use Rattle.lig_proof.specs.Proving.{AreMade, IsEncoded, bytes_in, proof_spelling}
 use Rattle.lig_proof.specs.Transcript.{first_key, challenges_of, queries}
-use Rattle.lig_prover.specs.Matrix.{column_in, encoded_by}
+use Rattle.lig_prover.specs.Matrix.{AreCodewords, column_in, encoded_by}
 use Rattle.lig_prover.proofs.Made.{made_for, leaves_same, spelled_same}
 use Rattle.lig_prover.proofs.proving.prove_any_as.Goals as goal
 
@@ -32,7 +33,9 @@ returns g c =
     let r1cs_bytes = c.args.r1cs_bytes.now in
     let polys = c.in_ok-polynomials.polynomials.items in
     let codewords = c.in_ok-polynomials.codewords.items in
-    let are = c.in_ok-polynomials.ensures.codewords in
+    let encoded = IfOk-at_ok (λ m. IsEncoded p v seed (encoded_by p m.0.items)
+    × AreCodewords p m.0.items m.1.items) c.in_ok-polynomials.was c.join-encoded.ensures.second in
+    let are = encoded.1 in
     let e = encoded_by p polys in
     let challenges = c.in_ok-challenges.challenges in
     let all = c.in_ok-polys.polys.items in
@@ -54,9 +57,9 @@ returns g c =
     (λ bytes made. made_for p version r1cs_bytes f v seed bytes.items polys challenges sent.0
     c.of-params.ensures.value
     (record {
-      rows = c.in_ok-polynomials.ensures.encoded;
+      rows = encoded.0;
       challenges_drawn = c.in_ok-challenges.ensures.value ∙ (λ i. challenges_of p (equations i)
-          (first_key (c.of-relation.ensures i) (publics i) (root i)));
+          (first_key (c.join-encoded.ensures.first i) (publics i) (root i)));
       systems = sent.1;
       spelled = made ∙ (λ i. proof_spelling version p (column_in (c.deref-4.ensures.value i)) tree
           all (c.deref-5.ensures.value i))

@@ -1,5 +1,0 @@
-use Rattle.circom_gold.proofs.WitnessLaws.{check_accepts}
-use Rattle.circom_gold.proofs.laws.check_accepts_witnesses.Goals as goal
-
-pub returns : goal.returns
-returns c = check_accepts

@@ -1,7 +1,0 @@
-use Rattle.circom_gold.proofs.Chains.{confirmed_in_turn}
-use Rattle.circom_gold.proofs.laws.determine_confirm.Goals as goal
-
-pub returns : goal.returns
-returns c =
-    λ first second last r1cs certificate exit found said a b differ.
-    confirmed_in_turn first second last r1cs certificate exit found said a b differ

@@ -1,9 +1,0 @@
-use Rattle.circom_gold.proofs.Chains.{accepted_in_turn}
-use Rattle.circom_gold.proofs.laws.prove_public_audit.Goals as goal
-
-pub returns : goal.returns
-returns c =
-    λ first second third last r1cs wtns publics proof options exit proved published said
-    a b d p q r s.
-    accepted_in_turn first second third last r1cs wtns publics proof options exit proved published
-    said a b d p q r s

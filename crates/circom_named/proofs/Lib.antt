@@ -1,0 +1,2 @@
+pub mod Wired
+pub mod Describing

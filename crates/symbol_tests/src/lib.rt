@@ -1,0 +1,5 @@
+//! Tests of files of symbols.
+#![tactic(auto)]
+
+#[cfg(test)]
+mod lines;
