@@ -36,8 +36,6 @@ impl<K: Sink + Drop, W: Watcher + Drop> Heard<K, W> {
 }
 
 impl<K: Sink + Drop, W: Watcher + Drop> Sink for Heard<K, W> {
-    ghost contents = { λ s. K.contents s.inner };
-
     ghost may_have = { λ s. K.may_have s.inner };
 
     ghost calls = { λ s. K.calls s.inner };

@@ -53,8 +53,6 @@ fn add(
 }
 
 impl<S: Store + Drop, W: Watcher + Drop> Store for Watched<S, W> {
-    ghost contents = { λ s. S.contents s.inner };
-
     ghost may_hold = { λ s. S.may_hold s.inner };
 
     ghost calls = { λ s. S.calls s.inner };
