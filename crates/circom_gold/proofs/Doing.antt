@@ -197,7 +197,7 @@ module _ (command : Option Command) (store : Device Contents) (sink : Device (Li
 
   -- the store's fault ends the run
   first_fault : (fault : IoFault) (result : Result ℕ AllocError)
-      → store.faults_after ≡ faults_after {CodeReply} (Err fault) store.faults
+      → store.faults_after ≡ faults_after {T = CodeReply} (Err fault) store.faults
       → IfOk result (ExitsBy (Err fault) (HasFailed sink))
       → StopsAtFault store (result_ok result)
   first_fault Failed result more exits = inr (
