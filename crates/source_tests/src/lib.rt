@@ -2,6 +2,8 @@
 #![tactic(auto)]
 
 #[cfg(test)]
+mod batching;
+#[cfg(test)]
 mod checks;
 #[cfg(test)]
 mod compiling;
