@@ -200,8 +200,8 @@ module _ (level : Level) (x : Coded) (coded : IsCoded level x) (fuel : ℕ)
         is (end.Stopped stop place log) = refl
 
   -- the list at a place, and its end
-  ended_at : (line : List ℕ) (item : Item) (ss : List (Vec ℕ Global)) (es : List RunEnd) (k : ℕ)
-      → AllZip (λ s e. IsRunFrom p x.code fuel s.items e) ss es
+  ended_at : (line : List ℕ) (item : Item) (ss : List (Vec ℕ Global)) (es : List RunEnd)
+      (k : ℕ) → AllZip (λ s e. IsRunFrom p x.code fuel s.items e) ss es
       → IsSomeAnd (slice_get ss k)
       (λ s. accepted_input inputs (input_of line inputs) ≡ Ok s.items)
       → IsSomeAnd (slice_get es k) (λ e. item ≡ shown_end e) → IsItem p x.file fuel line item
@@ -271,10 +271,10 @@ all_tasks level x coded starts given =
 pub all_batched : (level : Level) (x : Coded) → IsCoded level x → (fuel : ℕ) (text : List ℕ)
     (starts : List (Vec ℕ Global)) (ends : List RunEnd)
     → AllZip (λ s e. IsRunFrom (program_of x) x.code fuel s.items e) starts ends
-    → {A : Type 0} (of : A → List ℕ) (lines : List A) (entries : List Entry) (items : List Item)
-    → map of lines ≡ lines_of text
-    → AllZip (λ (l : A) (e : Entry). IsEntry x.circuit.signals.inputs starts (of l) e) lines entries
-    → AllZip (IsEntryItem (program_of x).files x.circuit.instances x.file ends) entries items
+    → {A : Type 0} (of : A → List ℕ) (lines : List A) (entries : List Entry)
+    (items : List Item) → map of lines ≡ lines_of text
+    → AllZip (λ (l : A) (e : Entry). IsEntry x.circuit.signals.inputs starts (of l) e) lines
+    entries → AllZip (IsEntryItem (program_of x).files x.circuit.instances x.file ends) entries items
     → batch_size x.code (length lines) ≤ most_batch
     → BatchesOn (program_of x) x.file fuel text (Ok items)
 all_batched level x coded fuel text starts ends runs of lines entries items are a b small =
@@ -289,8 +289,8 @@ all_batched level x coded fuel text starts ends runs of lines entries items are 
 
 -- lines that count more
 pub too_large : (level : Level) (x : Coded) → IsCoded level x → (fuel : ℕ) (text : List ℕ)
-    {A : Type 0} (of : A → List ℕ) (lines : List A) (size : ℕ) → map of lines ≡ lines_of text
-    → size ≡ batch_size x.code (length lines) → most_batch < size
+    {A : Type 0} (of : A → List ℕ) (lines : List A) (size : ℕ)
+    → map of lines ≡ lines_of text → size ≡ batch_size x.code (length lines) → most_batch < size
     → BatchesOn (program_of x) x.file fuel text (Err (stops.Refused (LargeBatch size)))
 too_large level x coded fuel text of lines size are is many =
     let same : size ≡ batch_size x.code (length (lines_of text)) =
@@ -334,7 +334,8 @@ module _ (held : Contents → Type 0) (source name : List ℕ) (options : Option
         source_of level x coded files source options same (loaded files (still files may)).loaded
 
     pub unread_batch : (fails : Type 0) (stop : Stop) → (fails → failed)
-        → Steps (λ (v : Vec ℕ Global). v.items) held (λ files. bytes_in files name) fails (Err stop)
+        → Steps (λ (v : Vec ℕ Global). v.items) held (λ files. bytes_in files name) fails
+        (Err stop)
         → StepsTo (λ (items : List Item). items) held Finds failed (Err stop)
     unread_batch fails (stops.Refused r) rose step = λ files may. inr record {
       program = program_of x;

@@ -23,12 +23,13 @@ use Rattle.circom_gold.proofs.OneRun.{err_same, ok_or_err, ok_same, one_given, o
 use Rattle.circom_gold.proofs.OneRun.{one_run, one_source, one_source_file, source_or_refused}
 
 module _ (p : Program) (f : File) (fuel : ℕ) (line : List ℕ) where
-  abbrev same_given : (x y : Result (List ℕ) Refusal) → GivesLine line p x → GivesLine line p y
-      → x ≡ y
+  abbrev same_given : (x y : Result (List ℕ) Refusal) → GivesLine line p x
+      → GivesLine line p y → x ≡ y
   same_given x y a b =
       one_given (alone line) [] p p x y refl (as_given line p x a) (as_given line p y b)
 
-  one_found : (x y : Result Ran Refusal) → RunsOn p f fuel line x → RunsOn p f fuel line y → x ≡ y
+  one_found : (x y : Result Ran Refusal) → RunsOn p f fuel line x → RunsOn p f fuel line y
+      → x ≡ y
   one_found (Ok r) (Ok s) (ns, a, run) (ms, b, other) =
       let given : Ok (1 ∷ ns) ≡ Ok (1 ∷ ms) =
       same_given (Ok (1 ∷ ns)) (Ok (1 ∷ ms)) a b in
@@ -57,7 +58,7 @@ one_items p f fuel (l ∷ ls) (x ∷ xs) (y ∷ ys) a b =
     ap₂ (λ (z : Item) (zs : List Item). z ∷ zs) (one_item p f fuel l x y a.0 b.0)
     (one_items p f fuel ls xs ys a.1 b.1)
 
-one_size : (p : Program) (lines : ℕ) (a b : ℕ) → Counts p lines a → Counts p lines b → a ≡ b
+one_size : (p : Program) (lines a b : ℕ) → Counts p lines a → Counts p lines b → a ≡ b
 one_size p lines a b x y =
     x.counted
     ∙ ap (λ (c : Circuit). lines * (c.cells + length c.steps + 64))
@@ -65,7 +66,8 @@ one_size p lines a b x y =
     ∙ sym y.counted
 
 module _ (files : Contents) (source inputs : List ℕ) (options : Options) (fuel : ℕ) where
-  one_text : (a b : List ℕ) → bytes_in files inputs ≡ Ok a → bytes_in files inputs ≡ Ok b → a ≡ b
+  one_text : (a b : List ℕ) → bytes_in files inputs ≡ Ok a → bytes_in files inputs ≡ Ok b
+      → a ≡ b
   one_text a b x y = ok_same (bytes_in files inputs) a b x y
 
   -- the sizes of lines of two readings

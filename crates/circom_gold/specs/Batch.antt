@@ -1,5 +1,6 @@
 -- The command `batch`: the runs of a source's program on the lines of a file.
-use Rattle.std.specs.Prelude.{◌≡◌, ℕ, ◌+◌, ◌*◌, ◌<◌, ◌≤◌, ◌⊎◌, List, [], ◌∷◌, ◌++◌, length, All}
+use Rattle.std.specs.Prelude.{◌≡◌, ℕ, ◌+◌, ◌*◌, ◌<◌, ◌≤◌, ◌⊎◌, List}
+use Rattle.std.specs.Prelude.{[], ◌∷◌, ◌++◌, length, All}
 use Rattle.std.specs.Prelude.{Some, None, Result, Ok, Err, ⊤}
 use Rattle.std.specs.List.{AllZip}
 use Rattle.text_lines.specs.Lines.{lines_of}
@@ -38,7 +39,8 @@ pub record GivesLine (line : List ℕ) (program : Program) (found : Result (List
 
 -- what the program comes to on the line alone: how its run ends, with the values of the file's
 -- wires, or the refusal of the line
-abbrev pub RunsOn : Program → File → (fuel : ℕ) → (line : List ℕ) → Result Ran Refusal → Type 0
+abbrev pub RunsOn : Program → File → (fuel : ℕ) → (line : List ℕ) → Result Ran Refusal
+    → Type 0
 RunsOn program file fuel line (Ok found) =
     (inputs : List ℕ) × GivesLine line program (Ok (1 ∷ inputs))
     × IsRunOf program file fuel inputs found

@@ -35,8 +35,8 @@ IsWithin ends (entry.Start place) = place < ends
 IsWithin ends (entry.Refused line) = ⊤
 
 -- the item of an entry, by the ends of the runs
-abbrev pub IsEntryItem : (files instances : List (List ℕ)) → File → List RunEnd → Entry → Item
-    → Type 0
+abbrev pub IsEntryItem : (files instances : List (List ℕ)) → File → List RunEnd → Entry
+    → Item → Type 0
 IsEntryItem files instances file ends (entry.Start place) item =
     IsSomeAnd (slice_get ends place) (λ end. item ≡ end_item files instances file end)
 IsEntryItem files instances file ends (entry.Refused line) item = item ≡ Refused line

@@ -14,8 +14,8 @@ ghost use Rattle.circom_gold.specs.Witness.{Witnesses};
 /// and each item is the file, or the line, that `witness` has for a file that holds this line
 /// alone, where the source loads as it did.
 pub fn batch_laws()
-    ensures status { (files : Contents) (source inputs out : List ℕ) (options : Options) (fuel : ℕ)
-        (r : Reply) → Says (batched out)
+    ensures status { (files : Contents) (source inputs out : List ℕ) (options : Options)
+        (fuel : ℕ) (r : Reply) → Says (batched out)
         (λ found. Batches files source inputs options fuel found) r
         → (r.status ≡ 0) ↔ HasBatch files source inputs options fuel }
     ensures written { (files : Contents) (source inputs out : List ℕ) (options : Options)
