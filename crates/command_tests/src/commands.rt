@@ -186,13 +186,7 @@ static CALLS: [(&str, u32, bool, u8, &str); 15] = [
         2,
         "rejected: 2 Malformed at byte 0\n",
     ),
-    (
-        "sym a.circom n.out",
-        3,
-        true,
-        0,
-        "sym: lines 3\n",
-    ),
+    ("sym a.circom n.out", 3, true, 0, "sym: lines 3\n"),
     (
         "check m.r1cs m.wtns --sym m.bytes",
         3,

@@ -49,5 +49,11 @@ fn names_are_read_last(rt: HostRuntime) {
     let line = "refused: no.sym: no such file\n";
     says(&rt, words, &mut store, 1, line);
     let behind = "refused: no.wtns: no such file\n";
-    says(&rt, "check m.r1cs no.wtns --sym no.sym", &mut store, 1, behind);
+    says(
+        &rt,
+        "check m.r1cs no.wtns --sym no.sym",
+        &mut store,
+        1,
+        behind,
+    );
 }
