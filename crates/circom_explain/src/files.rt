@@ -104,6 +104,8 @@ fn cause_text(code: &str) -> &'static str {
         "F11" => "the file passes a limit",
         "C1" => "this isn't a rule of a certificate",
         "C2" => "there are more rules than are read",
+        "S1" => "this isn't a line of a file of names",
+        "S2" => "there are more lines than are read",
         _ => "the file is refused",
     }
 }

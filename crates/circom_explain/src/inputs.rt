@@ -32,6 +32,13 @@ pub fn input_advice(alloc: Global, code: &str, rest: &str) -> Result<Advice, All
             advice.help(&["take it out, or spell it as the source does"])?;
         }
         "I4" => add_counts(&mut advice, rest)?,
+        "B1" => {
+            advice.note(&[
+                "a line counts the circuit's cells, its steps and 64; all lines, \
+                33554432 at most",
+            ])?;
+            advice.help(&["split the file of inputs"])?;
+        }
         _ => {
             advice.note(&["a number is decimal digits or 0x and hexadecimal digits; see "])?;
             add_indexed(&mut advice, rest)?;

@@ -83,6 +83,7 @@ fn refused(rest: &str) -> Option<Said<'_>> {
         || rest.starts_with("I3 ")
         || rest.starts_with("I4 ")
         || rest.starts_with("I5 ")
+        || rest.starts_with("B1 ")
     {
         return input(rest);
     }
