@@ -31,7 +31,7 @@ use Rattle.wit_run.specs.declared.ending.RunEnd.TheVariants as end
 use Rattle.circom_words.specs.Words.{Options}
 use Rattle.circom_lines.specs.declared.answer.Refusal.{Refusal}
 use Rattle.circom_lines.specs.declared.answer.Refusal.TheVariants.{LargeBatch}
-use Rattle.circom_files.specs.Held.{OfAll}
+use Rattle.out_io.specs.Held.{OfAll}
 use Rattle.circom_files.specs.Files.{bytes_in}
 use Rattle.circom_files.specs.Running.{accepted_input, input_in}
 use Rattle.circom_files.specs.Steps.{Steps, StepsTo}
