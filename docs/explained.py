@@ -17,6 +17,11 @@ what these texts are: `crates/explain_tests` tests them, and `docs/explained.py`
 A name that is near is offered where at most two letters differ. What is said of syntax is a guess:
 it is the first token that can't stand beside the one before it, or the bracket that isn't closed.
 The source is read once more to be shown, where it is a file of its own.
+
+Where standard error is a terminal, a command that takes more than a second also says there, in one
+row that is cleared before the answer, what it is at and for how long:
+
+    circom_gold: compiling, 4 s
 """
 
 MUL = """template Mul() {

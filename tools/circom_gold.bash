@@ -16,7 +16,7 @@ _circom_gold_files() {
 _circom_gold() {
     local IFS=$'\n'
     local word=${COMP_WORDS[COMP_CWORD]} before=${COMP_WORDS[COMP_CWORD - 1]}
-    local commands='check compile witness prove public audit sym determine confirm generate'
+    local commands='check compile witness prove public audit sym batch determine confirm generate'
     local command=${COMP_WORDS[1]} levels='--O0 --O1 --O2 -l' options place=0 at
     COMPREPLY=()
     if [ "$COMP_CWORD" -eq 1 ]; then
@@ -32,7 +32,7 @@ _circom_gold() {
     case $command in
         check) options='--sym' ;;
         compile | sym) options=$levels ;;
-        witness) options="$levels --workers --fuel" ;;
+        witness | batch) options="$levels --workers --fuel" ;;
         generate) options='--workers --fuel' ;;
         prove) options='--seed --proof' ;;
     esac
@@ -51,7 +51,7 @@ _circom_gold() {
         esac
     done
     case $command.$place in
-        compile.1 | witness.1 | sym.1) _circom_gold_files "$word" .circom ;;
+        compile.1 | witness.1 | sym.1 | batch.1) _circom_gold_files "$word" .circom ;;
         witness.2 | audit.2) _circom_gold_files "$word" .json ;;
         check.1 | prove.1 | public.1 | audit.1 | determine.1 | confirm.1)
             _circom_gold_files "$word" .r1cs ;;

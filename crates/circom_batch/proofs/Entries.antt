@@ -1,5 +1,6 @@
 -- Entries of lines, while lists of numbers are added.
-use Rattle.std.proofs.Common.{◌≡◌, ℕ, zero, suc, ◌+◌, ◌≤◌, ◌<◌, List, [], ◌∷◌, ◌++◌, length}
+use Rattle.std.proofs.Common.{◌≡◌, ℕ, zero, suc, ◌+◌, ◌≤◌, ◌<◌, List, []}
+use Rattle.std.proofs.Common.{◌∷◌, ◌++◌, length}
 use Rattle.std.proofs.Common.{Ok, Err, All, Vec, Global, ap, arith, slice_get, subst}
 use Rattle.std.proofs.Common.{subst₂, sym, get_or, take}
 use Rattle.std.specs.Prelude.{IsSomeAnd}
@@ -20,8 +21,8 @@ use Rattle.circom_batch.specs.declared.inputs.Entry.{Entry}
 use Rattle.circom_batch.specs.declared.inputs.Entry.TheVariants.{Start, Refused}
 
 -- what stands at a place stands there still
-there : {A : Type 0} (P : A → Type 0) (xs more : List A) (k : ℕ) → IsSomeAnd (slice_get xs k) P
-    → IsSomeAnd (slice_get (xs ++ more) k) P
+there : {A : Type 0} (P : A → Type 0) (xs more : List A) (k : ℕ)
+    → IsSomeAnd (slice_get xs k) P → IsSomeAnd (slice_get (xs ++ more) k) P
 there P [] more k h = absurd h
 there P (x ∷ xs) more zero h = h
 there P (x ∷ xs) more (suc k) h = there P xs more k h
@@ -43,8 +44,8 @@ module _ (inputs : List InputShape) where
     more = start ∷ [];
     behind = behind;
     one = omega arith;
-    inputs_each = All-cons (λ (s : Vec ℕ Global). IsInput inputs s.items) start [] (line, accepts)
-        (All-nil (λ (s : Vec ℕ Global). IsInput inputs s.items));
+    inputs_each = All-cons (λ (s : Vec ℕ Global). IsInput inputs s.items) start []
+        (line, accepts) (All-nil (λ (s : Vec ℕ Global). IsInput inputs s.items));
     taken = subst₂ (λ (ss : List (Vec ℕ Global)) (k : ℕ). IsSomeAnd (slice_get ss k)
         (Accepts line)) (sym behind) (sym at) (last (Accepts line) before start accepts);
   }
@@ -61,8 +62,8 @@ module _ (inputs : List InputShape) where
     taken = (refusal, refuses, is);
   }
 
-  pub taken_line : (before : List (Vec ℕ Global)) (line : List ℕ) (stop : Stop) (text : List ℕ)
-      → Gets (λ (v : Vec ℕ Global). v.items) (accepted_input inputs (input_of line inputs))
+  pub taken_line : (before : List (Vec ℕ Global)) (line : List ℕ) (stop : Stop)
+      (text : List ℕ) → Gets (λ (v : Vec ℕ Global). v.items) (accepted_input inputs (input_of line inputs))
       (Err stop) → IsLineOf stop text → IsTaken inputs before line before (Refused text)
   taken_line before line stop text gets (refusal, is, are) =
       taken_refused before line refusal text
@@ -77,7 +78,8 @@ module _ (inputs : List InputShape) where
   module _ {A : Type 0} (text : A → List ℕ) where
     abbrev pub Give : List (Vec ℕ Global) → List A → List Entry → Type 0
     Give starts lines entries =
-        AllZip (λ (line : A) (entry : Entry). IsEntry inputs starts (text line) entry) lines entries
+        AllZip (λ (line : A) (entry : Entry). IsEntry inputs starts (text line) entry) lines
+        entries
 
     entries_still : (starts more : List (Vec ℕ Global)) (lines : List A) (entries : List Entry)
         → Give starts lines entries → Give (starts ++ more) lines entries
@@ -94,7 +96,8 @@ module _ (inputs : List InputShape) where
         → IsTaken inputs starts (text (get_or lines i d)) after entry
         → Give after (take (i + 1) lines) (entries ++ entry ∷ [])
     entries_more starts after lines entries i d entry near h t =
-        subst (λ (ls : List A). Give after ls (entries ++ entry ∷ [])) (sym (take_more lines i d near))
+        subst (λ (ls : List A). Give after ls (entries ++ entry ∷ []))
+        (sym (take_more lines i d near))
         (all_zipped_more (λ (l : A) (e : Entry). IsEntry inputs after (text l) e) (take i lines)
         entries (get_or lines i d) entry
         (subst (λ (ss : List (Vec ℕ Global)). Give ss (take i lines) entries) (sym t.behind)

@@ -1,5 +1,6 @@
 -- What lines give as inputs.
-use Rattle.std.specs.Prelude.{◌≡◌, ℕ, ◌≤◌, List, ◌++◌, length, All, slice_get, IsSomeAnd, Ok, Err}
+use Rattle.std.specs.Prelude.{◌≡◌, ℕ, ◌≤◌, List, ◌++◌, length, All, slice_get}
+use Rattle.std.specs.Prelude.{IsSomeAnd, Ok, Err}
 use Rattle.std.specs.declared.alloc.Global.{Global}
 use Rattle.std.specs.declared.vec.Vec.{Vec}
 use Rattle.cir_values.specs.declared.signals.InputShape.{InputShape}
@@ -15,11 +16,12 @@ use Rattle.circom_batch.specs.declared.inputs.Entry.TheVariants.{Start, Refused}
 
 -- some line gives these numbers
 abbrev pub IsInput : List InputShape → List ℕ → Type 0
-IsInput inputs start = (line : List ℕ) × (accepted_input inputs (input_of line inputs) ≡ Ok start)
+IsInput inputs start =
+    (line : List ℕ) × (accepted_input inputs (input_of line inputs) ≡ Ok start)
 
 -- the line gives the numbers at this place, or is refused so
-abbrev pub IsEntry : List InputShape → (starts : List (Vec ℕ Global)) → (line : List ℕ) → Entry
-    → Type 0
+abbrev pub IsEntry : List InputShape → (starts : List (Vec ℕ Global)) → (line : List ℕ)
+    → Entry → Type 0
 IsEntry inputs starts line (Start place) =
     IsSomeAnd (slice_get starts place)
     (λ start. accepted_input inputs (input_of line inputs) ≡ Ok start.items)

@@ -40,12 +40,12 @@ pub fn warn(rt: &(impl Eprint + AllocGlobal), words: &[String]) {
 }
 
 /// Says what the answer means, where there is memory for it.
-pub fn explain<R: Files + Eprint + AllocGlobal>(
+pub fn explain<'x, R: Files + Eprint + AllocGlobal>(
     rt: &R,
-    words: &[String],
-    printed: &[u8],
+    words: &'x [String],
+    printed: &'x [u8],
     status: u8,
-    asked: &[Asked],
+    asked: &'x [Asked],
 ) -> Result<(), AllocError> {
     let source = source_of(rt, words, printed);
     let system = cause_of(rt, asked)?;
@@ -54,13 +54,36 @@ pub fn explain<R: Files + Eprint + AllocGlobal>(
         printed,
         status,
         asked,
-        source: source.as_ref().map(|bytes| bytes.as_slice()),
-        system: system.as_ref().map(|text| text.as_str()),
+        source: None,
+        system: None,
     };
-    if let Some(text) = explanation(rt.alloc(), &case)? {
-        let _ = eprint!(rt; "{text}");
+    match explained(rt.alloc(), &case, &source, &system)? {
+        Some(text) => {
+            let _ = eprint!(rt; "{text}");
+            Ok(())
+        }
+        None => Ok(()),
     }
-    Ok(())
+}
+
+// The explanation with what the files show. One lifetime is that of all.
+fn explained<'x>(
+    alloc: Global,
+    case: &Case<'x>,
+    source: &'x Option<Vec<u8>>,
+    system: &'x Option<String>,
+) -> Result<Option<String>, AllocError> {
+    let source = source.as_ref().map(|bytes| bytes.as_slice());
+    let system = system.as_ref().map(|text| text.as_str());
+    let case = Case {
+        words: case.words,
+        printed: case.printed,
+        status: case.status,
+        asked: case.asked,
+        source,
+        system,
+    };
+    explanation(alloc, &case)
 }
 
 // The source that was refused, read once more. What isn't a file of its own, as a pipe, isn't.

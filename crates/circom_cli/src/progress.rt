@@ -45,7 +45,7 @@ impl Progress {
     pub fn new() -> Progress {
         Progress {
             command: AtomicU64::new(0),
-            step: AtomicU64::new(READING),
+            step: AtomicU64::new(WORKING),
             files: AtomicU64::new(0),
             is_shown: AtomicU64::new(0),
             sleeper: Parker::new(),
@@ -82,17 +82,17 @@ impl Progress {
         if step == OVER {
             return false;
         }
-        let files = self.files.load(Ordering::SeqCst);
-        let work = match step {
-            READING => "reading",
-            WRITING => "writing",
-            _ => work_of(self.command.load(Ordering::SeqCst)),
-        };
         self.is_shown.store(1, Ordering::SeqCst);
         if self.step.load(Ordering::SeqCst) == OVER {
             return false;
         }
-        let _ = eprint!(rt; "{CLEAR}circom_gold: {work}, {files} files read, {seconds} s");
+        let files = self.files.load(Ordering::SeqCst);
+        let work = work_of(self.command.load(Ordering::SeqCst));
+        let _ = match step {
+            READING => eprint!(rt; "{CLEAR}circom_gold: reading file {files}, {seconds} s"),
+            WRITING => eprint!(rt; "{CLEAR}circom_gold: writing, {seconds} s"),
+            _ => eprint!(rt; "{CLEAR}circom_gold: {work}, {seconds} s"),
+        };
         true
     }
 

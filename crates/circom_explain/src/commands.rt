@@ -16,7 +16,7 @@ pub struct Form {
 }
 
 /// The commands: one entry each.
-pub static FORMS: [Form; 9] = [
+pub static FORMS: [Form; 11] = [
     Form {
         name: "compile",
         files: &["SRC", "OUT"],
@@ -38,8 +38,8 @@ pub static FORMS: [Form; 9] = [
     Form {
         name: "check",
         files: &["R1CS", "WTNS"],
-        options: &[],
-        usage: "check R1CS WTNS",
+        options: &["--sym"],
+        usage: "check R1CS WTNS [--sym SYM]",
         example: "check mul.r1cs mul.wtns",
         work: "checking",
         writes: false,
@@ -71,6 +71,24 @@ pub static FORMS: [Form; 9] = [
         example: "audit mul.r1cs public.json mul.proof",
         work: "auditing",
         writes: false,
+    },
+    Form {
+        name: "sym",
+        files: &["SRC", "OUT"],
+        options: &["--O0", "--O1", "--O2", "-l"],
+        usage: "sym SRC OUT [--O0, --O1 or --O2] [-l DIR]",
+        example: "sym mul.circom mul.sym",
+        work: "compiling",
+        writes: true,
+    },
+    Form {
+        name: "batch",
+        files: &["SRC", "INPUTS", "OUT"],
+        options: &["--O0", "--O1", "--O2", "-l", "--workers", "--fuel"],
+        usage: "batch SRC INPUTS OUT [--O0, --O1 or --O2] [-l DIR] [--workers N] [--fuel N]",
+        example: "batch mul.circom mul.lines mul.batch --workers 4",
+        work: "compiling and running",
+        writes: true,
     },
     Form {
         name: "determine",
@@ -135,7 +153,10 @@ pub fn work_of(number: u64) -> &'static str {
 
 /// Whether a value stands behind the option.
 pub fn takes_value(option: &str) -> bool {
-    matches!(option, "-l" | "--workers" | "--fuel" | "--seed" | "--proof")
+    matches!(
+        option,
+        "-l" | "--sym" | "--workers" | "--fuel" | "--seed" | "--proof"
+    )
 }
 
 /// Whether the option may have this value.
@@ -165,6 +186,7 @@ pub fn values_of(option: &str) -> &'static str {
         "--proof" => "1 or 2",
         "SIZE" => "a number from 1 to 300000",
         "--seed" => "64 hexadecimal digits",
+        "--sym" => "a file of names",
         _ => "a folder",
     }
 }

@@ -63,7 +63,8 @@ Refuses name fault stop = ⊥
 abbrev pub RefusesLines : LineKind → List ℕ → LineFault → Stop → Type 0
 RefusesLines kind name (lines.BadLine line) (Refused refusal) =
     refusal ≡ BadLines name kind BadLine line
-RefusesLines kind name (lines.Limit line) (Refused refusal) = refusal ≡ BadLines name kind Limit line
+RefusesLines kind name (lines.Limit line) (Refused refusal) =
+    refusal ≡ BadLines name kind Limit line
 RefusesLines kind name fault OutOfMemory = ⊤
 RefusesLines kind name fault stop = ⊥
 

@@ -3,7 +3,7 @@ use Rattle.std.proofs.Common.{◌≡◌, Option, Some, None, Ok, IfSome, option_
 use Rattle.out_io.specs.Contents.{Contents}
 use Rattle.circom_words.specs.Words.{Command, meant_circuit}
 use Rattle.circom_words.specs.declared.circuit.CircuitCommand.{CircuitCommand}
-use Rattle.circom_words.specs.declared.circuit.CircuitCommand.TheVariants.{Witness, Generate}
+use Rattle.circom_words.specs.declared.circuit.CircuitCommand.TheVariants.{Witness, Batch, Generate}
 use Rattle.circom_files.specs.Given.{Leaves}
 use Rattle.out_io.specs.Held.{Becomes, OfAll}
 use Rattle.circom_files.specs.Shown.{shown}
@@ -19,6 +19,7 @@ pub assures_nothing : (command : Option CircuitCommand) (files : Contents) (r : 
     → IfSome (option_map meant_circuit command) (λ c. Assures c files r)
 assures_nothing None files r = tt
 assures_nothing (Some (Witness source input out options running)) files r = tt
+assures_nothing (Some (Batch source inputs out options running)) files r = tt
 assures_nothing (Some (Generate seed size running)) files r = tt
 
 -- the reply was made of what there may be then, by reading alone, and its file was written

@@ -1,8 +1,9 @@
 -- Nothing is asked of the store.
 use Rattle.std.proofs.Common.{◌∷◌, [], List, None, Option, Some, refl}
 use Rattle.out_io.specs.History.{Call}
-use Rattle.circom_words.specs.Words.{Command, audit, check, check_named, compile, confirm}
-use Rattle.circom_words.specs.Words.{determine, generate, name_signals, prove, public, witness}
+use Rattle.circom_words.specs.Words.{Command, audit, batch, check, check_named, compile}
+use Rattle.circom_words.specs.Words.{confirm, determine, generate, name_signals, prove, public}
+use Rattle.circom_words.specs.Words.{witness}
 use Rattle.circom_files.proofs.Asking.{asks_none}
 use Rattle.circom_gold.specs.Asking.{ReadsFor}
 
@@ -23,3 +24,4 @@ reads_nothing (Some (generate seed size running)) calls = refl
 reads_nothing (Some (compile source out options)) calls = tt
 reads_nothing (Some (witness source input out options running)) calls = tt
 reads_nothing (Some (name_signals source out options)) calls = tt
+reads_nothing (Some (batch source inputs out options running)) calls = tt

@@ -1,6 +1,8 @@
 -- What the lines of a batch come to.
-use Rattle.std.proofs.Common.{◌≡◌, ◌∙◌, ℕ, zero, suc, ◌+◌, ◌*◌, ◌<◌, ◌≤◌, List, [], ◌∷◌, ◌++◌, length}
-use Rattle.std.proofs.Common.{append_assoc, Some, Result, Ok, Err, All, Vec, Global, refl, ap, arith, sym}
+use Rattle.std.proofs.Common.{◌≡◌, ◌∙◌, ℕ, zero, suc, ◌+◌, ◌*◌, ◌<◌}
+use Rattle.std.proofs.Common.{◌≤◌, List, [], ◌∷◌, ◌++◌, length}
+use Rattle.std.proofs.Common.{append_assoc, Some, Result, Ok, Err, All, Vec, Global, refl, ap}
+use Rattle.std.proofs.Common.{arith, sym}
 use Rattle.std.proofs.Common.{map, slice_get, subst, inl, inr}
 use Rattle.std.specs.Prelude.{IsSomeAnd}
 use Rattle.std.specs.List.{AllZip}
@@ -48,10 +50,11 @@ use Rattle.circom_gold.specs.Batch.{Batches, Counts, GivesLine, IsItem, batched,
 use Rattle.circom_gold.specs.Batching.{BatchesOn, IsEntryItem, IsWithin, end_item}
 use Rattle.circom_gold.specs.Running.{EndsIn, shown_place}
 use Rattle.circom_gold.specs.Source.{IsCoded, IsLoadedFrom, program_of}
-use Rattle.circom_gold.specs.Witness.{IsRunOf, IsSource, values_by_wire}
+use Rattle.circom_gold.specs.Witness.{GivesInput, IsRunOf, IsSource, values_by_wire}
 use Rattle.circom_gold.specs.declared.source.Coded.{Coded}
 use Rattle.circom_gold.proofs.Sourcing.{Compiling, input_is}
-use Rattle.circom_gold.proofs.Witnessing.{first, has_inputs, run_of, same_instances, source_of, task}
+use Rattle.circom_gold.proofs.Witnessing.{first, has_inputs, run_of, same_instances, source_of}
+use Rattle.circom_gold.proofs.Witnessing.{task}
 use Rattle.circom_gold.proofs.Witnessing.{task_of_first}
 
 -- ---- a list that is taken one by one
@@ -120,6 +123,18 @@ few_lines cells steps lines small =
 
 -- ---- what a line comes to
 
+-- a line as a file alone
+abbrev pub alone : List ℕ → Contents
+alone line name = Some line
+
+pub as_given : (line : List ℕ) (p : Program) (found : Result (List ℕ) Refusal)
+    → GivesLine line p found → GivesInput (alone line) [] p found
+as_given line p found g = record {
+  inputs = g.inputs;
+  has = g.has;
+  reads = input_is (alone line) [] g.inputs ∙ g.reads;
+}
+
 abbrev ran_of : (files instances : List (List ℕ)) → File → RunEnd → Ran
 ran_of files instances file (end.Ended numbers log) = Ended (values_by_wire file numbers) log
 ran_of files instances file (end.Stopped stop place log) =
@@ -146,10 +161,6 @@ module _ (level : Level) (x : Coded) (coded : IsCoded level x) (fuel : ℕ)
   abbrev shown_end : RunEnd → Item
   shown_end e = end_item p.files instances x.file e
 
-  -- a line as a file alone
-  abbrev alone : List ℕ → Contents
-  alone line name = Some line
-
   given : (line : List ℕ) (found : Result (List ℕ) Refusal)
       → accepted_input inputs (input_of line inputs) ≡ found → GivesLine line p found
   given line found reads =
@@ -160,7 +171,8 @@ module _ (level : Level) (x : Coded) (coded : IsCoded level x) (fuel : ℕ)
     read : input_in (alone line) [] inputs ≡ Ok start
     read = input_is (alone line) [] inputs ∙ reads
 
-    ran_on : (e : RunEnd) → IsRunFrom p x.code fuel start e → IsItem p x.file fuel line (shown_end e)
+    ran_on : (e : RunEnd) → IsRunFrom p x.code fuel start e
+        → IsItem p x.file fuel line (shown_end e)
     ran_on e run = (Ok ran, (numbers, gives, runs_so), is e)
       where
         ran : Ran
@@ -188,8 +200,8 @@ module _ (level : Level) (x : Coded) (coded : IsCoded level x) (fuel : ℕ)
         is (end.Stopped stop place log) = refl
 
   -- the list at a place, and its end
-  ended_at : (line : List ℕ) (item : Item) (ss : List (Vec ℕ Global)) (es : List RunEnd) (k : ℕ)
-      → AllZip (λ s e. IsRunFrom p x.code fuel s.items e) ss es
+  ended_at : (line : List ℕ) (item : Item) (ss : List (Vec ℕ Global)) (es : List RunEnd)
+      (k : ℕ) → AllZip (λ s e. IsRunFrom p x.code fuel s.items e) ss es
       → IsSomeAnd (slice_get ss k)
       (λ s. accepted_input inputs (input_of line inputs) ≡ Ok s.items)
       → IsSomeAnd (slice_get es k) (λ e. item ≡ shown_end e) → IsItem p x.file fuel line item
@@ -259,10 +271,10 @@ all_tasks level x coded starts given =
 pub all_batched : (level : Level) (x : Coded) → IsCoded level x → (fuel : ℕ) (text : List ℕ)
     (starts : List (Vec ℕ Global)) (ends : List RunEnd)
     → AllZip (λ s e. IsRunFrom (program_of x) x.code fuel s.items e) starts ends
-    → {A : Type 0} (of : A → List ℕ) (lines : List A) (entries : List Entry) (items : List Item)
-    → map of lines ≡ lines_of text
-    → AllZip (λ (l : A) (e : Entry). IsEntry x.circuit.signals.inputs starts (of l) e) lines entries
-    → AllZip (IsEntryItem (program_of x).files x.circuit.instances x.file ends) entries items
+    → {A : Type 0} (of : A → List ℕ) (lines : List A) (entries : List Entry)
+    (items : List Item) → map of lines ≡ lines_of text
+    → AllZip (λ (l : A) (e : Entry). IsEntry x.circuit.signals.inputs starts (of l) e) lines
+    entries → AllZip (IsEntryItem (program_of x).files x.circuit.instances x.file ends) entries items
     → batch_size x.code (length lines) ≤ most_batch
     → BatchesOn (program_of x) x.file fuel text (Ok items)
 all_batched level x coded fuel text starts ends runs of lines entries items are a b small =
@@ -277,8 +289,8 @@ all_batched level x coded fuel text starts ends runs of lines entries items are 
 
 -- lines that count more
 pub too_large : (level : Level) (x : Coded) → IsCoded level x → (fuel : ℕ) (text : List ℕ)
-    {A : Type 0} (of : A → List ℕ) (lines : List A) (size : ℕ) → map of lines ≡ lines_of text
-    → size ≡ batch_size x.code (length lines) → most_batch < size
+    {A : Type 0} (of : A → List ℕ) (lines : List A) (size : ℕ)
+    → map of lines ≡ lines_of text → size ≡ batch_size x.code (length lines) → most_batch < size
     → BatchesOn (program_of x) x.file fuel text (Err (stops.Refused (LargeBatch size)))
 too_large level x coded fuel text of lines size are is many =
     let same : size ≡ batch_size x.code (length (lines_of text)) =
@@ -322,7 +334,8 @@ module _ (held : Contents → Type 0) (source name : List ℕ) (options : Option
         source_of level x coded files source options same (loaded files (still files may)).loaded
 
     pub unread_batch : (fails : Type 0) (stop : Stop) → (fails → failed)
-        → Steps (λ (v : Vec ℕ Global). v.items) held (λ files. bytes_in files name) fails (Err stop)
+        → Steps (λ (v : Vec ℕ Global). v.items) held (λ files. bytes_in files name) fails
+        (Err stop)
         → StepsTo (λ (items : List Item). items) held Finds failed (Err stop)
     unread_batch fails (stops.Refused r) rose step = λ files may. inr record {
       program = program_of x;

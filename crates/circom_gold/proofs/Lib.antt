@@ -12,6 +12,8 @@ pub mod Sourcing
 pub mod SymbolLines
 pub mod Witnessing
 pub mod Batching
+pub mod OneBatch
+pub mod BatchLaws
 pub mod Generating
 pub mod Doing
 pub mod Meanings

@@ -18,7 +18,7 @@ use Rattle.cir_determined.specs.declared.rule.Rule.{Rule}
 use Rattle.circom_lines.specs.Lines.{verdict_status}
 use Rattle.circom_words.specs.Words.{Command, ProveOptions, check, check_named, compile, witness}
 use Rattle.circom_words.specs.Words.{prove, public, audit, name_signals, confirm, determine}
-use Rattle.circom_words.specs.Words.{generate}
+use Rattle.circom_words.specs.Words.{batch, generate}
 use Rattle.circom_lines.specs.declared.answer.Refusal.{Refusal}
 use Rattle.circom_lines.specs.declared.answer.Verdict.{Verdict}
 use Rattle.circom_lines.specs.declared.answer.Verdict.TheVariants.{CountsDiffer, WireZero}
@@ -58,6 +58,7 @@ use Rattle.circom_gold.specs.Witness.{Generates, HasGenerated}
 use Rattle.circom_gold.proofs.CompileLaws as compiling
 use Rattle.circom_gold.proofs.SymbolLines as naming
 use Rattle.circom_gold.proofs.OneRun.{one_generated}
+use Rattle.circom_gold.proofs.BatchLaws as batching
 use Rattle.circom_gold.proofs.WitnessLaws as witnessing
 
 -- the bytes are there under the name of the file that was written
@@ -429,6 +430,12 @@ means_of (name_signals source out options) files after r answers leaves assured 
   λ zero.
       let w = assured zero in
       left_under _ out w.bytes r.file files after w.file leaves w.names,
+)
+means_of (batch source inputs out options running) files after r answers leaves assured = (
+  batching.status_of files source inputs out options running.fuel r answers,
+  λ zero.
+      let w = batching.written_batch files source inputs out options running.fuel r answers zero in
+      left_under _ out w.0 r.file files after w.1 leaves w.2,
 )
 means_of (determine r1cs out) files after r answers leaves assured = (
   determine_means files r1cs out r answers,

@@ -3,7 +3,8 @@ use Rattle.std.proofs.Common.{◌≡◌, ◌∙◌, ℕ, List, Option, Some, Non
 use Rattle.std.proofs.Common.{inr, subst, sym}
 use Rattle.out_io.specs.Contents.{Contents}
 use Rattle.circom_words.specs.Words.{Command, check, check_named, compile, witness, prove}
-use Rattle.circom_words.specs.Words.{public, audit, name_signals, confirm, determine, generate}
+use Rattle.circom_words.specs.Words.{public, audit, name_signals, batch, confirm, determine}
+use Rattle.circom_words.specs.Words.{generate}
 use Rattle.circom_lines.specs.declared.answer.Refusal.{Refusal}
 use Rattle.cir_determined.specs.declared.rule.Answer.{Answer}
 use Rattle.circom_files.proofs.Certified.{one_confirm, one_search, shown_written}
@@ -15,8 +16,10 @@ use Rattle.circom_files.specs.Proving.{Audits, Proves, public_of}
 use Rattle.circom_files.specs.Reply.{Reply, Says, audited, checked, checked_by_name, confirmed}
 use Rattle.circom_files.specs.Reply.{determined, proved, published, said}
 use Rattle.circom_files.specs.Running.{witnessed, generated}
+use Rattle.circom_gold.specs.Batch.{Batches, batched}
 use Rattle.circom_gold.specs.Compile.{CompilesTo}
 use Rattle.circom_gold.specs.Witness.{Witnesses, Generates}
+use Rattle.circom_gold.proofs.OneBatch.{one_batch}
 use Rattle.circom_gold.proofs.OneCompiled.{one_compiled}
 use Rattle.circom_gold.specs.Symbols.{NamesTo, names_written}
 use Rattle.circom_gold.proofs.SymbolLines.{one_named}
@@ -90,6 +93,10 @@ one_reply files (Some (audit r1cs publics proof)) a b p q =
 one_reply files (Some (name_signals source out options)) a b p q =
     one_said (names_written out) (λ found. NamesTo files source options found) a b
     (one_named files source options) p q
+one_reply files (Some (batch source inputs out options running)) a b p q =
+    one_said (batched out)
+    (λ found. Batches files source inputs options running.fuel found) a b
+    (one_batch files source inputs options running.fuel) p q
 one_reply files (Some (determine r1cs out)) a b p q =
     alike files r1cs out a b p.0 q.0 p.1 q.1 p.2 q.2
 one_reply files (Some (confirm r1cs certificate)) a b p q =

@@ -33,13 +33,13 @@ use Rattle.circom_gold.specs.Witness.{values_by_wire, place_of}
 use Rattle.circom_gold.proofs.OneCompiled.{one_compiled}
 
 -- one answer
-ok_same : {A E : Type 0} (r : Result A E) (a b : A) → r ≡ Ok a → r ≡ Ok b → a ≡ b
+pub ok_same : {A E : Type 0} (r : Result A E) (a b : A) → r ≡ Ok a → r ≡ Ok b → a ≡ b
 ok_same r a b x y = let both : Ok a ≡ Ok b = sym x ∙ y in cc
 
-err_same : {A E : Type 0} (r : Result A E) (a b : E) → r ≡ Err a → r ≡ Err b → a ≡ b
+pub err_same : {A E : Type 0} (r : Result A E) (a b : E) → r ≡ Err a → r ≡ Err b → a ≡ b
 err_same r a b x y = let both : Err a ≡ Err b = sym x ∙ y in cc
 
-ok_or_err : {A E : Type 0} (r : Result A E) (a : A) (b : E) → r ≡ Ok a → r ≡ Err b → ⊥
+pub ok_or_err : {A E : Type 0} (r : Result A E) (a : A) (b : E) → r ≡ Ok a → r ≡ Err b → ⊥
 ok_or_err r a b x y = let both : Ok a ≡ Err b = sym x ∙ y in cc
 
 -- one list of inputs has these shapes

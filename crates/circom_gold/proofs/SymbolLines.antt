@@ -114,4 +114,4 @@ module _ (held : Contents → Type 0) (source : List ℕ) (options : Options)
   named program (Err fault.Fault) loaded names = absurd names
   named program (Err (fault.Refused r)) loaded names = λ files may.
       inr (bare_program program, loaded files may, names)
-  named program (Err fault.OutOfMemory) loaded names = λ files may. tt
+  named program (Err fault.OutOfMemory) loaded names = tt

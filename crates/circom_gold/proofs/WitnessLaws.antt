@@ -15,7 +15,8 @@ use Rattle.cir_scope.proofs.Loaded.{loaded}
 use Rattle.cir_values.specs.declared.signals.InputShape.{InputShape}
 use Rattle.cir_meaning.specs.Compile.{InputShape as Shape}
 use Rattle.cir_meaning.specs.Scoped.{IsResolved}
-use Rattle.cir_compile.specs.Compiled.{IsCompiled}
+use Rattle.cir_simplify.specs.declared.types.Level.{Level}
+use Rattle.cir_compile.specs.Compiled.{IsCompiled, IsWritten}
 use Rattle.cir_compile.specs.Written.{AreValues}
 use Rattle.wit_input.specs.Input.{input_of}
 use Rattle.wit_input.specs.declared.fault.InputFault.{InputFault}
@@ -38,7 +39,7 @@ use Rattle.circom_files.proofs.CheckLaws.{satisfied}
 use Rattle.cir_compile.proofs.OneFile.{one_file}
 use Rattle.circom_gold.specs.Compile.{AreConstraintsOf, LoadsAgain, task_of}
 use Rattle.circom_gold.specs.Witness.{HasWitness, IsWitnessed, IsWitnessOf, Witnesses}
-use Rattle.circom_gold.specs.Witness.{GivesInput, values_by_wire}
+use Rattle.circom_gold.specs.Witness.{GivesInput, IsRunOf, IsSource, values_by_wire}
 use Rattle.circom_gold.proofs.InputCounts.{main_inputs, shapes_counted}
 use Rattle.circom_gold.proofs.Satisfied.{values_are, few_values, satisfied_file}
 use Rattle.circom_gold.proofs.OneRun.{one_witness, compiled_as}
@@ -114,42 +115,58 @@ module _ (files : Contents) (input : List ℕ) (p : Program) (resolved : IsResol
   small : All (λ n. n < P) inputs
   small = (input_counted bytes_read.0 g.inputs inputs bytes_read.1).below
 
-module _ (files : Contents) (source input out : List ℕ) (options : Options) (fuel : ℕ)
+-- the values of a run on an input that is read
+module _ (files : Contents) (input : List ℕ) (level : Level) (p : Program) (f : File)
+    (resolved : IsResolved p) (written : IsWritten p level f) (fuel : ℕ) (inputs : List ℕ)
+    (g : GivesInput files input p (Ok (1 ∷ inputs))) (values : List ℕ) (log : List (List ℕ))
+    (run : IsRunOf p f fuel inputs (Ended values log)) where
+  each : length inputs ≡ g.has.meaning.public_inputs + g.has.meaning.private_inputs
+  each = many files input p resolved inputs g
+
+  below : All (λ n. n < P) inputs
+  below = small files input p resolved inputs g
+
+  are : AreValues f (values_by_wire f run.0)
+  are = values_are p level f written resolved g.has.meaning g.has.compiles fuel inputs run.0 log
+      each below run.1
+
+  few : length (values_by_wire f run.0) ≤ most_wires
+  few = few_values p level f written resolved g.has.meaning g.has.compiles fuel inputs run.0 log
+      each below run.1
+
+  pub run_read : wtns_of (wtns_bytes values) ≡ Ok values
+  run_read =
+      ap (λ (v : List ℕ). wtns_of (wtns_bytes v)) run.2
+      ∙ values_again (values_by_wire f run.0) few
+      (all_small (values_by_wire f run.0) are.below)
+      ∙ ap Ok (sym run.2)
+
+  pub run_satisfied : Satisfies f values
+  run_satisfied =
+      subst (Satisfies f) (sym run.2)
+      (satisfied_file p level f written resolved g.has.meaning g.has.compiles fuel inputs run.0
+      log each below run.1)
+
+pub resolved_in : (files : Contents) (source : List ℕ) (options : Options) (p : Program)
+    (f : File) → IsSource files source options p f → IsResolved p
+resolved_in files source options p f compiled =
+    (loaded files source options.folder p compiled.loaded).0
+
+module _ (files : Contents) (source input : List ℕ) (options : Options) (fuel : ℕ)
     (values : List ℕ) (log : List (List ℕ))
     (w : IsWitnessed files source input options fuel (Ended values log)) where
   resolved : IsResolved w.program
-  resolved = (loaded files source options.folder w.program w.compiled.loaded).0
-
-  each : length w.inputs
-      ≡ w.given.has.meaning.public_inputs + w.given.has.meaning.private_inputs
-  each = many files input w.program resolved w.inputs w.given
-
-  below : All (λ n. n < P) w.inputs
-  below = small files input w.program resolved w.inputs w.given
-
-  are : AreValues w.file (values_by_wire w.file w.run.0)
-  are = values_are w.program options.level w.file w.compiled.written resolved w.given.has.meaning
-      w.given.has.compiles fuel w.inputs w.run.0 log each below w.run.1
-
-  few : length (values_by_wire w.file w.run.0) ≤ most_wires
-  few = few_values w.program options.level w.file w.compiled.written resolved w.given.has.meaning
-      w.given.has.compiles fuel w.inputs w.run.0 log each below w.run.1
-
-  back : wtns_of (wtns_bytes values) ≡ Ok (values_by_wire w.file w.run.0)
-  back =
-      ap (λ (v : List ℕ). wtns_of (wtns_bytes v)) w.run.2
-      ∙ values_again (values_by_wire w.file w.run.0) few
-      (all_small (values_by_wire w.file w.run.0) are.below)
+  resolved = resolved_in files source options w.program w.file w.compiled
 
   pub is_witness : IsWitnessOf files source input options fuel (wtns_bytes values)
   is_witness = record {
     values = values;
     log = log;
     found = w;
-    read = back ∙ ap Ok (sym w.run.2);
-    satisfied = subst (Satisfies w.file) (sym w.run.2)
-        (satisfied_file w.program options.level w.file w.compiled.written resolved
-        w.given.has.meaning w.given.has.compiles fuel w.inputs w.run.0 log each below w.run.1);
+    read = run_read files input options.level w.program w.file resolved w.compiled.written fuel
+        w.inputs w.given values log w.run;
+    satisfied = run_satisfied files input options.level w.program w.file resolved
+        w.compiled.written fuel w.inputs w.given values log w.run;
   }
 
 -- the reply that says so writes them
@@ -165,7 +182,7 @@ written_witness files source input out options fuel r answered zero =
     has.found in (
       wtns_bytes has.values,
       ap (λ (s : Reply). s.file) is,
-      is_witness files source input out options fuel has.values has.log has.found,
+      is_witness files source input options fuel has.values has.log has.found,
     )
 
 -- what is there

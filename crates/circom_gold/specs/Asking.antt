@@ -1,8 +1,9 @@
 -- What the program asks of the store for a command, by the history of its calls.
 use Rattle.std.specs.Prelude.{◌≡◌, ◌∷◌, List, [], Option, None, Some, ⊤}
 use Rattle.out_io.specs.History.{Call}
-use Rattle.circom_words.specs.Words.{Command, audit, check, check_named, compile, confirm}
-use Rattle.circom_words.specs.Words.{determine, generate, name_signals, prove, public, witness}
+use Rattle.circom_words.specs.Words.{Command, audit, batch, check, check_named, compile}
+use Rattle.circom_words.specs.Words.{confirm, determine, generate, name_signals, prove, public}
+use Rattle.circom_words.specs.Words.{witness}
 use Rattle.circom_files.specs.Asked.{Asks, WritesOnce}
 
 -- The names that the command's words give were read, in their order and each at most once, and
@@ -19,6 +20,7 @@ Reads (generate seed size running) before after = after ≡ before
 Reads (compile source out options) before after = ⊤
 Reads (name_signals source out options) before after = ⊤
 Reads (witness source input out options running) before after = ⊤
+Reads (batch source inputs out options running) before after = ⊤
 
 -- the same of words, for which nothing is asked where they have no reading
 abbrev pub ReadsFor : Option Command → (before after : List Call) → Type 0

@@ -1,9 +1,12 @@
 -- The command `batch`: the runs of a source's program on the lines of a file.
-use Rattle.std.specs.Prelude.{◌≡◌, ℕ, ◌+◌, ◌*◌, ◌<◌, ◌≤◌, ◌⊎◌, List, ◌∷◌, length, Result, Ok, Err}
+use Rattle.std.specs.Prelude.{◌≡◌, ℕ, ◌+◌, ◌*◌, ◌<◌, ◌≤◌, ◌⊎◌, List}
+use Rattle.std.specs.Prelude.{[], ◌∷◌, ◌++◌, length, All}
+use Rattle.std.specs.Prelude.{Some, None, Result, Ok, Err, ⊤}
 use Rattle.std.specs.List.{AllZip}
 use Rattle.text_lines.specs.Lines.{lines_of}
 use Rattle.out_io.specs.Contents.{Contents}
 use Rattle.iden_files.specs.File.{File}
+use Rattle.iden_files.specs.ReadWtns.{wtns_of}
 use Rattle.iden_files.specs.Spelling.{wtns_bytes}
 use Rattle.cir_ast.specs.Program.{Program}
 use Rattle.cir_steps.specs.Circuit.{Circuit, circuit_of}
@@ -18,6 +21,7 @@ use Rattle.circom_lines.specs.declared.answer.Refusal.TheVariants.{LargeBatch}
 use Rattle.circom_files.specs.Files.{bytes_in}
 use Rattle.circom_files.specs.Reply.{Reply, written}
 use Rattle.circom_files.specs.Running.{accepted_input}
+use Rattle.circom_files.specs.Satisfaction.{Satisfies}
 use Rattle.circom_files.specs.declared.outcome.Ran.{Ran}
 use Rattle.circom_files.specs.declared.outcome.Ran.TheVariants.{Ended, Halted}
 use Rattle.circom_batch.specs.Items.{batch_bytes, without_feed, witnesses}
@@ -35,7 +39,8 @@ pub record GivesLine (line : List ℕ) (program : Program) (found : Result (List
 
 -- what the program comes to on the line alone: how its run ends, with the values of the file's
 -- wires, or the refusal of the line
-abbrev pub RunsOn : Program → File → (fuel : ℕ) → (line : List ℕ) → Result Ran Refusal → Type 0
+abbrev pub RunsOn : Program → File → (fuel : ℕ) → (line : List ℕ) → Result Ran Refusal
+    → Type 0
 RunsOn program file fuel line (Ok found) =
     (inputs : List ℕ) × GivesLine line program (Ok (1 ∷ inputs))
     × IsRunOf program file fuel inputs found
@@ -104,3 +109,31 @@ Batches files source inputs options fuel (Err refusal) =
 abbrev pub batched : List ℕ → List Item → Reply
 batched out items =
     written (batch_line (length items) (witnesses items)) out (batch_bytes items)
+
+-- the source compiles, the file of lines is there, and they don't count more than a batch may
+pub record HasBatch (files : Contents) (source inputs : List ℕ) (options : Options) (fuel : ℕ)
+    : Type 0 where
+  pub items : List Item
+  pub found : IsBatched files source inputs options fuel items
+
+-- the bytes of a file of values are read as values that satisfy the file of constraints
+abbrev pub HasValues : File → Item → Type 0
+HasValues file (Witness bytes) =
+    (values : List ℕ) × (wtns_of bytes ≡ Ok values) × Satisfies file values
+HasValues file (Refused line) = ⊤
+
+-- the bytes are the file of the items of the lines
+pub record IsBatchOf (files : Contents) (source inputs : List ℕ) (options : Options) (fuel : ℕ)
+    (bytes : List ℕ) : Type 0 where
+  pub items : List Item
+  pub found : IsBatched files source inputs options fuel items
+  pub spelled : bytes ≡ batch_bytes items
+  pub satisfied : All (HasValues found.file) items
+
+-- the reply writes the file of values, or the last line of its text is that of the refusal
+abbrev pub SaysItem : (out : List ℕ) → Reply → Item → Type 0
+SaysItem out r (Witness bytes) =
+    (r.status ≡ 0) × (r.file ≡ Some (record { name = out; bytes = bytes }))
+SaysItem out r (Refused line) =
+    (r.status ≡ 1) × (r.file ≡ None)
+    × ((log last : List ℕ) × (r.text ≡ log ++ last) × (line ≡ without_feed last))

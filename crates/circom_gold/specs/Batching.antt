@@ -1,5 +1,6 @@
 -- What a batch finds, step by step.
-use Rattle.std.specs.Prelude.{◌≡◌, ℕ, ◌<◌, ◌≤◌, List, length, slice_get, IsSomeAnd, Result, Ok, Err, ⊤}
+use Rattle.std.specs.Prelude.{◌≡◌, ℕ, ◌<◌, ◌≤◌, List, length, slice_get}
+use Rattle.std.specs.Prelude.{IsSomeAnd, Result, Ok, Err, ⊤}
 use Rattle.std.specs.List.{AllZip}
 use Rattle.text_lines.specs.Lines.{lines_of}
 use Rattle.iden_files.specs.File.{File}
@@ -34,8 +35,8 @@ IsWithin ends (entry.Start place) = place < ends
 IsWithin ends (entry.Refused line) = ⊤
 
 -- the item of an entry, by the ends of the runs
-abbrev pub IsEntryItem : (files instances : List (List ℕ)) → File → List RunEnd → Entry → Item
-    → Type 0
+abbrev pub IsEntryItem : (files instances : List (List ℕ)) → File → List RunEnd → Entry
+    → Item → Type 0
 IsEntryItem files instances file ends (entry.Start place) item =
     IsSomeAnd (slice_get ends place) (λ end. item ≡ end_item files instances file end)
 IsEntryItem files instances file ends (entry.Refused line) item = item ≡ Refused line

@@ -8,7 +8,8 @@ use Rattle.cir_compile.specs.Compiled.{IsCompiled}
 use Rattle.circom_lines.specs.Symbols.{named_line}
 use Rattle.circom_lines.specs.declared.answer.Verdict.TheVariants.{ConstraintFails}
 use Rattle.circom_words.specs.Words.{Command, check, check_named, compile, witness, prove}
-use Rattle.circom_words.specs.Words.{public, audit, name_signals, confirm, determine, generate}
+use Rattle.circom_words.specs.Words.{public, audit, name_signals, batch, confirm, determine}
+use Rattle.circom_words.specs.Words.{generate}
 use Rattle.circom_files.specs.Accepted.{IsAccepted, IsProofOf}
 use Rattle.circom_files.specs.Determining.{HasCertificate, HasDetermined, HoldsCertificate}
 use Rattle.circom_files.specs.Determining.{IsCertificateOf}
@@ -20,6 +21,7 @@ use Rattle.circom_named.specs.declared.described.Described.{Described}
 use Rattle.circom_files.specs.declared.outcome.Halt.{Halt}
 use Rattle.circom_files.specs.declared.outcome.Ran.TheVariants.{Halted}
 use Rattle.circom_files.specs.declared.outcome.Witness.{Witness}
+use Rattle.circom_gold.specs.Batch.{HasBatch, IsBatchOf}
 use Rattle.circom_gold.specs.Compile.{AreConstraintsOf, task_of}
 use Rattle.circom_gold.specs.Symbols.{AreNamesIn}
 use Rattle.circom_gold.specs.Witness.{HasGenerated, HasWitness, IsWitnessOf, IsWitnessed}
@@ -31,8 +33,8 @@ pub record AreRead (P : File → List ℕ → Type 0) (files : Contents) (r1cs w
   pub read : witness_of files r1cs wtns ≡ Ok witness
   pub so : P witness.file witness.values
 
--- the files under the three names are read as constraints, as values that satisfy them, and as names
--- of wires
+-- the files under the three names are read as constraints, as values that satisfy them, and as
+-- names of wires
 pub record AreSatisfied (files : Contents) (r1cs wtns names : List ℕ) : Type 0 where
   pub described : Described
   pub read : described_of files r1cs wtns names ≡ Ok described
@@ -89,6 +91,11 @@ Means (audit r1cs publics proof) files after exit text =
 Means (name_signals source out options) files after exit text =
     ((exit ≡ 0) ↔ ((file : File) × IsCompiled files (task_of source options) file))
     × (exit ≡ 0 → IsSomeAnd (after out) (AreNamesIn files source options))
+-- 0 exactly where the source compiles, the inputs are there, and they don't count more than a batch
+-- may; the items of their lines are under OUT then, each that of its line alone
+Means (batch source inputs out options running) files after exit text =
+    ((exit ≡ 0) ↔ HasBatch files source inputs options running.fuel)
+    × (exit ≡ 0 → IsSomeAnd (after out) (IsBatchOf files source inputs options running.fuel))
 -- 0 exactly where there are rules that show that the inputs determine the outputs; such rules are
 -- under OUT then
 Means (determine r1cs out) files after exit text =

@@ -5,7 +5,8 @@ use Rattle.iden_files.specs.File.{File}
 use Rattle.iden_files.specs.Spelling.{r1cs_bytes}
 use Rattle.circom_lines.specs.Lines.{compiled_line}
 use Rattle.circom_words.specs.Words.{Command, check, check_named, compile, witness, prove}
-use Rattle.circom_words.specs.Words.{public, audit, name_signals, confirm, determine, generate}
+use Rattle.circom_words.specs.Words.{public, audit, name_signals, batch, confirm, determine}
+use Rattle.circom_words.specs.Words.{generate}
 use Rattle.circom_files.specs.Check.{check_of}
 use Rattle.circom_files.specs.Determining.{Confirms, Searches, WritesRules}
 use Rattle.circom_named.specs.Named.{check_named_of}
@@ -13,6 +14,7 @@ use Rattle.circom_files.specs.Proving.{Audits, Proves, public_of}
 use Rattle.circom_files.specs.Reply.{Reply, Says, audited, checked, checked_by_name, confirmed}
 use Rattle.circom_files.specs.Reply.{determined, proved, published, usage, written}
 use Rattle.circom_files.specs.Running.{witnessed, generated}
+use Rattle.circom_gold.specs.Batch.{Batches, batched}
 use Rattle.circom_gold.specs.Compile.{CompilesTo}
 use Rattle.circom_gold.specs.Symbols.{NamesTo, names_written}
 use Rattle.circom_gold.specs.Witness.{Witnesses, Generates}
@@ -40,6 +42,8 @@ Answers files (Some (audit r1cs publics proof)) =
     Says audited (λ found. Audits files r1cs publics proof found)
 Answers files (Some (name_signals source out options)) =
     Says (names_written out) (λ found. NamesTo files source options found)
+Answers files (Some (batch source inputs out options running)) =
+    Says (batched out) (λ found. Batches files source inputs options running.fuel found)
 Answers files (Some (determine r1cs out)) =
     Says (determined out) (λ found. Searches files r1cs found)
 Answers files (Some (confirm r1cs certificate)) =

@@ -1,6 +1,6 @@
 ghost use Rattle.std.specs.Prelude.{◌≡◌, ◌<◌, ◌≤◌, ℕ, All, IfOk, IsErrOf, length};
 ghost use Rattle.std.specs.List.{AllZip};
-ghost use Rattle.out_io.specs.Faults.{Rose};
+ghost use Rattle.out_io.specs.Faults.{Rose, faults_after};
 ghost use Rattle.out_io.specs.declared.fault.IoFault.TheVariants.{Failed};
 ghost use Rattle.iden_files.specs.File.{InLimits};
 ghost use Rattle.cir_simplify.specs.declared.types.Level.{Level};
@@ -8,6 +8,7 @@ ghost use Rattle.out_io.specs.Held.{OfAll, OnlyReads};
 ghost use Rattle.circom_files.specs.Reply.{Says};
 ghost use Rattle.circom_files.specs.Shown.{shown};
 ghost use Rattle.circom_files.specs.Steps.{StepsTo};
+ghost use Rattle.circom_files.specs.Stops.{faults_by};
 ghost use Rattle.circom_gold.specs.Batch.{Batches, batched};
 ghost use Rattle.circom_gold.specs.Batching.{BatchesOn, IsEntryItem, IsWithin, end_item};
 ghost use Rattle.circom_gold.specs.Source.{IsCoded, program_of};
@@ -50,6 +51,7 @@ pub fn batch_reply<'w, R: Threads + Wait + AllocGlobal + Sync, S: Store>(
         running.fuel found) (shown r))) }
     ensures status { IfOk result (λ r. r.status < 3) }
     ensures fault { IsErrOf result Failed → Rose (S.faults store.old) (S.faults store.new) }
+    ensures counted { S.faults store.new ≡ faults_after result (S.faults store.old) }
     ensures store { OnlyReads (S.may_hold store.old) (S.may_hold store.new)
         (S.faults store.old) (S.faults store.new)
         (S.never_fails store.old) (S.never_fails store.new) }
@@ -86,6 +88,7 @@ fn batch_in<R: Threads + Wait + AllocGlobal + Sync, S: Store>(
         (λ files found. Batches files source.now inputs.now (meant_options options.entry)
         running.fuel found) (Rose (S.faults store.old) (S.faults store.new)) result }
     ensures few { IfOk result (λ items. length items < 4294967296) }
+    ensures counted { S.faults store.new ≡ faults_by result (S.faults store.old) }
     ensures store { OnlyReads (S.may_hold store.old) (S.may_hold store.new)
         (S.faults store.old) (S.faults store.new)
         (S.never_fails store.old) (S.never_fails store.new) }

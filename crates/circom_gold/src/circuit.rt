@@ -16,6 +16,7 @@ ghost use Rattle.circom_words.specs.Ranges.{AreInRange, HasRanges};
 ghost use Rattle.circom_words.specs.Words.{command_of, first_waits, meant, meant_circuit, texts};
 ghost use Rattle.circom_words.specs.Words.{runs_circuit};
 
+use crate::batch::batch_reply;
 use crate::generate::generate_reply;
 use crate::giving::give;
 use crate::witness::witness_reply;
@@ -120,6 +121,15 @@ fn reply_to<'w, R: Threads + Wait + AllocGlobal + Sync, S: Store>(
                 running,
             },
         ) => witness_reply(rt, alloc, source, input, out, options, running, store),
+        Some(
+            CircuitCommand::Batch {
+                source,
+                inputs,
+                out,
+                options,
+                running,
+            },
+        ) => batch_reply(rt, alloc, source, inputs, out, options, running, store),
         Some(
             CircuitCommand::Generate {
                 seed,

@@ -23,8 +23,8 @@ use std::thread::Threads;
 /// - 3: the count of faults of the store or of the sink rose
 /// - 64: the words have no reading
 ///
-/// The error is want of memory. `witness` and `generate` wait for other threads. On all other words
-/// it is what `run_plain` answers, which waits for nobody.
+/// The error is want of memory. `witness`, `batch` and `generate` wait for other threads. On all
+/// other words it is what `run_plain` answers, which waits for nobody.
 pub fn run<R: Threads + Wait + AllocGlobal + Sync, S: Store, K: Sink>(
     rt: &R,
     alloc: Global,
@@ -52,7 +52,8 @@ pub fn run<R: Threads + Wait + AllocGlobal + Sync, S: Store, K: Sink>(
 }
 
 /// The part of `run` that waits for nobody: the exit status, which is that of `run`; or `None`,
-/// with nothing read, written or put, exactly where the first word is `witness` or `generate`.
+/// with nothing read, written or put, exactly where the first word is `witness`, `batch` or
+/// `generate`.
 pub fn run_plain<R: Threads + AllocGlobal + Sync, S: Store, K: Sink>(
     rt: &R,
     alloc: Global,

@@ -2,8 +2,10 @@
 //! functions that do nothing.
 #![tactic(auto)]
 
+mod batch;
 mod laws;
 
+pub use batch::batch_laws;
 pub use circom_files::check_laws;
 pub use laws::{
     audit_laws, check_accepts_witnesses, compile_laws, compile_witness_check, determine_confirm,

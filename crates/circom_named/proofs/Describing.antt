@@ -104,7 +104,8 @@ module _ (held : Contents → Type 0) (r1cs wtns names : List ℕ) (failed : Typ
       (λ files. described_of files r1cs wtns names) failed (Err e)
       → Steps (λ (n : Named). n) held (λ files. check_named_of files r1cs wtns names) failed
       (Err e)
-  named_unread (Refused r) step = λ files may. check_named_by files r1cs wtns names ∙ ap finding (step files may)
+  named_unread (Refused r) step = λ files may.
+      check_named_by files r1cs wtns names ∙ ap finding (step files may)
   named_unread StoreFailed step = step
   named_unread OutOfMemory step = tt
 

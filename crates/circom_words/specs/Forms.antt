@@ -89,6 +89,12 @@ witness_form =
     with_running
     (with_options (three_form (codes "witness") (codes "SRC") (codes "INPUT") (codes "OUT")))
 
+-- `batch SRC INPUTS OUT [--O0, --O1 or --O2] [-l DIR] [--workers N] [--fuel N]`
+unfoldable pub batch_form : App
+batch_form =
+    with_running
+    (with_options (three_form (codes "batch") (codes "SRC") (codes "INPUTS") (codes "OUT")))
+
 -- `generate SEED SIZE [--workers N] [--fuel N]`
 unfoldable pub generate_form : App
 generate_form = with_running (two_form (codes "generate") (codes "SEED") (codes "SIZE"))
@@ -101,6 +107,7 @@ form_of word.Prove = prove_form
 form_of word.Public = public_form
 form_of word.Audit = audit_form
 form_of word.Sym = sym_form
+form_of word.Batch = batch_form
 form_of word.Determine = determine_form
 form_of word.Confirm = confirm_form
 form_of word.Generate = generate_form

@@ -52,6 +52,7 @@ pub data Command : Type 0 where
   public : (r1cs wtns out : List ℕ) → Command
   audit : (r1cs publics proof : List ℕ) → Command
   name_signals : (source out : List ℕ) → (options : Options) → Command
+  batch : (source inputs out : List ℕ) → (options : Options) → (running : RunOptions) → Command
   determine : (r1cs out : List ℕ) → Command
   confirm : (r1cs certificate : List ℕ) → Command
   generate : (seed size : ℕ) → (running : RunOptions) → Command
@@ -193,6 +194,13 @@ witness_in rows = do
   running ← running_in rows
   Some (witness names.first names.second names.third options running)
 
+abbrev pub batch_in : List Row → Option Command
+batch_in rows = do
+  names ← names_in (codes "SRC") (codes "INPUTS") (codes "OUT") rows
+  options ← options_in rows
+  running ← running_in rows
+  Some (batch names.first names.second names.third options running)
+
 -- the number of a word that must be given
 abbrev pub number_at : (name : List ℕ) → (low high : ℕ) → List Row → Option ℕ
 number_at name low high rows = option_and_then (number_in low high) (first_of name rows)
@@ -218,14 +226,16 @@ command_word name =
     else (if bytes_eq name (codes "public") then Some word.Public
     else (if bytes_eq name (codes "audit") then Some word.Audit
     else (if bytes_eq name (codes "sym") then Some word.Sym
+    else (if bytes_eq name (codes "batch") then Some word.Batch
     else (if bytes_eq name (codes "determine") then Some word.Determine
     else (if bytes_eq name (codes "confirm") then Some word.Confirm
     else (if bytes_eq name (codes "generate") then Some word.Generate
-    else None)))))))))
+    else None))))))))))
 
 -- the command runs a circuit, and so waits for the threads that do
 abbrev pub waits : CommandWord → Bool
 waits word.Witness = true
+waits word.Batch = true
 waits word.Generate = true
 waits _ = false
 
@@ -237,6 +247,7 @@ command_in word.Prove = prove_in
 command_in word.Public = public_in
 command_in word.Audit = audit_in
 command_in word.Sym = sym_in
+command_in word.Batch = batch_in
 command_in word.Determine = determine_in
 command_in word.Confirm = confirm_in
 command_in word.Generate = generate_in
@@ -278,6 +289,8 @@ meant_plain (plain.Confirm r1cs certificate) = confirm r1cs.now certificate.now
 abbrev pub meant_circuit : CircuitCommand → Command
 meant_circuit (circuit.Witness source input out options running) =
     witness source.now input.now out.now (meant_options options) running
+meant_circuit (circuit.Batch source inputs out options running) =
+    batch source.now inputs.now out.now (meant_options options) running
 meant_circuit (circuit.Generate seed size running) = generate seed size running
 
 abbrev pub meant : Asked → Command

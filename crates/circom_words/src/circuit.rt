@@ -2,7 +2,7 @@
 
 ghost use Rattle.std.specs.Prelude.{◌≡◌, IfSome, option_map};
 ghost use Rattle.circom_words.specs.Matches.{rows_in};
-ghost use Rattle.circom_words.specs.Words.{meant_circuit, witness_in, generate_in};
+ghost use Rattle.circom_words.specs.Words.{meant_circuit, witness_in, batch_in, generate_in};
 
 use crate::options::{Options, RunOptions, ThreeNames, number_at, options_in, running_in};
 use clap::ArgMatches;
@@ -13,6 +13,13 @@ pub enum CircuitCommand<'w> {
     Witness {
         source: &'w str,
         input: &'w str,
+        out: &'w str,
+        options: Options<'w>,
+        running: RunOptions,
+    },
+    Batch {
+        source: &'w str,
+        inputs: &'w str,
         out: &'w str,
         options: Options<'w>,
         running: RunOptions,
@@ -37,6 +44,22 @@ impl<'w> CircuitCommand<'w> {
         Some(CircuitCommand::Witness {
             source: names.first,
             input: names.second,
+            out: names.third,
+            options,
+            running,
+        })
+    }
+
+    pub fn batch_in(matches: &ArgMatches<'w>) -> Option<CircuitCommand<'w>>
+        ensures meant { option_map meant_circuit result ≡ batch_in (rows_in matches.now) }
+        ensures ranges { IfSome result HasRanges }
+    {
+        let names = ThreeNames::of(matches, "SRC", "INPUTS", "OUT")?;
+        let options = options_in(matches)?;
+        let running = running_in(matches)?;
+        Some(CircuitCommand::Batch {
+            source: names.first,
+            inputs: names.second,
             out: names.third,
             options,
             running,

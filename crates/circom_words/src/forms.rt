@@ -6,7 +6,7 @@ ghost use Rattle.clap.specs.Simple.{app_of};
 ghost use Rattle.circom_words.specs.Forms.{given, folder, flag, valued, seed, two_form, three_form};
 ghost use Rattle.circom_words.specs.Forms.{with_levels, with_options, with_running, check_form};
 ghost use Rattle.circom_words.specs.Forms.{compile_form, prove_form, public_form, audit_form};
-ghost use Rattle.circom_words.specs.Forms.{witness_form, generate_form};
+ghost use Rattle.circom_words.specs.Forms.{witness_form, batch_form, generate_form};
 ghost use Rattle.circom_words.specs.Forms.{sym_form, determine_form, confirm_form};
 ghost use Rattle.circom_words.specs.Matches.{IsArg};
 
@@ -193,6 +193,17 @@ pub fn witness_form<'w>(alloc: Global) -> Result<clap::Command<'w>, AllocError>
     ensures simple { IfOk result (λ form. is_simple_and_free (app_of form) ≡ true) }
 {
     let form = three_form(alloc, "witness", "SRC", "INPUT", "OUT")?;
+    let form = with_options(alloc, form)?;
+    with_running(alloc, form)
+}
+
+/// `batch SRC INPUTS OUT [--O0, --O1 or --O2] [-l DIR] [--workers N] [--fuel N]`
+#[tactic(auto, unfolding(crate::specs::Forms::batch_form))]
+pub fn batch_form<'w>(alloc: Global) -> Result<clap::Command<'w>, AllocError>
+    ensures form { IfOk result (λ form. app_of form ≡ batch_form) }
+    ensures simple { IfOk result (λ form. is_simple_and_free (app_of form) ≡ true) }
+{
+    let form = three_form(alloc, "batch", "SRC", "INPUTS", "OUT")?;
     let form = with_options(alloc, form)?;
     with_running(alloc, form)
 }

@@ -7,8 +7,8 @@ ghost use Rattle.circom_words.specs.Forms.{form_of};
 ghost use Rattle.circom_words.specs.Words.{command_word, waits};
 
 use crate::forms::{
-    audit_form, check_form, compile_form, confirm_form, determine_form, generate_form, prove_form,
-    public_form, sym_form, witness_form,
+    audit_form, batch_form, check_form, compile_form, confirm_form, determine_form, generate_form,
+    prove_form, public_form, sym_form, witness_form,
 };
 use std::alloc::{AllocError, Global};
 
@@ -22,6 +22,7 @@ pub enum CommandWord {
     Public,
     Audit,
     Sym,
+    Batch,
     Determine,
     Confirm,
     Generate,
@@ -39,6 +40,7 @@ impl CommandWord {
             "public" => Some(CommandWord::Public),
             "audit" => Some(CommandWord::Audit),
             "sym" => Some(CommandWord::Sym),
+            "batch" => Some(CommandWord::Batch),
             "determine" => Some(CommandWord::Determine),
             "confirm" => Some(CommandWord::Confirm),
             "generate" => Some(CommandWord::Generate),
@@ -51,7 +53,7 @@ impl CommandWord {
         ensures { result ≡ waits self }
     {
         match self {
-            CommandWord::Witness | CommandWord::Generate => true,
+            CommandWord::Witness | CommandWord::Batch | CommandWord::Generate => true,
             _ => false,
         }
     }
@@ -68,6 +70,7 @@ impl CommandWord {
             CommandWord::Public => public_form(alloc),
             CommandWord::Audit => audit_form(alloc),
             CommandWord::Sym => sym_form(alloc),
+            CommandWord::Batch => batch_form(alloc),
             CommandWord::Determine => determine_form(alloc),
             CommandWord::Confirm => confirm_form(alloc),
             CommandWord::Generate => generate_form(alloc),

@@ -85,6 +85,7 @@ impl<'w> Command<'w> {
             CommandWord::Public => Command::Plain(PlainCommand::public_in(matches)?),
             CommandWord::Audit => Command::Plain(PlainCommand::audit_in(matches)?),
             CommandWord::Sym => Command::Plain(PlainCommand::sym_in(matches)?),
+            CommandWord::Batch => Command::Circuit(CircuitCommand::batch_in(matches)?),
             CommandWord::Determine => Command::Plain(PlainCommand::determine_in(matches)?),
             CommandWord::Confirm => Command::Plain(PlainCommand::confirm_in(matches)?),
             CommandWord::Generate => Command::Circuit(CircuitCommand::generate_in(matches)?),

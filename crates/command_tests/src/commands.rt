@@ -9,6 +9,7 @@ use std::thread::Threads;
 
 mod checks;
 mod determining;
+mod naming;
 mod proving;
 
 // Three sections: the sizes, the constraint (-a) * b = -c, the labels.
@@ -133,7 +134,7 @@ fn is_answered<R: Threads + Wait + AllocGlobal + Sync + Abort>(
 
 // Each command, and words that name one file twice: how many calls of the store they make, whether
 // the last one writes n.out, the status and the line.
-static CALLS: [(&str, u32, bool, u8, &str); 12] = [
+static CALLS: [(&str, u32, bool, u8, &str); 15] = [
     ("check m.r1cs m.wtns", 2, false, 0, "satisfied\n"),
     (
         "check m.r1cs m.r1cs",
@@ -184,6 +185,21 @@ static CALLS: [(&str, u32, bool, u8, &str); 12] = [
         false,
         2,
         "rejected: 2 Malformed at byte 0\n",
+    ),
+    ("sym a.circom n.out", 3, true, 0, "sym: lines 3\n"),
+    (
+        "check m.r1cs m.wtns --sym m.bytes",
+        3,
+        false,
+        1,
+        "refused: m.bytes: S1 BadLine at line 1\n",
+    ),
+    (
+        "check m.r1cs m.wtns --sym m.wtns",
+        2,
+        false,
+        1,
+        "refused: m.wtns: S1 BadLine at line 1\n",
     ),
     ("determine m.r1cs n.out", 2, true, 0, "determined\n"),
     (
@@ -236,7 +252,7 @@ static USAGE: &str =
     "usage: circom_gold check, compile, witness, prove, public, audit, sym, batch, \
     series, determine, confirm or generate\n";
 
-static NO_READING: [&str; 43] = [
+static NO_READING: [&str; 49] = [
     "",
     "check m.r1cs",
     "check a b c",
@@ -265,6 +281,12 @@ static NO_READING: [&str; 43] = [
     "public m.r1cs m.wtns",
     "audit m.r1cs m.wtns",
     "audit a b c --proof 1",
+    "check a b --sym",
+    "check a b --sym c --sym d",
+    "prove a b c --sym d",
+    "sym a",
+    "sym a b --O0 --O1",
+    "sym a b --sym c",
     "determine a",
     "determine a b c",
     "confirm a b --O1",

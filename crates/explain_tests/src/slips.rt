@@ -4,7 +4,8 @@ use std::alloc::{AllocError, Global};
 use std::process::Abort;
 use watched_io::{Asked, Outcome};
 
-/// What was asked, what was printed, and what is said of it.
+// What was asked, what was printed, and what is said of it.
+#[derive(Clone, Copy)]
 struct Row {
     words: &'static str,
     printed: &'static str,
@@ -22,18 +23,28 @@ fn split(alloc: Global, words: &str) -> Result<Vec<String>, AllocError> {
 // The explanation; empty where there is none.
 fn told(alloc: Global, row: &Row, asked: &[Asked]) -> Result<String, AllocError> {
     let words = split(alloc, row.words)?;
-    let case = Case {
-        words: words.as_slice(),
-        printed: row.printed.as_bytes(),
-        status: 1,
-        asked,
-        source: Some(row.source.as_bytes()),
-        system: None,
-    };
-    match explanation(alloc, &case)? {
+    match of_words(alloc, &words, row, asked)? {
         Some(text) => Ok(text),
         None => Ok(String::new(alloc)),
     }
+}
+
+fn of_words<'x>(
+    alloc: Global,
+    words: &'x [String],
+    row: &'x Row,
+    asked: &'x [Asked],
+) -> Result<Option<String>, AllocError> {
+    let source = Some(row.source.as_bytes());
+    let case = Case {
+        words,
+        printed: row.printed.as_bytes(),
+        status: 1,
+        asked,
+        source,
+        system: None,
+    };
+    explanation(alloc, &case)
 }
 
 fn is_told<R: AllocGlobal + Abort>(rt: &R, row: &Row, asked: &[Asked]) {

@@ -2,9 +2,13 @@
 #![tactic(auto)]
 
 #[cfg(test)]
+mod batching;
+#[cfg(test)]
 mod checks;
 #[cfg(test)]
 mod compiling;
+#[cfg(test)]
+mod naming;
 #[cfg(test)]
 mod refusing;
 #[cfg(test)]

@@ -8,7 +8,7 @@ use std::sync::Wait;
 use std::thread::Threads;
 
 // A component that asserts twice, by lines of its own.
-static TWO: &str = "template A(k) { signal input x; assert(x != k); }
+pub static TWO: &str = "template A(k) { signal input x; assert(x != k); }
 template T() {
   signal input a; signal output out; component p = A(1); component q = A(1);
   log(\"start\", a); p.x <== a; q.x <== a; out <== a;

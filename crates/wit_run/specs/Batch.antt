@@ -12,7 +12,8 @@ abbrev pub HasTask : Program → CircuitCode → List ℕ → Type 0
 HasTask p code start = (inputs : List ℕ) × IsTask p code start inputs
 
 -- the program's run on the inputs among the numbers ends so
-abbrev pub IsRunFrom : Program → CircuitCode → (fuel : ℕ) → (start : List ℕ) → RunEnd → Type 0
+abbrev pub IsRunFrom : Program → CircuitCode → (fuel : ℕ) → (start : List ℕ) → RunEnd
+    → Type 0
 IsRunFrom p code fuel start end =
     (inputs : List ℕ) (task : IsTask p code start inputs)
     → IsEndOf task.meaning.instances end (ran p fuel inputs)

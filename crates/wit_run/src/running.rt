@@ -1,4 +1,5 @@
-ghost use Rattle.std.specs.Prelude.{◌≡◌, ◌<◌, ◌≤◌, ℕ, All, List, IfOk, length, map, slice_index};
+ghost use Rattle.std.specs.Prelude.{◌≡◌, ◌<◌, ◌≤◌, ℕ, All, List, IfOk, length};
+ghost use Rattle.std.specs.Prelude.{map, slice_index};
 ghost use Rattle.std.specs.List.{AllZip};
 ghost use Rattle.cir_ast.specs.Program.{Program};
 ghost use Rattle.cir_meaning.specs.RunBodies.{ran};
@@ -125,7 +126,8 @@ impl CutCircuit {
     // How the runs with these outcomes end.
     fn ends_of(&self, alloc: Global, outcomes: &[Outcome]) -> Result<Vec<RunEnd>, AllocError>
         requires { All (HasPlace (code_in self.now)) outcomes.now }
-        ensures { IfOk result (λ ends. AllZip (EndsBy (code_in self.now)) outcomes.now ends.items) }
+        ensures { IfOk result
+            (λ ends. AllZip (EndsBy (code_in self.now)) outcomes.now ends.items) }
     {
         let mut ends = Vec::with_capacity(alloc, outcomes.len())?;
         for outcome in outcomes {

@@ -1,4 +1,4 @@
-use Rattle.std.proofs.Common.{ℕ, List, subst, sym}
+use Rattle.std.proofs.Common.{subst}
 use Rattle.cir_ast.specs.Program.{bare_program}
 use Rattle.cir_inst.specs.declared.circuit.Circuit.{Circuit}
 use Rattle.cir_inst.proofs.OneCircuit.{one_instance}

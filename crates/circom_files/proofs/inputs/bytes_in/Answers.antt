@@ -25,12 +25,14 @@ returns-in-Some-clause-asked g c =
     asks_one c.args.name.now (found_of c.read.result) (g.S.Store.calls c.args.store.now)
     (g.S.Store.calls c.read.new.self) c.read.ensures.asked
 
-pub returns-in_ok-from_slice-in-None-clause-asked : goal.returns-in_ok-from_slice-in-None-clause-asked
+pub returns-in_ok-from_slice-in-None-clause-asked
+    : goal.returns-in_ok-from_slice-in-None-clause-asked
 returns-in_ok-from_slice-in-None-clause-asked g c =
     asks_one c.args.name.now (found_of c.read.result) (g.S.Store.calls c.args.store.now)
     (g.S.Store.calls c.read.new.self) c.read.ensures.asked
 
-pub returns-in_err-from_slice-in-None-clause-asked : goal.returns-in_err-from_slice-in-None-clause-asked
+pub returns-in_err-from_slice-in-None-clause-asked
+    : goal.returns-in_err-from_slice-in-None-clause-asked
 returns-in_err-from_slice-in-None-clause-asked g c =
     asks_one c.args.name.now (found_of c.read.result) (g.S.Store.calls c.args.store.now)
     (g.S.Store.calls c.read.new.self) c.read.ensures.asked

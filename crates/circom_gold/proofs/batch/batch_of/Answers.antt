@@ -1,4 +1,5 @@
-use Rattle.std.proofs.Common.{◌≡◌, ◌∙◌, ◌≤◌, List, Ok, IfOk, ap, arith, length, subst, sym}
+use Rattle.std.proofs.Common.{◌≡◌, ◌∙◌, ◌≤◌, List, Ok, IfOk, ap, arith, length}
+use Rattle.std.proofs.Common.{subst, sym}
 use Rattle.wit_circuit.specs.Whole.{IsCircuitOf}
 use Rattle.wit_run.specs.Batch.{batch_size, most_batch}
 use Rattle.wit_run.specs.Task.{code_in}

@@ -6,11 +6,13 @@ use Rattle.circom_named.specs.Named.{check_named_of}
 use Rattle.circom_files.specs.Reply.{checked_by_name}
 use Rattle.circom_named.proofs.named.check_named_reply.Goals as goal
 
-pub returns-in_ok-checked_by_name-in-Ok-clause-says : goal.returns-in_ok-checked_by_name-in-Ok-clause-says
+pub returns-in_ok-checked_by_name-in-Ok-clause-says
+    : goal.returns-in_ok-checked_by_name-in-Ok-clause-says
 returns-in_ok-checked_by_name-in-Ok-clause-says g c = λ files may.
     (Ok c.in-Ok.found, c.in-Ok.ensures.step files may, c.in_ok-checked_by_name-in-Ok.ensures)
 
-pub returns-in_ok-checked_by_name-in-Ok-clause-status : goal.returns-in_ok-checked_by_name-in-Ok-clause-status
+pub returns-in_ok-checked_by_name-in-Ok-clause-status
+    : goal.returns-in_ok-checked_by_name-in-Ok-clause-status
 returns-in_ok-checked_by_name-in-Ok-clause-status g c =
     below_by c.in_ok-checked_by_name-in-Ok.field-0 _ c.in_ok-checked_by_name-in-Ok.ensures
     (verdict_below c.in-Ok.found.verdict)
