@@ -56,9 +56,9 @@ fn each_line_names_a_signal(rt: HostRuntime) {
 #[test]
 fn lines_have_four_parts(rt: HostRuntime) -> Result<(), Fail> {
     let text = b"1,1,0,main.c\n7,-1,2,main.x.y[1],z\n";
-    let lines = read_sym(rt.alloc(), text).expect(&rt, "two lines");
+    let lines = read_sym(rt.alloc(), text).ok().expect(&rt, "lines");
     let [first, second] = lines.as_slice() else {
-        return Err(Fail);
+        return Err(Fail::from("two lines"));
     };
     assert_eq!(rt; (first.label, first.wire, first.instance), (1, Some(1), 0));
     assert_eq!(rt; first.name.as_slice(), b"main.c".as_slice());
