@@ -558,6 +558,9 @@ NOT_SHOWN = {
     "EqualStrings", "Matches", "CountMatches", "Contains", "MatchesAt", "BigIsEqual", "BigDivide",
     "BigMultiplyModulo"}
 
+# Those of them that have nothing to choose where they have one place: there it does show them.
+SHOWN_WITH_ONE_PLACE = {"Decoder", "Select", "SelectRow", "Replace"}
+
 FILES = {"bits": of_bits, "comparators": of_comparators, "range": of_range, "gates": of_gates,
          "select": of_select, "words": of_words, "arithmetic": of_arithmetic, "sha256": of_sha256,
          "poseidon": of_poseidon, "merkle": of_merkle, "bigint": of_bigint,

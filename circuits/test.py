@@ -12,8 +12,8 @@ four workers:
   .wtns file is written, and `check` has to name the same constraint.
 
 At --O1 `determine` has to find that the inputs determine the outputs, and `confirm` to confirm what
-it wrote, but for the templates of NOT_SHOWN, whose outputs its rules don't reach. Where the program
-has no such command that isn't tried.
+it wrote, but for the templates of NOT_SHOWN, whose outputs its rules don't reach, unless they have
+one place alone. Where the program has no such command that isn't tried.
 """
 
 import os
@@ -24,7 +24,7 @@ import sys
 import tempfile
 import time
 
-from cases import BAD_PARAMETERS, FILES, NOT_SHOWN, P
+from cases import BAD_PARAMETERS, FILES, NOT_SHOWN, P, SHOWN_WITH_ONE_PLACE
 
 HERE = os.path.dirname(os.path.abspath(__file__))
 PROGRAM = os.path.abspath(os.environ.get("PROGRAM", os.path.join(HERE, "..", "circom_gold")))
@@ -165,7 +165,8 @@ def try_certificate(case, folder, what):
     if not HAS_DETERMINE:
         return
     status, text = run(folder, "determine", "f.r1cs", "f.cert")
-    if case.template in NOT_SHOWN:
+    is_alone = case.template in SHOWN_WITH_ONE_PLACE and case.parameters[0] == 1
+    if case.template in NOT_SHOWN and not is_alone:
         expect((status, text[:19]), (2, "undetermined: wire "), what + ": determine")
     else:
         expect((status, text), (0, "determined\n"), what + ": determine")
