@@ -34,7 +34,7 @@ never_satisfied : (options : ProveOptions) (read : Result Witness Refusal) (v : 
 never_satisfied options (Ok w) v h = h.1
 never_satisfied options (Err r) v h = absurd h
 
-zero_satisfied : (v : Verdict) → verdict_status v ≡ 0 → v ≡ Satisfied
+pub zero_satisfied : (v : Verdict) → verdict_status v ≡ 0 → v ≡ Satisfied
 zero_satisfied (CountsDiffer values wires) e = absurd (omega (arith, e))
 zero_satisfied WireZero e = absurd (omega (arith, e))
 zero_satisfied (ConstraintFails index) e = absurd (omega (arith, e))

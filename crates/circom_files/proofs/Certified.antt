@@ -15,14 +15,14 @@ use Rattle.cir_determined.proofs.Sound.{certificate_determines}
 use Rattle.cir_determined.specs.Certificate.{IsVerdict}
 use Rattle.cir_determined.specs.Circuit.{Circuit, in_normal_form}
 use Rattle.cir_determined.specs.Determined.{Determines}
-use Rattle.cir_determined.specs.Text.{rules_of, rules_text}
+use Rattle.cir_determined.specs.Text.{rules_text}
 use Rattle.cir_determined.specs.declared.rule.Answer.{Answer}
 use Rattle.cir_determined.specs.declared.rule.Answer.TheVariants.{Shown, NotShown}
 use Rattle.cir_determined.specs.declared.rule.Confirm.{Confirm}
 use Rattle.cir_determined.specs.declared.rule.Confirm.TheVariants.{Confirmed, BadRule, Short}
 use Rattle.cir_determined.specs.declared.rule.Rule.{Rule}
 use Rattle.circom_lines.specs.declared.answer.Refusal.{Refusal}
-use Rattle.circom_files.specs.Determining.{AreCertificate, Confirms, HoldsCertificate, IsConfirmed}
+use Rattle.circom_files.specs.Determining.{Confirms, HoldsCertificate, IsConfirmed}
 use Rattle.circom_files.specs.Determining.{HasDetermined, IsReadBack, IsSearched, Searches}
 use Rattle.circom_files.specs.Determining.{WritesCertificate, WritesRules, circuit_of, claim_of}
 use Rattle.circom_files.specs.Files.{accepted, bytes_in, r1cs_in, rules_in}

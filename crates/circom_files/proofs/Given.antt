@@ -1,8 +1,7 @@
 -- What is put whole is a front of itself.
-use Rattle.std.proofs.Common.{◌≡◌, ◌∙◌, ◌++◌, ℕ, List, length, Result, Ok, ap}
+use Rattle.std.proofs.Common.{◌≡◌, ◌∙◌, ◌++◌, ℕ, List, length, Ok, ap}
 use Rattle.std.proofs.Common.{inl, sym}
 use Rattle.std.proofs.Math.Seq.{take-length}
-use Rattle.std.specs.declared.alloc.AllocError.{AllocError}
 use Rattle.out_io.specs.History.{Appended}
 use Rattle.circom_files.specs.Given.{IsFront, Puts}
 use Rattle.out_io.specs.Held.{Becomes}

@@ -1,6 +1,6 @@
 -- What the replies to `batch` mean, and that each item is that of `witness` on its line.
 use Rattle.std.proofs.Common.{◌≡◌, ◌∙◌, ◌↔◌, ℕ, zero, suc, List, [], ◌∷◌}
-use Rattle.std.proofs.Common.{◌++◌, All, Option, Some, None}
+use Rattle.std.proofs.Common.{All, Option, Some, None}
 use Rattle.std.proofs.Common.{Result, Ok, Err, refl, ap, arith, slice_get, subst, sym, inr}
 use Rattle.std.specs.Prelude.{IsSomeAnd}
 use Rattle.std.specs.List.{AllZip}
@@ -13,7 +13,6 @@ use Rattle.cir_ast.specs.Program.{Program}
 use Rattle.cir_compile.specs.Compiled.{IsWritten}
 use Rattle.cir_meaning.specs.Scoped.{IsResolved}
 use Rattle.cir_simplify.specs.declared.types.Level.{Level}
-use Rattle.cir_values.specs.declared.signals.InputShape.{InputShape}
 use Rattle.wit_input.specs.Input.{input_of}
 use Rattle.circom_words.specs.Words.{Options}
 use Rattle.circom_lines.specs.RunLines.{log_text, stop_line}
@@ -21,7 +20,7 @@ use Rattle.circom_lines.specs.Lines.{refusal_line}
 use Rattle.circom_lines.specs.declared.answer.Refusal.{Refusal}
 use Rattle.circom_files.specs.Files.{bytes_in}
 use Rattle.circom_files.specs.Reply.{Reply, Says, said}
-use Rattle.circom_files.specs.Running.{accepted_input, input_in, witnessed}
+use Rattle.circom_files.specs.Running.{accepted_input, witnessed}
 use Rattle.circom_files.specs.declared.outcome.Ran.{Ran}
 use Rattle.circom_files.specs.declared.outcome.Ran.TheVariants.{Ended, Halted}
 use Rattle.circom_batch.specs.Items.{batch_bytes}

@@ -26,7 +26,6 @@ use Rattle.wit_circuit.specs.Whole.{IsCircuitOf}
 use Rattle.wit_circuit.specs.declared.code.CircuitCode.{CircuitCode}
 use Rattle.wit_input.specs.Input.{input_of}
 use Rattle.wit_run.specs.Batch.{HasTask, IsRunFrom, batch_size, most_batch}
-use Rattle.wit_run.specs.Ending.{IsEndOf}
 use Rattle.wit_run.specs.Task.{IsTask}
 use Rattle.wit_run.specs.declared.ending.RunEnd.{RunEnd}
 use Rattle.wit_run.specs.declared.ending.RunEnd.TheVariants as end

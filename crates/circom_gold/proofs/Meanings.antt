@@ -46,7 +46,7 @@ use Rattle.circom_files.specs.declared.outcome.Published.{Published}
 use Rattle.circom_files.specs.declared.outcome.Published.TheVariants.{Values, Wrong}
 use Rattle.circom_files.specs.declared.outcome.Ran.TheVariants.{Halted}
 use Rattle.circom_files.specs.declared.outcome.Witness.{Witness}
-use Rattle.circom_files.proofs.Accepts.{says_accepted}
+use Rattle.circom_files.proofs.Accepts.{says_accepted, zero_satisfied}
 use Rattle.circom_files.proofs.CheckLaws.{least as least_failing, satisfied}
 use Rattle.circom_named.proofs.Describing.{check_named_by, finding}
 use Rattle.circom_files.proofs.Reading.{check_by, public_by}
@@ -69,12 +69,6 @@ left_under P out bytes file files after e leaves p =
     let written : Leaves (Some (record { name = out; bytes = bytes })) files after =
     subst (λ (f : Option NewFile). Leaves f files after) e leaves in
     subst (λ (o : Option (List ℕ)). IsSomeAnd o P) (sym written.here) p
-
-zero_satisfied : (v : Verdict) → verdict_status v ≡ 0 → v ≡ Satisfied
-zero_satisfied (CountsDiffer values wires) e = absurd (omega (arith, e))
-zero_satisfied WireZero e = absurd (omega (arith, e))
-zero_satisfied (ConstraintFails index) e = absurd (omega (arith, e))
-zero_satisfied Satisfied e = refl
 
 -- ---- constraints and values that are read
 

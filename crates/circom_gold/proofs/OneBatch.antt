@@ -1,6 +1,6 @@
 -- What `batch` finds is one.
-use Rattle.std.proofs.Common.{◌≡◌, ◌∙◌, ℕ, ◌*◌, ◌+◌, ◌<◌, ◌≤◌, inl}
-use Rattle.std.proofs.Common.{inr, List, [], ◌∷◌, length, Some}
+use Rattle.std.proofs.Common.{◌≡◌, ◌∙◌, ℕ, ◌*◌, ◌+◌, inl}
+use Rattle.std.proofs.Common.{inr, List, [], ◌∷◌, length}
 use Rattle.std.proofs.Common.{Result, Ok, Err, refl, ap, ap₂, arith, subst, sym}
 use Rattle.std.specs.List.{AllZip}
 use Rattle.text_lines.specs.Lines.{lines_of}
@@ -8,16 +8,15 @@ use Rattle.out_io.specs.Contents.{Contents}
 use Rattle.iden_files.specs.File.{File}
 use Rattle.cir_ast.specs.Program.{Program}
 use Rattle.cir_steps.specs.Circuit.{Circuit, circuit_of}
-use Rattle.wit_run.specs.Batch.{most_batch}
 use Rattle.circom_words.specs.Words.{Options}
 use Rattle.circom_lines.specs.declared.answer.Refusal.{Refusal}
 use Rattle.circom_lines.specs.declared.answer.Refusal.TheVariants.{LargeBatch}
 use Rattle.circom_files.specs.Files.{bytes_in}
 use Rattle.circom_files.specs.declared.outcome.Ran.{Ran}
 use Rattle.circom_batch.specs.declared.item.Item.{Item}
-use Rattle.circom_gold.specs.Batch.{Batches, Counts, GivesLine, IsBatched, IsItem, IsTooLarge}
+use Rattle.circom_gold.specs.Batch.{Batches, Counts, GivesLine, IsBatched, IsItem}
 use Rattle.circom_gold.specs.Batch.{IsUnbatched, RunsOn, item_of}
-use Rattle.circom_gold.specs.Witness.{GivesInput, IsRunOf}
+use Rattle.circom_gold.specs.Witness.{IsRunOf}
 use Rattle.circom_gold.proofs.Batching.{alone, as_given}
 use Rattle.circom_gold.proofs.OneRun.{err_same, ok_or_err, ok_same, one_given, one_refused_source}
 use Rattle.circom_gold.proofs.OneRun.{one_run, one_source, one_source_file, source_or_refused}

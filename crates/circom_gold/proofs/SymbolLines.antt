@@ -1,15 +1,15 @@
 -- What is written of a source's signals.
-use Rattle.std.proofs.Common.{◌≡◌, ◌∙◌, ◌↔◌, ℕ, List, length, Option, Some, Result, Ok, Err, ap}
+use Rattle.std.proofs.Common.{◌≡◌, ◌∙◌, ◌↔◌, ℕ, List, Result, Ok, Err, ap}
 use Rattle.std.proofs.Common.{inr, refl, sym, arith}
 use Rattle.out_io.specs.Contents.{Contents}
 use Rattle.iden_files.specs.File.{File}
-use Rattle.cir_ast.specs.Program.{Program, bare_program}
+use Rattle.cir_ast.specs.Program.{bare_program}
 use Rattle.cir_ast.specs.declared.program.Program.{Program as CodeProgram}
 use Rattle.cir_compile.specs.Compiled.{IsCompiled}
 use Rattle.cir_compile.specs.declared.fault.CompileFault.{CompileFault}
 use Rattle.cir_compile.specs.declared.fault.CompileFault.TheVariants as fault
 use Rattle.cir_names.specs.Loading.{IsLoaded}
-use Rattle.cir_symbols.specs.Symbols.{AreNamesOf, IsTextOfLines, Names}
+use Rattle.cir_symbols.specs.Symbols.{AreNamesOf, Names}
 use Rattle.cir_symbols.specs.declared.symbols.Symbols.{Symbols}
 use Rattle.cir_symbols.proofs.One.{compiled_as, one_naming, wires_of_file}
 use Rattle.sym_file.specs.declared.line.SymLine.{SymLine}
@@ -17,12 +17,10 @@ use Rattle.circom_words.specs.Words.{Options}
 use Rattle.circom_lines.specs.declared.answer.Refusal.{Refusal}
 use Rattle.out_io.specs.Held.{OfAll}
 use Rattle.circom_files.specs.Reply.{Reply, Says, said, symbols_written}
-use Rattle.circom_files.specs.Steps.{StepsTo}
 use Rattle.circom_files.specs.declared.stop.Stop.{Stop}
 use Rattle.circom_files.specs.declared.stop.Stop.TheVariants.{Refused, StoreFailed, OutOfMemory}
-use Rattle.circom_gold.specs.Compile.{CompilesTo, task_of}
-use Rattle.cir_compile.specs.Compiled.{NotCompiled}
-use Rattle.circom_gold.specs.Symbols.{AreNamesIn, IsTextOfNames, NamesBy, NamesIn, NamesTo}
+use Rattle.circom_gold.specs.Compile.{task_of}
+use Rattle.circom_gold.specs.Symbols.{IsTextOfNames, NamesBy, NamesIn, NamesTo}
 use Rattle.circom_gold.specs.Symbols.{WritesNames, names_written}
 use Rattle.circom_gold.proofs.OneCompiled.{compiled_and_not, one_uncompiled}
 use Rattle.circom_gold.proofs.Sourcing.{Compiling}

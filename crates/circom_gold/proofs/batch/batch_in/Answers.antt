@@ -1,10 +1,8 @@
-use Rattle.std.proofs.Common.{◌≡◌, ap, refl, subst, sym}
+use Rattle.std.proofs.Common.{refl}
 use Rattle.std.proofs.lemmas.Result.{err_from_is_err_and}
 use Rattle.out_io.specs.Faults.{Rose}
 use Rattle.out_io.proofs.Rising.{rose_on}
 use Rattle.circom_words.specs.Words.{meant_options}
-use Rattle.circom_gold.specs.Batching.{BatchesOn}
-use Rattle.circom_gold.specs.Source.{program_of}
 use Rattle.circom_gold.proofs.Batching.{batch_found, unread_batch, unsourced_batch}
 use Rattle.circom_gold.proofs.batch.batch_in.Goals as goal
 

@@ -1,7 +1,7 @@
-use Rattle.std.proofs.Common.{◌≡◌, ◌∙◌, ◌≤◌, List, Ok, IfOk, ap, arith, length}
+use Rattle.std.proofs.Common.{◌≡◌, ◌∙◌, ap, arith, length}
 use Rattle.std.proofs.Common.{subst, sym}
 use Rattle.wit_circuit.specs.Whole.{IsCircuitOf}
-use Rattle.wit_run.specs.Batch.{batch_size, most_batch}
+use Rattle.wit_run.specs.Batch.{batch_size}
 use Rattle.wit_run.specs.Task.{code_in}
 use Rattle.circom_gold.specs.Source.{program_of}
 use Rattle.circom_gold.proofs.Batching.{all_batched, all_tasks, all_within, few_items, few_lists}

@@ -1,12 +1,10 @@
-use Rattle.std.proofs.Common.{◌≡◌, ◌∷◌, [], ℕ, Some, Ok, Err, Vec}
+use Rattle.std.proofs.Common.{◌≡◌, ◌∷◌, [], ℕ, Some, Err, Vec}
 use Rattle.std.specs.declared.alloc.Global.{Global}
 use Rattle.std.proofs.lemmas.Result.{err_from_is_err_and}
 use Rattle.out_io.specs.Faults.{Rose}
 use Rattle.out_io.proofs.Rising.{rose_on}
 use Rattle.sym_file.specs.declared.line.SymLine.{SymLine}
 use Rattle.circom_files.specs.Files.{bytes_in}
-use Rattle.out_io.specs.Held.{OfAll}
-use Rattle.circom_files.specs.Proving.{witness_of}
 use Rattle.circom_files.specs.Steps.{HeldWith}
 use Rattle.circom_named.specs.declared.described.Described.{Described}
 use Rattle.circom_files.specs.declared.outcome.Witness.{Witness}

@@ -1,8 +1,6 @@
-use Rattle.std.proofs.Common.{◌≡◌, ◌∙◌, List, ap, subst, sym, IfOk}
+use Rattle.std.proofs.Common.{◌∙◌, ap, sym}
 use Rattle.std.proofs.lemmas.Result.{IfOk-weaker}
 use Rattle.iden_files.specs.File.{File}
-use Rattle.circom_lines.specs.declared.answer.Verdict.{Verdict}
-use Rattle.circom_named.specs.Named.{failing_names}
 use Rattle.circom_named.proofs.Wired.{below_in, fails_at, fails_nowhere}
 use Rattle.circom_named.proofs.named.failing_names.Goals as goal
 

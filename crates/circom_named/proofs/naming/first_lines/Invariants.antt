@@ -1,4 +1,3 @@
-use Rattle.std.proofs.Common.{ℕ, length}
 use Rattle.circom_named.proofs.Wired.{AreFirst}
 use Rattle.circom_named.proofs.naming.first_lines.Given as goal
 
