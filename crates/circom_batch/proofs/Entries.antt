@@ -63,7 +63,8 @@ module _ (inputs : List InputShape) where
   }
 
   pub taken_line : (before : List (Vec ℕ Global)) (line : List ℕ) (stop : Stop)
-      (text : List ℕ) → Gets (λ (v : Vec ℕ Global). v.items) (accepted_input inputs (input_of line inputs))
+      (text : List ℕ)
+      → Gets (λ (v : Vec ℕ Global). v.items) (accepted_input inputs (input_of line inputs))
       (Err stop) → IsLineOf stop text → IsTaken inputs before line before (Refused text)
   taken_line before line stop text gets (refusal, is, are) =
       taken_refused before line refusal text

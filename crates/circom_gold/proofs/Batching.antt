@@ -273,7 +273,8 @@ pub all_batched : (level : Level) (x : Coded) → IsCoded level x → (fuel : �
     → {A : Type 0} (of : A → List ℕ) (lines : List A) (entries : List Entry)
     (items : List Item) → map of lines ≡ lines_of text
     → AllZip (λ (l : A) (e : Entry). IsEntry x.circuit.signals.inputs starts (of l) e) lines
-    entries → AllZip (IsEntryItem (program_of x).files x.circuit.instances x.file ends) entries items
+    entries
+    → AllZip (IsEntryItem (program_of x).files x.circuit.instances x.file ends) entries items
     → batch_size x.code (length lines) ≤ most_batch
     → BatchesOn (program_of x) x.file fuel text (Ok items)
 all_batched level x coded fuel text starts ends runs of lines entries items are a b small =
@@ -289,7 +290,8 @@ all_batched level x coded fuel text starts ends runs of lines entries items are 
 -- lines that count more
 pub too_large : (level : Level) (x : Coded) → IsCoded level x → (fuel : ℕ) (text : List ℕ)
     {A : Type 0} (of : A → List ℕ) (lines : List A) (size : ℕ)
-    → map of lines ≡ lines_of text → size ≡ batch_size x.code (length lines) → most_batch < size
+    → map of lines ≡ lines_of text → size ≡ batch_size x.code (length lines)
+    → most_batch < size
     → BatchesOn (program_of x) x.file fuel text (Err (stops.Refused (LargeBatch size)))
 too_large level x coded fuel text of lines size are is many =
     let same : size ≡ batch_size x.code (length (lines_of text)) =

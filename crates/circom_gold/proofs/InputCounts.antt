@@ -1,5 +1,6 @@
 -- The inputs of a program's main component have as many elements as it has input signals.
-use Rattle.std.proofs.Common.{◌≡◌, ◌∙◌, ℕ, ◌+◌, ◌≤◌, Bool, true, false, cond, List, [], ◌∷◌, ◌++◌}
+use Rattle.std.proofs.Common.{◌≡◌, ◌∙◌, ℕ, ◌+◌, ◌≤◌, Bool, true, false}
+use Rattle.std.proofs.Common.{cond, List, [], ◌∷◌, ◌++◌}
 use Rattle.std.proofs.Common.{length, map, Ok, refl, sym, ap, subst, arith}
 use Rattle.std.specs.Prelude.{◌^◌, ◌-◌, min, filter, sum_by}
 use Rattle.std.proofs.lemmas.List.Sums.{sum_by-append, sum_by-cons}

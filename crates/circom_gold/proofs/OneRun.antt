@@ -1,6 +1,8 @@
 -- What `witness` and `generate` find is one.
-use Rattle.std.proofs.Common.{◌≡◌, ◌∙◌, ℕ, inl, inr, List, [], ◌∷◌, map, Option, Some, None, Result}
-use Rattle.std.proofs.Common.{Ok, Err, refl, ap, ap₂, sym, subst, if◌then◌else◌, ◌==◌, slice_index}
+use Rattle.std.proofs.Common.{◌≡◌, ◌∙◌, ℕ, inl, inr, List, [], ◌∷◌, map, Option}
+use Rattle.std.proofs.Common.{Some, None, Result}
+use Rattle.std.proofs.Common.{Ok, Err, refl, ap, ap₂, sym, subst, if◌then◌else◌, ◌==◌}
+use Rattle.std.proofs.Common.{slice_index}
 use Rattle.out_io.specs.Contents.{Contents}
 use Rattle.iden_files.specs.File.{File}
 use Rattle.cir_ast.specs.Program.{Program}

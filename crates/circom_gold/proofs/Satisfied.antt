@@ -1,6 +1,8 @@
 -- The values that a run leaves satisfy the file of its source.
-use Rattle.std.proofs.Common.{◌≡◌, ◌∙◌, ℕ, zero, suc, ◌+◌, ◌<◌, ◌≤◌, Bool, true, ◌||◌, nat_le, List}
-use Rattle.std.proofs.Common.{[], ◌∷◌, All, map, length, slice_get, slice_index, Some, Ok, refl}
+use Rattle.std.proofs.Common.{◌≡◌, ◌∙◌, ℕ, zero, suc, ◌+◌, ◌<◌, ◌≤◌}
+use Rattle.std.proofs.Common.{Bool, true, ◌||◌, nat_le, List}
+use Rattle.std.proofs.Common.{[], ◌∷◌, All, map, length, slice_get, slice_index, Some, Ok}
+use Rattle.std.proofs.Common.{refl}
 use Rattle.std.proofs.Common.{sym, ap, subst, arith}
 use Rattle.std.proofs.lemmas.Bool.Decides.{nat_tests}
 use Rattle.std.proofs.lemmas.List.{length-map}

@@ -10,10 +10,12 @@ use Rattle.circom_files.specs.Asked.{Asks, WritesOnce}
 -- nothing else was asked. Of the files that a source includes nothing is said here.
 abbrev pub Reads : Command → (before after : List Call) → Type 0
 Reads (check r1cs wtns) before after = Asks (r1cs ∷ wtns ∷ []) before after
-Reads (check_named r1cs wtns names) before after = Asks (r1cs ∷ wtns ∷ names ∷ []) before after
+Reads (check_named r1cs wtns names) before after =
+    Asks (r1cs ∷ wtns ∷ names ∷ []) before after
 Reads (prove r1cs wtns out options) before after = Asks (r1cs ∷ wtns ∷ []) before after
 Reads (public r1cs wtns out) before after = Asks (r1cs ∷ wtns ∷ []) before after
-Reads (audit r1cs publics proof) before after = Asks (r1cs ∷ publics ∷ proof ∷ []) before after
+Reads (audit r1cs publics proof) before after =
+    Asks (r1cs ∷ publics ∷ proof ∷ []) before after
 Reads (determine r1cs out) before after = Asks (r1cs ∷ []) before after
 Reads (confirm r1cs certificate) before after = Asks (r1cs ∷ certificate ∷ []) before after
 Reads (generate seed size running) before after = after ≡ before

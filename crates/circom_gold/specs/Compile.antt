@@ -1,5 +1,6 @@
 -- The command `compile`: the file of a source's constraints.
-use Rattle.std.specs.Prelude.{◌≡◌, ◌↔◌, ◌⊎◌, ℕ, ◌<◌, List, slice_index, All, None}
+use Rattle.std.specs.Prelude.{◌≡◌, ◌↔◌, ◌⊎◌, ℕ, ◌<◌, List, slice_index, All}
+use Rattle.std.specs.Prelude.{None}
 use Rattle.std.specs.Prelude.{Result, Ok, Err}
 use Rattle.out_io.specs.Contents.{Contents}
 use Rattle.gold_field.specs.Form.{Holds}

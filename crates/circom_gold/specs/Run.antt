@@ -87,7 +87,8 @@ pub record Did (command : Option Command) (store : Course Contents) (sink : Cour
 abbrev pub StopsAtFault : Device Contents → (status : Option ℕ) → Type 0
 StopsAtFault store status =
     (store.faults_after ≡ store.faults)
-    ⊎ ((store.faults_after ≡ one_more_fault store.faults) × IfSome status (λ exit. exit ≡ 3))
+    ⊎ ((store.faults_after ≡ one_more_fault store.faults)
+    × IfSome status (λ exit. exit ≡ 3))
 
 -- What a run does, given the command that its words ask for, None where they have no reading, and
 -- the exit status, None where it wants memory.

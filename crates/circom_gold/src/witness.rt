@@ -1,4 +1,5 @@
-ghost use Rattle.std.specs.Prelude.{◌≡◌, ◌<◌, ◌≤◌, ℕ, List, Ok, IfOk, IsErrOf, length};
+ghost use Rattle.std.specs.Prelude.{◌≡◌, ◌<◌, ◌≤◌, ℕ, List, Ok, IfOk, IsErrOf};
+ghost use Rattle.std.specs.Prelude.{length};
 ghost use Rattle.out_io.specs.Faults.{Rose, faults_after};
 ghost use Rattle.out_io.specs.declared.fault.IoFault.TheVariants.{Failed};
 ghost use Rattle.iden_files.specs.Limits.{most_wires};

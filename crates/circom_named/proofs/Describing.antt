@@ -55,7 +55,8 @@ module _ (held : Contents → Type 0) (r1cs wtns names : List ℕ) (failed : Typ
   witness_unread view OutOfMemory step = tt
 
   module _ (w : Witness) (there : OfAll held (λ files. witness_of files r1cs wtns ≡ Ok w)) where
-    behind : (text : Result (List ℕ) Refusal) → OfAll held (λ files. bytes_in files names ≡ text)
+    behind : (text : Result (List ℕ) Refusal)
+        → OfAll held (λ files. bytes_in files names ≡ text)
         → OfAll held (λ files. described_of files r1cs wtns names ≡ with_text names w text)
     behind text found = λ files may.
         described_is files r1cs wtns names
@@ -85,8 +86,8 @@ module _ (held : Contents → Type 0) (r1cs wtns names : List ℕ) (failed : Typ
       -- they are refused
       pub names_bad : {V : Type 0} (view : V → List SymLine) (e : Stop)
           → Gets view (accepted_symbols names (symbols_of part)) (Err e)
-          → Steps (λ (d : Described). d) held (λ files. described_of files r1cs wtns names) failed
-          (Err e)
+          → Steps (λ (d : Described). d) held
+          (λ files. described_of files r1cs wtns names) failed (Err e)
       names_bad view (Refused r) gets = read (Err r) gets
       names_bad view StoreFailed gets = absurd gets
       names_bad view OutOfMemory gets = tt

@@ -1,6 +1,8 @@
 -- Names of the wires of a constraint, and of what was read of a witness and of lines.
-use Rattle.std.proofs.Common.{◌≡◌, ◌∙◌, ◌==◌, ◌||◌, ℕ, zero, suc, ◌+◌, ◌-◌, ◌<◌, ◌≤◌, ◌≢◌}
-use Rattle.std.proofs.Common.{Bool, true, false, List, [], ◌∷◌, ◌++◌, length, drop, get_or}
+use Rattle.std.proofs.Common.{◌≡◌, ◌∙◌, ◌==◌, ◌||◌, ℕ, zero, suc, ◌+◌}
+use Rattle.std.proofs.Common.{◌-◌, ◌<◌, ◌≤◌, ◌≢◌}
+use Rattle.std.proofs.Common.{Bool, true, false, List, [], ◌∷◌, ◌++◌, length, drop}
+use Rattle.std.proofs.Common.{get_or}
 use Rattle.std.proofs.Common.{set, replicate}
 use Rattle.std.proofs.Common.{All, find, nat_lt, slice_get, if◌then◌else◌, Option, Some, None}
 use Rattle.std.proofs.Common.{refl, ap, sym, subst, arith}
@@ -164,7 +166,8 @@ one_wire k (suc n) b found some is same =
 
 pub found_more : (k : Constraint) (wires next : ℕ) (marks : List Bool) (found after : List ℕ)
     (b : Bool) → AreFound k wires next marks found → next < wires → b ≡ occurs next k
-    → after ≡ found ++ (if b then next ∷ [] else []) → AreFound k wires (next + 1) marks after
+    → after ≡ found ++ (if b then next ∷ [] else [])
+    → AreFound k wires (next + 1) marks after
 found_more k wires next marks found after b f inside is more =
     let back : next + 1 - 1 ≡ next = omega arith in
     record {
@@ -203,8 +206,8 @@ occurs_marked k wire a b c m0 m1 m2 m3 none ia ib ic e1 e2 e3 =
 -- ---- the constraint that fails
 
 pub below_in : (f : File) (n : ℕ) (ks : List Constraint) (p : ℕ) (k : Constraint) → IsFile f
-    → f.wires ≡ n → ks ≡ f.constraints → true ≡ nat_lt p (length ks) → k ≡ get_or ks p k
-    → ConstraintBelow n k
+    → f.wires ≡ n → ks ≡ f.constraints → true ≡ nat_lt p (length ks)
+    → k ≡ get_or ks p k → ConstraintBelow n k
 below_in f n ks p k file wires same inside is =
     let below : All (ConstraintBelow n) ks =
     subst (λ (m : ℕ). All (ConstraintBelow m) ks) wires
@@ -218,8 +221,8 @@ there ks p k inside is =
     slice_get-get_or ks p k (ltb-true p (length ks) (sym inside)) ∙ ap Some (sym is)
 
 pub fails_at : (f : File) (n : ℕ) (ks : List Constraint) (p : ℕ) (k : Constraint)
-    (lines : List SymLine) → f.wires ≡ n → ks ≡ f.constraints → true ≡ nat_lt p (length ks)
-    → k ≡ get_or ks p k → names_of lines n k ≡ failing_names f lines (ConstraintFails p)
+    (lines : List SymLine) → f.wires ≡ n → ks ≡ f.constraints
+    → true ≡ nat_lt p (length ks) → k ≡ get_or ks p k → names_of lines n k ≡ failing_names f lines (ConstraintFails p)
 fails_at f n ks p k lines wires same inside is =
     ap (λ (m : ℕ). names_of lines m k) (sym wires)
     ∙ ap (λ (o : Option Constraint). option_map_or (names_of lines f.wires) o [])

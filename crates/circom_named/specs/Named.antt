@@ -1,6 +1,7 @@
 -- The command `check` where wires have names: the names of the wires of the constraint that fails.
 use Rattle.std.specs.Prelude.{◌==◌, ℕ, zero, suc, ◌-◌, ◌||◌, Bool, false, List, []}
-use Rattle.std.specs.Prelude.{◌∷◌, ◌++◌, map, find, slice_get, if◌then◌else◌, Option, Some, None}
+use Rattle.std.specs.Prelude.{◌∷◌, ◌++◌, map, find, slice_get, if◌then◌else◌}
+use Rattle.std.specs.Prelude.{Option, Some, None}
 use Rattle.std.specs.Prelude.{Result, Ok}
 use Rattle.std.specs.List.{list_any}
 use Rattle.std.specs.Option.{option_map_or}

@@ -1,6 +1,7 @@
 //! The command `check` where wires have names.
 
-ghost use Rattle.std.specs.Prelude.{◌≡◌, ◌∷◌, [], ◌<◌, ◌≤◌, length, IfOk, IsErrOf};
+ghost use Rattle.std.specs.Prelude.{◌≡◌, ◌∷◌, [], ◌<◌, ◌≤◌, length, IfOk};
+ghost use Rattle.std.specs.Prelude.{IsErrOf};
 ghost use Rattle.out_io.specs.Held.{OfAll, OnlyReads};
 ghost use Rattle.out_io.specs.Faults.{Rose, faults_after};
 ghost use Rattle.out_io.specs.declared.fault.IoFault.TheVariants.{Failed};

@@ -1,7 +1,9 @@
 //! The names of the wires of a constraint.
 
-ghost use Rattle.std.specs.Prelude.{◌≡◌, ◌||◌, ◌-◌, ◌<◌, ◌≤◌, ℕ, false, None, Some, find};
-ghost use Rattle.std.specs.Prelude.{All, get_or, length, replicate, slice_get, IfOk, if◌then◌else◌};
+ghost use Rattle.std.specs.Prelude.{◌≡◌, ◌||◌, ◌-◌, ◌<◌, ◌≤◌, ℕ, false};
+ghost use Rattle.std.specs.Prelude.{None, Some, find};
+ghost use Rattle.std.specs.Prelude.{All, get_or, length, replicate, slice_get, IfOk};
+ghost use Rattle.std.specs.Prelude.{if◌then◌else◌};
 ghost use Rattle.std.specs.Option.{option_and_then};
 ghost use Rattle.gold_field.specs.Form.{ConstraintBelow, SignalsBelow};
 ghost use Rattle.circom_named.specs.Named.{is_of, is_wire, name_by, names_of, stands_in, wires_to};
