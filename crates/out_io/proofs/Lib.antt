@@ -1,3 +1,4 @@
+pub mod Asking
 pub mod MapLemmas
 pub mod Rising
 mod Walks

@@ -1,5 +1,5 @@
-ghost use Rattle.std.specs.Prelude.{◌≡◌, ◌↔◌, ◌≤◌, ◌∷◌, ◌++◌, [], ℕ, List, if◌then◌else◌};
-ghost use Rattle.std.specs.Prelude.{IfOk, OnOk, OnErr, IsTrue, IsErrOf};
+ghost use Rattle.std.specs.Prelude.{◌≡◌, ◌↔◌, ◌≤◌, ◌∷◌, ◌++◌, [], ℕ};
+ghost use Rattle.std.specs.Prelude.{List, IfOk, if◌then◌else◌, OnOk, OnErr, IsTrue, IsErrOf};
 ghost use Rattle.out_io.specs.Contents.{Contents, Replaces, bytes_of};
 ghost use Rattle.out_io.specs.Faults.{CountsFaults, faults_after, one_more_fault};
 ghost use Rattle.out_io.specs.History.{Appended, Put, Read, Write, Wrote, found_of};

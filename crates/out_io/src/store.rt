@@ -25,6 +25,8 @@ pub trait Store {
         ensures there { IfOk result (λ found. (files : Contents) →
             may_hold self.new files → bytes_of found ≡ files name.now) }
         ensures still { (files : Contents) → may_hold self.new files → may_hold self.old files }
+        ensures again { (files : Contents) → may_hold self.old files →
+            IfOk result (λ found. bytes_of found ≡ files name.now) → may_hold self.new files }
         ensures asked { calls self.new ≡ Read name.now (found_of result) ∷ calls self.old }
 
         ensures cause { CountsFaults (faults self.old) (faults self.new) result }
