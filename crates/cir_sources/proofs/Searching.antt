@@ -44,7 +44,8 @@ pub record Reads (before after : Contents → Type 0) (name : List ℕ)
   pub still : (files : Contents) → after files → before files
   pub found : (files : Contents) → after files → bytes_of answer ≡ files name
 
-module _ {before after : Contents → Type 0} {text : List ℕ} (old : BTreeSet (String Global)) where
+module _ {before after : Contents → Type 0} {text : List ℕ}
+    (old : BTreeSet (String Global)) where
   -- there is no file of the name, which is put among those that are missing
   pub learns_missing : (new : BTreeSet (String Global))
       → ((q : List ℕ) → contains_text new q ≡ cond (bytes_eq text q) true

@@ -1,6 +1,6 @@
 -- What the loading of a program's sources answers.
-use Rattle.std.specs.Prelude.{◌≡◌, ℕ, ◌+◌, ◌≤◌, List, [], ◌∷◌, length, ⊤, ◌⊎◌, All, Option}
-use Rattle.std.specs.Prelude.{None, Some, Result, Err}
+use Rattle.std.specs.Prelude.{◌≡◌, ℕ, ◌+◌, ◌≤◌, List, [], ◌∷◌, length, ⊤, ◌⊎◌, All}
+use Rattle.std.specs.Prelude.{Option, None, Some, Result, Err}
 pub use Rattle.std.specs.declared.alloc.Global.{Global}
 use Rattle.out_io.specs.Faults.{one_more_fault}
 use Rattle.out_io.specs.Held.{OfAll}
@@ -67,8 +67,8 @@ fault_of io.OutOfMemory = fault.OutOfMemory
 
 -- Why the sources of the file of this name aren't loaded: it is so of all contents that there may
 -- be. The loading fails only where the store did; want of memory is free.
-abbrev pub NotLoaded : (held : Contents → Type 0) → List ℕ → Option (List ℕ) → (failed : Type 0)
-    → LoadFault → Type 0
+abbrev pub NotLoaded : (held : Contents → Type 0) → List ℕ → Option (List ℕ)
+    → (failed : Type 0) → LoadFault → Type 0
 NotLoaded held name library failed fault.Missing =
     OfAll held (λ files. IsAnswer files name library NoFile)
 NotLoaded held name library failed (fault.Refused r) =

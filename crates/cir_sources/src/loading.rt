@@ -1,6 +1,7 @@
 //! The files that a program reaches.
 ghost use Rattle.std.specs.Prelude.{◌≡◌, ◌≤◌, string_bytes, IfOk, OnOk, map};
 ghost use Rattle.std.specs.Option.{option_copied};
+ghost use Rattle.out_io.specs.Asked.{OnlyAsks};
 ghost use Rattle.out_io.specs.Faults.{Rose};
 ghost use Rattle.out_io.specs.Held.{OnlyReads};
 ghost use Rattle.cir_sources.specs.Includes.{seen};
@@ -59,6 +60,8 @@ impl Loading {
         ensures store { OnlyReads (S.may_hold store.old) (S.may_hold store.new)
             (S.faults store.old) (S.faults store.new) (S.never_fails store.old)
             (S.never_fails store.new) }
+        ensures asked { OnlyAsks (S.calls store.old) (S.calls store.new)
+            (S.may_hold store.old) (S.may_hold store.new) }
     {
         match search(alloc, store, &self.names, &mut self.missing, library, site)? {
             Target::Loaded => Ok(()),
@@ -103,6 +106,8 @@ pub fn reach<S: Store>(
     ensures store { OnlyReads (S.may_hold store.old) (S.may_hold store.new)
         (S.faults store.old) (S.faults store.new) (S.never_fails store.old)
         (S.never_fails store.new) }
+    ensures asked { OnlyAsks (S.calls store.old) (S.calls store.new)
+        (S.may_hold store.old) (S.may_hold store.new) }
 {
     let Some(bytes) = store.read(alloc, name)? else {
         return Err(LoadFault::Missing);

@@ -1,6 +1,7 @@
 //! The file that an include names.
 ghost use Rattle.std.specs.Prelude.{◌≡◌, IfOk};
 ghost use Rattle.std.specs.Option.{option_copied};
+ghost use Rattle.out_io.specs.Asked.{OnlyAsks};
 ghost use Rattle.out_io.specs.Contents.{Contents};
 ghost use Rattle.out_io.specs.Faults.{CountsFaults, faults_after};
 ghost use Rattle.out_io.specs.Held.{OfAll};
@@ -38,6 +39,8 @@ fn look<S: Store>(
     ensures looks { IfOk result (λ target. (files : Contents) →
         AreMissing files missing.new → Looks files names.now name.now target) }
     ensures still { OfAll (S.may_hold store.new) (S.may_hold store.old) }
+    ensures asked { OnlyAsks (S.calls store.old) (S.calls store.new)
+        (S.may_hold store.old) (S.may_hold store.new) }
     ensures cause { CountsFaults (S.faults store.old) (S.faults store.new) result }
     ensures counted { S.faults store.new ≡ faults_after result (S.faults store.old) }
     ensures steady { S.never_fails store.old
@@ -81,6 +84,8 @@ pub(crate) fn search<S: Store>(
     ensures targets { IfOk result (λ target.
         FindsTarget names.now missing.new (option_copied library.entry) site.now target) }
     ensures still { OfAll (S.may_hold store.new) (S.may_hold store.old) }
+    ensures asked { OnlyAsks (S.calls store.old) (S.calls store.new)
+        (S.may_hold store.old) (S.may_hold store.new) }
     ensures cause { CountsFaults (S.faults store.old) (S.faults store.new) result }
     ensures counted { S.faults store.new ≡ faults_after result (S.faults store.old) }
     ensures steady { S.never_fails store.old

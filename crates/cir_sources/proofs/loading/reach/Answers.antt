@@ -1,6 +1,7 @@
 use Rattle.std.proofs.Common.{◌∙◌, arith, ap, reverse, sym}
 use Rattle.std.proofs.lemmas.Result.{err_from_is_err_and}
 use Rattle.std.proofs.lemmas.List.{nil_from_length}
+use Rattle.out_io.proofs.Asking.{read_on, read_once}
 use Rattle.cir_sources.proofs.Steps.{are_sources, ends, ends_on, first_bad, first_loads, on_top}
 use Rattle.cir_sources.proofs.loading.reach.Goals as goal
 
@@ -20,6 +21,31 @@ pub returns-in_default-clause-reaches : goal.returns-in_default-clause-reaches
 returns-in_default-clause-reaches g c = λ files held.
     sym (rw c.in_default.is at (c.in_ok-bytes.ensures.there) files held)
 
+pub returns-in_err-bytes-clause-asked : goal.returns-in_err-bytes-clause-asked
+returns-in_err-bytes-clause-asked g c =
+    read_once _ c.read.result c.read.ensures.asked c.read.ensures.there c.read.ensures.still
+    c.read.ensures.again
+
+pub returns-in_default-clause-asked : goal.returns-in_default-clause-asked
+returns-in_default-clause-asked g c =
+    read_once _ c.read.result c.read.ensures.asked c.read.ensures.there c.read.ensures.still
+    c.read.ensures.again
+
+pub returns-in_err-source-clause-asked : goal.returns-in_err-source-clause-asked
+returns-in_err-source-clause-asked g c =
+    read_once _ c.read.result c.read.ensures.asked c.read.ensures.there c.read.ensures.still
+    c.read.ensures.again
+
+pub returns-in_err-name-clause-asked : goal.returns-in_err-name-clause-asked
+returns-in_err-name-clause-asked g c =
+    read_once _ c.read.result c.read.ensures.asked c.read.ensures.there c.read.ensures.still
+    c.read.ensures.again
+
+pub returns-in_err-add-clause-asked : goal.returns-in_err-add-clause-asked
+returns-in_err-add-clause-asked g c =
+    read_once _ c.read.result c.read.ensures.asked c.read.ensures.there c.read.ensures.still
+    c.read.ensures.again
+
 pub loop-site-init : goal.loop-site-init
 loop-site-init g c = record {
   loading =
@@ -32,6 +58,9 @@ loop-site-init g c = record {
       c.in_ok-source.ensures c.in_ok-add.ensures c.new.ensures.items c.new-4.ensures.items
       (λ q. rw c.new-2.ensures.empty) (λ q. rw c.new-3.ensures.empty);
   store = assumption c.read.ensures;
+  asked =
+      read_once _ c.read.result c.read.ensures.asked c.read.ensures.there c.read.ensures.still
+      c.read.ensures.again;
   counted = c.in_ok-bytes.ensures.counted;
 }
 
@@ -45,6 +74,10 @@ returns-in_err-follow-clause-reaches g c =
     (ends_on _ _ _ (g.S.Store.faults c.args.store.now) (g.S.Store.faults c.loop-site.store)
     (g.S.Store.faults c.follow.new.store) c.in_err-follow.field-0.0
     c.loop-site.invariant.store.later (c.in_err-follow.ensures.follows c.args.name.now now))
+
+pub returns-in_err-follow-clause-asked : goal.returns-in_err-follow-clause-asked
+returns-in_err-follow-clause-asked g c =
+    read_on c.loop-site.invariant.asked c.follow.ensures.asked
 
 pub loop-site-smaller : goal.loop-site-smaller
 loop-site-smaller g c = omega (arith, c.in_ok-follow.ensures.less, c.in-Some-pop.ensures.len)
@@ -63,6 +96,7 @@ loop-site-preserved g c =
             let before = c.loop-site.invariant.store.steady quiet in
             let after = c.follow.ensures.store.steady before.0 in (after.0, after.1 ∙ before.1);
       };
+      asked = read_on c.loop-site.invariant.asked c.follow.ensures.asked;
       counted = c.in_ok-follow.ensures.counted ∙ c.loop-site.invariant.counted;
     }
 
@@ -77,4 +111,5 @@ returns g c =
       counted = c.loop-site.invariant.counted;
       read = are_sources loading;
       store = c.loop-site.invariant.store;
+      asked = c.loop-site.invariant.asked;
     }

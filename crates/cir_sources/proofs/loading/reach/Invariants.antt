@@ -1,5 +1,6 @@
 use Rattle.std.specs.Prelude.{◌≡◌}
 use Rattle.std.specs.Option.{option_copied}
+use Rattle.out_io.specs.Asked.{OnlyAsks}
 use Rattle.out_io.specs.Held.{OnlyReads}
 use Rattle.cir_sources.specs.Steps.{IsLoading, all_of, left_of, to_go}
 use Rattle.cir_sources.proofs.loading.reach.Given as goal
@@ -11,6 +12,8 @@ invariant-loop-site g l = record {
   store : OnlyReads (g.S.Store.may_hold l.fn.store) (g.S.Store.may_hold l.store)
       (g.S.Store.faults l.fn.store) (g.S.Store.faults l.store) (g.S.Store.never_fails l.fn.store)
       (g.S.Store.never_fails l.store);
+  asked : OnlyAsks (g.S.Store.calls l.fn.store) (g.S.Store.calls l.store)
+      (g.S.Store.may_hold l.fn.store) (g.S.Store.may_hold l.store);
   counted : g.S.Store.faults l.store ≡ g.S.Store.faults l.fn.store;
 }
 

@@ -1,6 +1,7 @@
 use Rattle.std.proofs.Common.{string_bytes, subst, sym}
 use Rattle.std.specs.Str.{IsUtf8}
 use Rattle.std.proofs.lemmas.Map.Text.{btree_set_updates_text}
+use Rattle.out_io.proofs.Asking.{read_once}
 use Rattle.cir_sources.proofs.Searching.{learns_found, learns_missing, no_text}
 use Rattle.cir_sources.proofs.search.look.Goals as goal
 
@@ -28,3 +29,33 @@ returns-in_ok-name-in-Some-clause-learns g c =
       still = c.read.ensures.still;
       found = rw c.in-Some.is at c.in_ok-read.ensures.there;
     }
+
+pub returns-in_err-read-clause-asked : goal.returns-in_err-read-clause-asked
+returns-in_err-read-clause-asked g c =
+    read_once _ c.read.result c.read.ensures.asked c.read.ensures.there c.read.ensures.still
+    c.read.ensures.again
+
+pub returns-in_err-name-in-None-clause-asked : goal.returns-in_err-name-in-None-clause-asked
+returns-in_err-name-in-None-clause-asked g c =
+    read_once _ c.read.result c.read.ensures.asked c.read.ensures.there c.read.ensures.still
+    c.read.ensures.again
+
+pub returns-in_err-insert-in-None-clause-asked : goal.returns-in_err-insert-in-None-clause-asked
+returns-in_err-insert-in-None-clause-asked g c =
+    read_once _ c.read.result c.read.ensures.asked c.read.ensures.there c.read.ensures.still
+    c.read.ensures.again
+
+pub returns-in_err-name-in-Some-clause-asked : goal.returns-in_err-name-in-Some-clause-asked
+returns-in_err-name-in-Some-clause-asked g c =
+    read_once _ c.read.result c.read.ensures.asked c.read.ensures.there c.read.ensures.still
+    c.read.ensures.again
+
+pub returns-in_ok-insert-in-None-clause-asked : goal.returns-in_ok-insert-in-None-clause-asked
+returns-in_ok-insert-in-None-clause-asked g c =
+    read_once _ c.read.result c.read.ensures.asked c.read.ensures.there c.read.ensures.still
+    c.read.ensures.again
+
+pub returns-in_ok-name-in-Some-clause-asked : goal.returns-in_ok-name-in-Some-clause-asked
+returns-in_ok-name-in-Some-clause-asked g c =
+    read_once _ c.read.result c.read.ensures.asked c.read.ensures.there c.read.ensures.still
+    c.read.ensures.again

@@ -1,4 +1,5 @@
 use Rattle.std.proofs.Common.{◌≡◌, ◌∙◌, List, None, Some, ℕ, ap}
+use Rattle.out_io.proofs.Asking.{read_on}
 use Rattle.cir_sources.specs.Names.{in_folder, resolved}
 use Rattle.cir_sources.specs.Includes.{beside, bytes_at}
 use Rattle.cir_sources.proofs.Searching.{looked}
@@ -27,3 +28,12 @@ returns-in-Absent-Some-clause-targets g c =
     looked files c.args.names.now (Some c.in-Absent-Some.folder.now) c.args.site.now _
     c.in_ok-target-in-Absent-Some.target (λ b e. rw (absent, e)) (λ e. rw (absent, e)) are
     (far files missing))
+
+pub returns-in_err-target-in-Absent-Some-clause-asked :
+    goal.returns-in_err-target-in-Absent-Some-clause-asked
+returns-in_err-target-in-Absent-Some-clause-asked g c =
+    read_on c.look.ensures.asked c.look-in-Absent-Some.ensures.asked
+
+pub returns-in-Absent-Some-clause-asked : goal.returns-in-Absent-Some-clause-asked
+returns-in-Absent-Some-clause-asked g c =
+    read_on c.look.ensures.asked c.look-in-Absent-Some.ensures.asked
