@@ -4,11 +4,12 @@
     python3 docs/pictures.py             writes docs/crates.svg, board.svg and proof.svg
     python3 docs/pictures.py --check     says which of them aren't current; status 1 where any
 
-What is read: the crates, their order and what they stand on, from crates.txt; the events of the
-core and the calls of the board, from flow_core and flow_board; how many columns are opened, from
-lig_proof. A crate, an event or a call that a picture names and the sources don't, or the other way
-round, ends the script with 2: then the picture has to be thought over. The same sources give the
-same bytes.
+What is read: the crates, their order and what they stand on, from crates.txt; the functions that a
+command goes through, from the sources of their crates; the events of the core and the calls of the
+board, from flow_core and flow_board; how many columns are opened, from lig_proof. A crate, a
+function, an event or a call that a picture names and the sources don't, or an event or a call that
+is left out, ends the script with 2: then the picture has to be thought over. So does a text that
+would lie over another one, or reach out of its box. The same sources give the same bytes.
 """
 import os
 import re
@@ -20,21 +21,27 @@ INK, PALE, GREY = "#222222", "#f7f7f4", "#8a8a84"
 COLOURS = ["#dfe8f5", "#e3f1e1", "#fdf1d6", "#fbe3d9", "#e9e0f3", "#d9f0ee", "#f6dde8", "#eceae2",
            "#dcecd0", "#f0e6d2"]
 
-# What goes through a command: what comes in, then each crate and what it gives.
+# What goes through a command: what comes in, then each crate with the functions of it that are
+# called, and what these give.
 FLOWS = [
-    ("compile", "source", [("cir_sources", "trees"), ("cir_names", "program"),
-                           ("cir_inst", "constraints"), ("cir_simplify", "fewer of them"),
-                           ("iden_files", ".r1cs")]),
-    ("witness", "source, input", [("cir_names", "program"), ("cir_body", "code of steps"),
-                                  ("wit_input", "numbers"), ("flow_engine", "values"),
-                                  ("iden_files", ".wtns")]),
-    ("prove", ".r1cs, .wtns", [("iden_files", "constraints, values"), ("lig_layout", "rows"),
-                               ("lig_merkle", "root"), ("lig_prover", "polynomials"),
-                               ("lig_proof", "proof")]),
-    ("audit", ".r1cs, public, proof", [("iden_files", "constraints"),
-                                       ("wit_input", "public values"),
-                                       ("lig_proof", "a proof's parts"), ("lig_merkle", "root"),
-                                       ("lig_auditor", "verdict")]),
+    ("compile", "source", [
+        ("cir_sources", "reach", "trees"), ("cir_names", "load", "program"),
+        ("cir_inst", "instantiate", "constraints"), ("cir_simplify", "simplify", "fewer of them"),
+        ("cir_compile", "file_of", "numbered wires"), ("iden_files", "write_r1cs", ".r1cs")]),
+    ("witness", "source, input", [
+        ("cir_names", "load_all", "program"), ("cir_body", "circuit_code", "code of steps"),
+        ("cir_compile", "file_from", "numbered wires"), ("wit_input", "read_input", "numbers"),
+        ("wit_run", "run_many", "values"), ("iden_files", "write_wtns", ".wtns")]),
+    ("prove", ".r1cs, .wtns", [
+        ("iden_files", "read_r1cs, read_wtns", "constraints, values"),
+        ("lig_layout", "vectors", "rows"), ("lig_prover", "evaluated", "codewords"),
+        ("lig_merkle", "make", "root"), ("lig_prover", "sent", "six polynomials"),
+        ("lig_proof", "write_proof2", "proof")]),
+    ("audit", ".r1cs, public, proof", [
+        ("iden_files", "read_r1cs", "constraints"), ("wit_input", "read_publics", "public values"),
+        ("lig_proof", "read_any", "a proof's parts"),
+        ("lig_proof", "challenges", "drawn numbers"), ("lig_merkle", "root_of_many", "root"),
+        ("lig_auditor", "tested", "verdict")]),
 ]
 
 # What the calls of the board do, by the event of the core that each makes.
@@ -52,11 +59,19 @@ def text_of(path):
         return file.read()
 
 
+def length_of(words, size):
+    """About how long a text is, rather too long than too short."""
+    narrow = sum(it in "iljtfr.,:;'()| " for it in words)
+    wide = sum(it in "mwMW" or it.isupper() for it in words)
+    return size * (0.56 * len(words) - 0.22 * narrow + 0.2 * wide)
+
+
 class Picture:
-    """An SVG picture, piece by piece."""
+    """An SVG picture, piece by piece. Its texts may not lie over each other."""
 
     def __init__(self, width, height, title):
         self.width, self.height, self.title, self.parts = width, height, title, []
+        self.texts = []
 
     def box(self, x, y, width, height, fill="#ffffff", line=INK, dash=""):
         more = f' stroke-dasharray="{dash}"' if dash else ""
@@ -64,9 +79,22 @@ class Picture:
                           f'fill="{fill}" stroke="{line}"{more}/>')
 
     def text(self, x, y, words, size=12, anchor="middle", weight="normal", fill=INK):
+        self.keep(x, y, words, size, anchor)
         words = words.replace("&", "&amp;").replace("<", "&lt;")
         self.parts.append(f'<text x="{x}" y="{y}" font-size="{size}" text-anchor="{anchor}" '
                           f'font-weight="{weight}" fill="{fill}">{words}</text>')
+
+    def keep(self, x, y, words, size, anchor):
+        long = length_of(words, size)
+        left = x - {"start": 0, "middle": long / 2, "end": long}[anchor]
+        here = (left, left + long, y - 0.75 * size, y + 0.2 * size)
+        if left < 0 or left + long > self.width or y > self.height:
+            stop(f"{self.title}: {words!r} reaches out of the picture")
+        for other, there in self.texts:
+            if (here[0] < there[1] and there[0] < here[1] and here[2] < there[3]
+                    and there[2] < here[3]):
+                stop(f"{self.title}: {words!r} lies over {other!r}")
+        self.texts.append((words, here))
 
     def line(self, *points, arrow=True, colour=INK, dash=""):
         path = " ".join(f"{x},{y}" for x, y in points)
@@ -79,6 +107,8 @@ class Picture:
         lines = words.split("\n")
         top = y + height / 2 + size * 0.35 - (len(lines) - 1) * size * 0.6
         for number, line in enumerate(lines):
+            if length_of(line, size) > width:
+                stop(f"{self.title}: {line!r} reaches out of its box")
             self.text(x + width / 2, round(top + number * size * 1.2, 1), line, size)
 
     def svg(self):
@@ -147,24 +177,35 @@ def draw_crates():
     return picture.svg()
 
 
+def functions_of(crate):
+    """The names of a crate's public functions."""
+    sources = os.path.join(TOP, "crates", crate, "src")
+    names = set()
+    for file in sorted(os.listdir(sources)):
+        if file.endswith(".rt"):
+            names.update(re.findall(r"pub fn (\w+)", text_of(f"crates/{crate}/src/{file}")))
+    return names
+
+
 def draw_flows(picture, y, colour):
-    picture.text(20, y, "What goes through four of the commands", 13, "start", "bold")
+    picture.text(20, y, "What goes through four of the commands: crates, functions that are called, "
+                 "and what these give", 13, "start", "bold")
     y += 12
     for command, begins, steps in FLOWS:
         picture.text(20, y + 34, command, 13, "start", "bold")
-        x = 90
-        picture.text(x + 58, y + 34, begins, 11)
-        x += 120
-        for name, gives in steps:
+        picture.text(146, y + 34, begins, 11)
+        for number, (name, functions, gives) in enumerate(steps):
             if name not in colour:
                 stop(f"{command} goes through {name}, which crates.txt doesn't list")
-            picture.line((x, y + 30), (x + 16, y + 30))
-            picture.labelled(x + 18, y + 12, 84, 36, name, colour[name], 11)
-            picture.text(x + 60, y + 63, gives, 11)
-            x += 104
-            if (name, gives) != steps[-1]:
-                x += 48
-                picture.line((x - 46, y + 30), (x, y + 30), arrow=False)
+            lacks = set(functions.split(", ")) - functions_of(name)
+            if lacks:
+                stop(f"{command} goes through {lacks} of {name}, which it doesn't have")
+            x = 226 + number * 127
+            picture.line((x - 20, y + 30), (x - 2, y + 30))
+            picture.box(x, y + 10, 106, 40, colour[name])
+            picture.text(x + 53, y + 27, name, 11)
+            picture.text(x + 53, y + 42, functions, 9)
+            picture.text(x + 53, y + 65, gives, 11)
         y += 74
 
 
@@ -175,13 +216,13 @@ def draw_board():
     calls = re.findall(r"pub fn (\w+)\(&self", text_of("crates/flow_board/src/board.rt"))
     if sorted(calls) != sorted(CALLS) or sorted(events) != sorted(filter(None, CALLS.values())):
         stop(f"the board's calls are {calls}, the core's events {events}")
-    picture = Picture(1000, 560, "The board between workers")
+    picture = Picture(1000, 640, "The board between workers")
     picture.text(20, 26, "The board between workers: each call is one step on one word", 13,
                  "start", "bold")
     picture.labelled(330, 44, 340, 52, "the pool: ready strands, under a lock\n"
                      "no answer rests on it", "#eceae2")
     for number, x in enumerate((40, 280, 520, 760)):
-        name = ("worker 1: the caller", "worker 2", "..", "worker 64")[number]
+        name = ("worker 1: the caller's thread", "worker 2", "..", "up to worker 64")[number]
         picture.labelled(x, 150, 200, 64, f"{name}\nits seat; strands it has kept\na room",
                          "#fdf1d6", 11)
         picture.line((x + 100, 150), (400 + number * 68, 98), dash="4 3")
@@ -200,16 +241,21 @@ def draw_board():
         x = 54 + number * 100
         picture.text(x + 46, 338, name, 11)
         picture.labelled(x, 346, 92, 52, holds, "#ffffff", 11)
-    picture.text(20, 440, "What each call does", 13, "start", "bold")
+    picture.line((500, 410), (500, 436))
+    picture.labelled(40, 440, 920, 52, "behind the workers the caller takes their seats back and "
+                     "closes the board; where all strands are done, its words are the answer;\n"
+                     "else it goes through the strands in order: it copies the cells of those that "
+                     "are done, and runs every other one", "#fdf1d6")
+    picture.text(20, 520, "What each call does", 13, "start", "bold")
     does = {"take": "a counter from 0 to TAKEN", "read": "a cell", "publish": "a value into a cell",
             "release": "a successor misses 1 less", "finish": "looks at the least word",
             "refuse": "the least word is lowered", "least": "looks at the least word",
             "split": "a seat in two", "join": "two seats in one"}
     for number, call in enumerate(calls):
-        x, y = 20 + number % 3 * 326, 462 + number // 3 * 28
+        x, y = 20 + number % 3 * 326, 542 + number // 3 * 28
         event = f", event {CALLS[call]}" if CALLS[call] else ""
         picture.text(x, y, f"{call}: {does[call]}{event}", 12, "start")
-    picture.text(20, 550, "Between any two steps there is a state of the core that the words show, "
+    picture.text(20, 630, "Between any two steps there is a state of the core that the words show, "
                  "and that keeps its invariant.", 12, "start", fill=GREY)
     return picture.svg()
 
