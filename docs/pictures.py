@@ -157,8 +157,8 @@ def draw_crates():
     rows = sum(-(-len(names) // across) for _, names in groups)
     top = 40 + rows * (high + 6) + len(groups) * 28
     picture = Picture(1000, top + 60 + 74 * len(FLOWS), "The crates, and what goes through them")
-    picture.text(20, 26, "The crates by what they are for, the lowest first; the number is how many "
-                 "crates the longest chain down has", 13, "start", "bold")
+    picture.text(20, 26, "The crates by what they are for, the lowest first; the number is how "
+                 "many crates the longest chain down has", 13, "start", "bold")
     y = 40
     for number, (heading, names) in enumerate(groups):
         lines = -(-len(names) // across)
@@ -188,8 +188,8 @@ def functions_of(crate):
 
 
 def draw_flows(picture, y, colour):
-    picture.text(20, y, "What goes through four of the commands: crates, functions that are called, "
-                 "and what these give", 13, "start", "bold")
+    picture.text(20, y, "What goes through four of the commands: crates, functions that are "
+                 "called, and what these give", 13, "start", "bold")
     y += 12
     for command, begins, steps in FLOWS:
         picture.text(20, y + 34, command, 13, "start", "bold")
