@@ -13,6 +13,7 @@ use flow_board::{Board, WorkSeat};
 use flow_pool::Pool;
 use gold_field::Gold;
 use std::alloc::{AllocError, Global};
+use std::collections::VecDeque;
 use std::sync::Wait;
 use wit_code::Room;
 use wit_flow::StrandOut;
@@ -42,9 +43,9 @@ struct Job<'a, 'g, 's, G> {
 /// What a worker keeps from strand to strand.
 #[derive(Drop)]
 struct Desk {
-    // The items that it runs next, the last one first: those that it made ready, and those that it
-    // took from the pool.
-    mine: Vec<u32>,
+    // The items that it runs next, the first one first: those that it made ready, and those that
+    // it took from the pool.
+    mine: VecDeque<u32>,
     // The values of the cells that its strand reads.
     reads: Vec<Gold>,
     // What its runs hand on.
@@ -77,18 +78,15 @@ fn gather(
     Ok(())
 }
 
-// Where the pool has too few items for the other workers, it gets this one's, but for the later
-// half if the others find enough. Those that became ready first go first: behind them the most may
-// stand.
-fn share_out<R: Wait>(rt: &R, pool: &Pool, mine: &mut Vec<u32>) {
+// Where the pool has too few items for the other workers, it gets this one's later half, or more
+// if the others need more, but never the last one.
+fn share_out<R: Wait>(rt: &R, pool: &Pool, mine: &mut VecDeque<u32>) {
     let missing = pool.missing();
     if missing == 0 || mine.len() < 2 {
         return;
     }
     let count = missing.min(mine.len() - 1).max(mine.len() / 2);
-    pool.put_all(rt, &mine[..count]);
-    mine.rotate_left(count);
-    mine.truncate(mine.len() - count);
+    pool.put_last(rt, mine, count);
 }
 
 // Puts a strand's values, tells its successors and gives it up as done.
@@ -98,7 +96,7 @@ fn hand_in<R: Wait, G: Gate>(
     seat: &mut WorkSeat,
     strand: u32,
     values: &[Gold],
-    ready: &mut Vec<u32>,
+    ready: &mut VecDeque<u32>,
 )
     requires flow { job.now.board.now.flow ≡ answers_of job.now.answers.now }
     requires items { job.now.base + job.now.answers.now.plan.graph.strands ≤ 2 ^ 32 }
@@ -119,7 +117,7 @@ fn hand_in<R: Wait, G: Gate>(
     for told in 0..graph.succs_of(strand).len() {
         let released = board.release(seat);
         let item = job.base + released.strand;
-        if released.ready && ready.push(item).is_err() {
+        if released.ready && ready.push_back(item).is_err() {
             job.pool.put(rt, item);
         }
     }
@@ -240,14 +238,15 @@ fn attend_item<R: Wait, G: Gate>(
 }
 
 // The item that comes next.
-fn next<R: Wait>(rt: &R, pool: &Pool, mine: &mut Vec<u32>) -> Option<u32> {
-    match mine.pop() {
+fn next<R: Wait>(rt: &R, pool: &Pool, mine: &mut VecDeque<u32>) -> Option<u32> {
+    match mine.pop_front() {
         Some(item) => Some(item),
         None => pool.next_some(rt, mine),
     }
 }
 
-/// Runs strands until the pool is closed: those that this worker made ready first. The hand has a
+/// Runs strands until the pool is closed: those that this worker made ready before others, in the
+/// order in which they became ready. The hand has a
 /// seat at each board. Where memory runs out a seat is left with its strand.
 pub fn work<R: Wait, G: Gate>(
     rt: &R,
@@ -262,7 +261,7 @@ pub fn work<R: Wait, G: Gate>(
 {
     batch.pool.enter(rt);
     let mut desk = Desk {
-        mine: Vec::new(alloc),
+        mine: VecDeque::new(alloc),
         reads: Vec::new(alloc),
         room: Room::new(alloc),
     };

@@ -1,4 +1,5 @@
 use crate::state::PoolState;
+use std::collections::VecDeque;
 use std::sync::atomic::{AtomicU64, Ordering};
 use std::sync::{Condvar, Mutex, Wait};
 
@@ -43,29 +44,38 @@ impl Pool {
         self.state.lock(rt).enter();
     }
 
-    /// Adds a strand, and wakes a worker for it. A strand for which there is no room is dropped.
-    pub fn put<R: Wait>(&self, rt: &R, strand: u32) {
-        self.put_all(rt, &[strand]);
-    }
-
-    /// Adds strands under one lock, the first of them to be taken first, and wakes workers for
-    /// them.
-    pub fn put_all<R: Wait>(&self, rt: &R, strands: &[u32]) {
-        if strands.is_empty() {
-            return;
-        }
-        let mut state = self.state.lock(rt);
-        for strand in strands.iter().rev() {
-            let _put = state.put(*strand);
-        }
-        let rests = state.has_resting();
-        self.left.store(state.left() as u64, Ordering::SeqCst);
-        drop(state);
-        if rests && strands.len() == 1 {
+    // Wakes workers for so many strands, if any rest.
+    fn wake(&self, any_rest: bool, strands: usize) {
+        if any_rest && strands == 1 {
             self.changed.notify_one();
-        } else if rests {
+        } else if any_rest {
             self.changed.notify_all();
         }
+    }
+
+    /// Adds a strand, and wakes a worker for it. A strand for which there is no room is dropped.
+    pub fn put<R: Wait>(&self, rt: &R, strand: u32) {
+        let mut state = self.state.lock(rt);
+        let _put = state.put(strand);
+        let any_rest = state.has_resting();
+        self.left.store(state.left() as u64, Ordering::SeqCst);
+        drop(state);
+        self.wake(any_rest, 1);
+    }
+
+    /// Moves so many strands from the end of a queue into the pool under one lock, the first of
+    /// them to be taken first, and wakes workers for them.
+    pub fn put_last<R: Wait>(&self, rt: &R, queue: &mut VecDeque<u32>, count: usize) {
+        let mut state = self.state.lock(rt);
+        for _ in 0..count {
+            if let Some(strand) = queue.pop_back() {
+                let _put = state.put(strand);
+            }
+        }
+        let any_rest = state.has_resting();
+        self.left.store(state.left() as u64, Ordering::SeqCst);
+        drop(state);
+        self.wake(any_rest, count);
     }
 
     /// A strand, for which a worker may wait; None where the pool is closed.
@@ -95,9 +105,9 @@ impl Pool {
     }
 
     /// What `next` gives; and where many strands are left some of them too, so that not every
-    /// strand costs a lock: these go into `more`, which is empty at first, the next one last. Each
-    /// worker leaves far more to the others.
-    pub fn next_some<R: Wait>(&self, rt: &R, more: &mut Vec<u32>) -> Option<u32> {
+    /// strand costs a lock: these go to the end of the queue, the next one first. Each worker
+    /// leaves far more to the others.
+    pub fn next_some<R: Wait>(&self, rt: &R, queue: &mut VecDeque<u32>) -> Option<u32> {
         let mut state = self.state.lock(rt);
         let Some(strand) = state.take() else {
             drop(state);
@@ -105,14 +115,13 @@ impl Pool {
         };
         for _ in 0..MOST.min(state.left() / SHARE) {
             if let Some(other) = state.take() {
-                if more.push(other).is_err() {
+                if queue.push_back(other).is_err() {
                     let _put = state.put(other);
                 }
             }
         }
         self.left.store(state.left() as u64, Ordering::SeqCst);
         drop(state);
-        more.reverse();
         Some(strand)
     }
 }
