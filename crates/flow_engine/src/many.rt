@@ -1,4 +1,4 @@
-ghost use Rattle.std.specs.Prelude.{◌≡◌, ◌+◌, ◌<◌, ◌≤◌, ◌^◌, IfOk, length};
+ghost use Rattle.std.specs.Prelude.{◌≡◌, ◌<◌, ◌≤◌, IfOk, length};
 ghost use Rattle.std.specs.List.{AllZip};
 ghost use Rattle.wit_flow.specs.OneThread.{IsOutcome, one_thread};
 ghost use Rattle.flow_engine.specs.Task.{AreNumbered, IsOneThread};
@@ -8,7 +8,6 @@ use crate::boards::{Boards, close_boards, make_boards};
 use crate::gate::Gate;
 use crate::lend::lend_all;
 use crate::work::Batch;
-use flow_core::Graph;
 use flow_pool::{Pool, PoolState};
 use gold_field::Gold;
 use std::alloc::{AllocError, AllocGlobal, Global};
@@ -16,22 +15,7 @@ use std::sync::Wait;
 use std::thread::Threads;
 use wit_flow::{Flow, Outcome};
 
-// Adds the items of a graph's strands without predecessors. The last to go in is the first to come
-// out, so they go in from the last one down: neighbours lie side by side in memory.
-fn put_ready(state: &mut PoolState, graph: &Graph, base: u32)
-    requires { base + graph.now.strands ≤ 2 ^ 32 }
-{
-    let strands = graph.strands;
-    for above in 0..strands {
-        let strand = strands - 1 - above;
-        if graph.preds_of(strand).is_empty() {
-            let _has_room = state.put(base + strand);
-        }
-    }
-}
-
-// A pool of all tasks' items in which those of the strands without predecessors are ready, those of
-// the first task first.
+// A pool of all tasks' items, at none of which a worker has looked.
 fn first_pool(
     alloc: Global,
     tasks: &[FlowAnswers<'_>],
@@ -41,12 +25,7 @@ fn first_pool(
     requires { AreNumbered strands tasks.now }
 {
     let items = tasks.len() * strands as usize;
-    let mut state = PoolState::make(alloc, items as u32, &[])?;
-    for above in 0..tasks.len() {
-        let task = tasks.len() - 1 - above;
-        let base = task * strands as usize;
-        put_ready(&mut state, tasks[task].graph(), base as u32);
-    }
+    let state = PoolState::make(alloc, items as u32, &[])?;
     Ok(Pool::make(state, workers))
 }
 

@@ -237,11 +237,50 @@ fn attend_item<R: Wait, G: Gate>(
     attend(rt, alloc, &job, &mut hand[at], strand, desk)
 }
 
+// Whether an item's strand waits for no other. What isn't an item of the run does.
+fn is_free<G: Gate>(batch: &Batch<'_, '_, '_, G>, item: u32) -> bool
+    requires { AreNumbered batch.now.strands batch.now.tasks.now }
+{
+    let strands = batch.strands;
+    let tasks = batch.tasks;
+    if strands == 0 || (item / strands) as usize >= tasks.len() {
+        return false;
+    }
+    let graph = tasks[(item / strands) as usize].graph();
+    graph.preds_of(item % strands).is_empty()
+}
+
+// Looks at the next items, and keeps those that wait for no other. False where no worker need look
+// any more.
+fn look_on<R: Wait, G: Gate>(rt: &R, batch: &Batch<'_, '_, '_, G>, mine: &mut VecDeque<u32>) -> bool
+    requires { AreNumbered batch.now.strands batch.now.tasks.now }
+{
+    let items = batch.pool.unseen();
+    let are_some = !items.is_empty();
+    for item in items {
+        if is_free(batch, item) && mine.push_back(item).is_err() {
+            batch.pool.put(rt, item);
+        }
+    }
+    are_some
+}
+
 // The item that comes next.
-fn next<R: Wait>(rt: &R, pool: &Pool, mine: &mut VecDeque<u32>) -> Option<u32> {
+fn next<R: Wait, G: Gate>(
+    rt: &R,
+    batch: &Batch<'_, '_, '_, G>,
+    mine: &mut VecDeque<u32>,
+) -> Option<u32>
+    requires { AreNumbered batch.now.strands batch.now.tasks.now }
+{
+    for _ in rt.forever() {
+        if !mine.is_empty() || !look_on(rt, batch, mine) {
+            break;
+        }
+    }
     match mine.pop_front() {
         Some(item) => Some(item),
-        None => pool.next_some(rt, mine),
+        None => batch.pool.next_some(rt, mine),
     }
 }
 
@@ -266,7 +305,7 @@ pub fn work<R: Wait, G: Gate>(
         room: Room::new(alloc),
     };
     for _ in rt.forever() {
-        let Some(item) = next(rt, batch.pool, &mut desk.mine) else {
+        let Some(item) = next(rt, batch, &mut desk.mine) else {
             break;
         };
         if attend_item(rt, alloc, batch, hand, item, &mut desk).is_err() {

@@ -1,10 +1,11 @@
 use crate::state::PoolState;
 use std::collections::VecDeque;
+use std::ops::Range;
 use std::sync::atomic::{AtomicU64, Ordering};
 use std::sync::{Condvar, Mutex, Wait};
 
-/// `next_some` hands out at most so many strands beside the one that is asked for, and no more than
-/// one in `SHARE` of those that are left.
+/// A worker that asks for one strand gets at most so many more, and no more than one in `SHARE` of
+/// those that are left.
 const MOST: usize = 256;
 
 const SHARE: usize = 64;
@@ -19,23 +20,47 @@ pub struct Pool {
     others: u64,
     // How many strands are ready, for a look without the lock.
     left: AtomicU64,
+    // How many strands there are, and at how many of them a worker has looked at least.
+    all: u32,
+    seen: AtomicU64,
 }
 
 impl Pool {
-    /// For so many workers. Takes no memory.
+    /// For so many workers, and as many strands as the state has room for. Takes no memory.
     pub fn make(state: PoolState, workers: u32) -> Pool {
         let left = state.left() as u64;
+        let all = state.room;
         Pool {
             state: Mutex::new(state),
             changed: Condvar::new(),
             others: workers.saturating_sub(1) as u64,
             left: AtomicU64::new(left),
+            all,
+            seen: AtomicU64::new(0),
         }
     }
 
-    /// How many strands are missing, so that each other worker would find one if it came now. It
-    /// takes no lock, and what it says may have changed since.
+    /// The next strands at which no worker has looked; none where all have been looked at. It takes
+    /// no lock, and no two calls give the same strand.
+    pub fn unseen(&self) -> Range<u32> {
+        let all = u64::from(self.all);
+        let left = all.saturating_sub(self.seen.load(Ordering::SeqCst));
+        if left == 0 {
+            return 0..0;
+        }
+        let count = 1 + ((left - 1) / SHARE as u64).min(MOST as u64);
+        let first = self.seen.fetch_add(count, Ordering::SeqCst);
+        let last = first.saturating_add(count);
+        first.min(all) as u32..last.min(all) as u32
+    }
+
+    /// How many strands are missing, so that each other worker would find one if it came now: none
+    /// while there are some at which no worker has looked. It takes no lock, and what it says may
+    /// have changed since.
     pub fn missing(&self) -> usize {
+        if self.seen.load(Ordering::SeqCst) < u64::from(self.all) {
+            return 0;
+        }
         self.others.saturating_sub(self.left.load(Ordering::SeqCst)) as usize
     }
 
