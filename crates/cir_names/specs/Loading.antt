@@ -37,11 +37,11 @@ IsLoadFault files name library r =
     (IsFirstFault files name r ⊎ IsIncludeFault files name library r)
     ⊎ IsNameRefusal files name library r
 
--- Why the file of this name with all that it includes gives no program, over all contents that there
--- may be: there is no file of the name, or the first refusal. It fails only where the store did; want
--- of memory is free.
-abbrev pub NotLoaded : (held : Contents → Type 0) → List ℕ → Option (List ℕ) → (failed : Type 0)
-    → LoadFault → Type 0
+-- Why the file of this name with all that it includes gives no program, over all contents that
+-- there may be: there is no file of the name, or the first refusal. It fails only where the store
+-- did; want of memory is free.
+abbrev pub NotLoaded : (held : Contents → Type 0) → List ℕ → Option (List ℕ)
+    → (failed : Type 0) → LoadFault → Type 0
 NotLoaded held name library failed fault.Missing = OfAll held (λ files. files name ≡ None)
 NotLoaded held name library failed (fault.Refused r) =
     OfAll held (λ files. IsLoadFault files name library r)
@@ -49,8 +49,8 @@ NotLoaded held name library failed fault.Fault = failed
 NotLoaded held name library failed fault.OutOfMemory = ⊤
 
 -- the program, or why there is none
-abbrev pub Loads : (held : Contents → Type 0) → List ℕ → Option (List ℕ) → (failed : Type 0)
-    → Result CodeProgram LoadFault → Type 0
+abbrev pub Loads : (held : Contents → Type 0) → List ℕ → Option (List ℕ)
+    → (failed : Type 0) → Result CodeProgram LoadFault → Type 0
 Loads held name library failed (Ok program) =
     OfAll held (λ files. IsLoaded files name library (bare_program program))
 Loads held name library failed (Err e) = NotLoaded held name library failed e

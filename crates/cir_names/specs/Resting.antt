@@ -20,8 +20,8 @@ pub record IsLoadedWithout (files : Contents) (name : List ℕ) (library : Optio
   pub missing_are : AreMissing files missing
 
 -- the program with the names that were asked for and have no file, or why there is none
-abbrev pub LoadsAll : (held : Contents → Type 0) → List ℕ → Option (List ℕ) → (failed : Type 0)
-    → Result Loaded LoadFault → Type 0
+abbrev pub LoadsAll : (held : Contents → Type 0) → List ℕ → Option (List ℕ)
+    → (failed : Type 0) → Result Loaded LoadFault → Type 0
 LoadsAll held name library failed (Ok l) =
     OfAll held (λ files. IsLoadedWithout files name library l.missing (bare_program l.program))
 LoadsAll held name library failed (Err e) = NotLoaded held name library failed e

@@ -1,6 +1,7 @@
 //! From the files of a store to the program.
 ghost use Rattle.std.specs.Prelude.{◌≡◌, map, IfOk};
 ghost use Rattle.std.specs.Option.{option_copied};
+ghost use Rattle.out_io.specs.Asked.{OnlyAsks};
 ghost use Rattle.out_io.specs.Faults.{Rose};
 ghost use Rattle.out_io.specs.Held.{OnlyReads};
 ghost use Rattle.cir_ast.specs.Program.{bare_program};
@@ -81,6 +82,8 @@ pub fn load<S: Store>(
     ensures store { OnlyReads (S.may_hold store.old) (S.may_hold store.new)
         (S.faults store.old) (S.faults store.new) (S.never_fails store.old)
         (S.never_fails store.new) }
+    ensures asked { OnlyAsks (S.calls store.old) (S.calls store.new)
+        (S.may_hold store.old) (S.may_hold store.new) }
 {
     match load_all(alloc, store, name, library) {
         Ok(loaded) => Ok(loaded.program),
@@ -103,6 +106,8 @@ pub fn load_all<S: Store>(
     ensures store { OnlyReads (S.may_hold store.old) (S.may_hold store.new)
         (S.faults store.old) (S.faults store.new) (S.never_fails store.old)
         (S.never_fails store.new) }
+    ensures asked { OnlyAsks (S.calls store.old) (S.calls store.new)
+        (S.may_hold store.old) (S.may_hold store.new) }
 {
     let reached = reach(alloc, store, name, library)?;
     let Reached { sources, missing } = reached;

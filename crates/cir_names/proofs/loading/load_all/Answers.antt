@@ -28,5 +28,6 @@ returns-in_err-program-clause-loads g c =
     let p = err_from_is_err_and c.from_residual-in_err-program.result
     c.from_residual-in_err-program.ensures.1 in
     rw (p.1, p.2)
-    (misnamed _ _ _ _ c.in_ok-reached.reached.missing (map seen c.in_ok-reached.reached.sources.items)
-    c.in_err-program.field-0.0 c.in_ok-reached.ensures.reaches c.in_err-program.ensures.program)
+    (misnamed _ _ _ _ c.in_ok-reached.reached.missing
+    (map seen c.in_ok-reached.reached.sources.items) c.in_err-program.field-0.0
+    c.in_ok-reached.ensures.reaches c.in_err-program.ensures.program)
