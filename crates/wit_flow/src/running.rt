@@ -1,5 +1,5 @@
 ghost use Rattle.std.specs.Prelude.{◌≡◌, ℕ, ◌<◌, ◌++◌, All, IfOk, OnOk, length, map, replicate};
-ghost use Rattle.std.specs.Prelude.{unwrap_or};
+ghost use Rattle.std.specs.Prelude.{[], unwrap_or};
 ghost use Rattle.flow_core.specs.Counts.{IsIn};
 ghost use Rattle.flow_core.specs.Net.{reads_of};
 ghost use Rattle.wit_code.specs.Code.{IsWellFormed};
@@ -209,15 +209,30 @@ fn numbers_for(
     Ok(numbers)
 }
 
-// Puts values behind those that there are.
+// Puts values behind those that there are. Where there are none and no room is taken, they become
+// the list.
 fn append(written: &mut Vec<Gold>, values: Vec<Gold>) -> Result<(), AllocError>
     ensures { OnOk result (written.new.items ≡ written.old.items ++ values.items) }
 {
-    if written.is_empty() {
+    if written.is_empty() && written.capacity() == 0 {
         *written = values;
         return Ok(());
     }
     written.extend_from_slice(values.as_slice())
+}
+
+// An empty list with room for all that a strand of several steps writes, so that it needn't grow.
+// For one step it takes no room.
+fn room_for(alloc: Global, flow: &Flow, strand: u32) -> Result<Vec<Gold>, AllocError>
+    requires { strand < length flow.now.strands }
+    ensures { IfOk result (λ v. v.items ≡ []) }
+{
+    flow.facts();
+    if flow.strand(strand as usize).count == 1 {
+        return Ok(Vec::new(alloc));
+    }
+    let graph = &flow.graph;
+    Vec::with_capacity(alloc, graph.writes_of(strand).len())
 }
 
 /// Runs a strand's steps in order, each with this fuel. `reads` has the values of the cells that
@@ -251,7 +266,7 @@ pub fn run_strand_in(
 {
     flow.facts();
     let part = flow.strand(strand as usize);
-    let mut written = Vec::new(alloc);
+    let mut written = room_for(alloc, flow, strand)?;
     for at in part.first..part.first + part.count {
         let numbers = numbers_for(alloc, flow, strand, at as usize, reads, written.as_slice())?;
         match run_step(alloc, room, flow, at as usize, numbers.as_slice(), fuel)? {
