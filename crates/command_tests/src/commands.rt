@@ -8,7 +8,9 @@ use std::sync::Wait;
 use std::thread::Threads;
 
 mod checks;
+mod damaged;
 mod determining;
+mod endless;
 mod naming;
 mod proving;
 
@@ -134,7 +136,7 @@ fn is_answered<R: Threads + Wait + AllocGlobal + Sync + Abort>(
 
 // Each command, and words that name one file twice: how many calls of the store they make, whether
 // the last one writes n.out, the status and the line.
-static CALLS: [(&str, u32, bool, u8, &str); 15] = [
+static CALLS: [(&str, u32, bool, u8, &str); 16] = [
     ("check m.r1cs m.wtns", 2, false, 0, "satisfied\n"),
     (
         "check m.r1cs m.r1cs",
@@ -187,6 +189,13 @@ static CALLS: [(&str, u32, bool, u8, &str); 15] = [
         "rejected: 2 Malformed at byte 0\n",
     ),
     ("sym a.circom n.out", 3, true, 0, "sym: lines 3\n"),
+    (
+        "batch a.circom i.json n.out",
+        4,
+        true,
+        0,
+        "batch: inputs 1, witnesses 1\n",
+    ),
     (
         "check m.r1cs m.wtns --sym m.bytes",
         3,

@@ -23,3 +23,21 @@ pub fn says<R: Threads + Wait + AllocGlobal + Sync + Abort>(
     same(rt, ran.text.as_slice(), line.as_bytes());
     same(rt, (ran.status, ran.puts), (status, 1));
 }
+
+/// The words over the store end with this status and say a line that begins so, by one call of the
+/// sink.
+pub fn begins<R: Threads + Wait + AllocGlobal + Sync + Abort>(
+    rt: &R,
+    words: &str,
+    store: &mut MemStore,
+    status: u8,
+    first: &str,
+) {
+    let ran = run_words(rt, words, store).expect(rt, "memory");
+    same(
+        rt,
+        ran.text.as_slice().get(..first.len()),
+        Some(first.as_bytes()),
+    );
+    same(rt, (ran.status, ran.puts), (status, 1));
+}

@@ -1,16 +1,18 @@
 // `prove`, `public` and `audit` on the circuit c = a * b, whose one public value is c.
 use super::checks::{same, says};
 use super::{R1CS, store};
-use command_samples::{put_file, run_words};
+use command_samples::{Ran, put_file, run_words};
 use out_io::MemStore;
 use std::process::Abort;
 use std::sync::Wait;
 use std::thread::Threads;
 
-const PROVE: &str = "prove m.r1cs m.wtns m.proof --seed \
+/// Makes a proof of version 2.
+pub const PROVE: &str = "prove m.r1cs m.wtns m.proof --seed \
     0000000000000000000000000000000000000000000000000000000000000000";
 
-const FIRST: &str = "prove m.r1cs m.wtns m.proof --proof 1 --seed \
+/// Makes a proof of version 1.
+pub const FIRST: &str = "prove m.r1cs m.wtns m.proof --proof 1 --seed \
     0000000000000000000000000000000000000000000000000000000000000000";
 
 // The proof that the command leaves.
@@ -43,8 +45,8 @@ fn a_proof_is_made_and_accepted(rt: HostRuntime) {
     same(&rt, makes_a_proof(&rt, PROVE, &mut store), 34248);
 }
 
-// The verdict on a proof with these public values is a rejection, by this line.
-fn is_rejected<R: Threads + Wait + AllocGlobal + Sync + Abort>(
+/// The verdict on a proof with these public values is a rejection, by this line.
+pub fn is_rejected<R: Threads + Wait + AllocGlobal + Sync + Abort>(
     rt: &R,
     store: &mut MemStore,
     publics: &str,
@@ -56,12 +58,15 @@ fn is_rejected<R: Threads + Wait + AllocGlobal + Sync + Abort>(
     says(rt, "audit m.r1cs m.json m.proof", store, 2, line);
 }
 
-// A store with the proof of the values 1, 33, 3 and 11, and that proof.
-fn proved<R: Threads + Wait + AllocGlobal + Sync + Abort>(rt: &R) -> (MemStore, Vec<u8>) {
+/// A store with the proof of the values 1, 33, 3 and 11 that the words make, and that proof.
+pub fn proved<R: Threads + Wait + AllocGlobal + Sync + Abort>(
+    rt: &R,
+    words: &str,
+) -> (MemStore, Vec<u8>) {
     let mut store = store(rt, &R1CS, &[1, 33, 3, 11]);
     same(
         rt,
-        run_words(rt, FIRST, &mut store).expect(rt, "memory").status,
+        run_words(rt, words, &mut store).expect(rt, "memory").status,
         0,
     );
     let proof = proof_in(rt, &store);
@@ -70,7 +75,7 @@ fn proved<R: Threads + Wait + AllocGlobal + Sync + Abort>(rt: &R) -> (MemStore, 
 
 #[test]
 fn the_first_test_that_fails_is_named(rt: HostRuntime) {
-    let (mut store, mut proof) = proved(&rt);
+    let (mut store, mut proof) = proved(&rt, FIRST);
     let count = "rejected: 1 PublicCount\n";
     is_rejected(&rt, &mut store, "[\"33\",\"3\"]", &proof, count);
     is_rejected(&rt, &mut store, "[34, 3, 11]", b"no proof", count);
@@ -82,8 +87,8 @@ fn the_first_test_that_fails_is_named(rt: HostRuntime) {
     is_rejected(&rt, &mut store, "[33]", &proof, cut);
 }
 
-// Turns the lowest bit of one of the bytes.
-fn turn(bytes: &mut [u8], at: usize) {
+/// Turns the lowest bit of one of the bytes.
+pub fn turn(bytes: &mut [u8], at: usize) {
     if let Some(byte) = bytes.get_mut(at) {
         *byte ^= 1;
     }
@@ -91,32 +96,30 @@ fn turn(bytes: &mut [u8], at: usize) {
 
 #[test]
 fn a_changed_column_is_off_its_path(rt: HostRuntime) {
-    let (mut store, mut proof) = proved(&rt);
+    let (mut store, mut proof) = proved(&rt, FIRST);
     turn(&mut proof, 25272);
     let line = "rejected: 3 BadPath 17\n";
     is_rejected(&rt, &mut store, "[33]", &proof, line);
 }
 
-// The status of `audit` on a proof with these public values.
-fn status_on<R: Threads + Wait + AllocGlobal + Sync + Abort>(
+/// What `audit` makes of a proof with these public values.
+pub fn verdict_on<R: Threads + Wait + AllocGlobal + Sync + Abort>(
     rt: &R,
     store: &mut MemStore,
     publics: &str,
     proof: &[u8],
-) -> u8 {
+) -> Ran {
     put_file(rt.alloc(), store, "m.json", publics.as_bytes()).expect(rt, "memory");
     put_file(rt.alloc(), store, "m.proof", proof).expect(rt, "memory");
-    run_words(rt, "audit m.r1cs m.json m.proof", store)
-        .expect(rt, "memory")
-        .status
+    run_words(rt, "audit m.r1cs m.json m.proof", store).expect(rt, "memory")
 }
 
 #[test]
 fn other_publics_and_polynomials_are_rejected(rt: HostRuntime) {
-    let (mut store, mut proof) = proved(&rt);
-    same(&rt, status_on(&rt, &mut store, "[34]", &proof), 2);
+    let (mut store, mut proof) = proved(&rt, FIRST);
+    same(&rt, verdict_on(&rt, &mut store, "[34]", &proof).status, 2);
     turn(&mut proof, 40);
-    same(&rt, status_on(&rt, &mut store, "[33]", &proof), 2);
+    same(&rt, verdict_on(&rt, &mut store, "[33]", &proof).status, 2);
 }
 
 // The words, the values, the status and the line.
