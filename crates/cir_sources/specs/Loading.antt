@@ -1,6 +1,6 @@
 -- What the loading of a program's sources answers.
-use Rattle.std.specs.Prelude.{◌≡◌, ℕ, ◌+◌, ◌≤◌, List, [], ◌∷◌, length, ⊤, ◌⊎◌, All}
-use Rattle.std.specs.Prelude.{Option, None, Some, Result, Err}
+use Rattle.std.specs.Prelude.{◌≡◌, ℕ, ◌+◌, ◌≤◌, List, [], ◌∷◌, length}
+use Rattle.std.specs.Prelude.{⊤, ◌⊎◌, All, Option, None, Some, Result, Err}
 pub use Rattle.std.specs.declared.alloc.Global.{Global}
 use Rattle.out_io.specs.Faults.{one_more_fault}
 use Rattle.out_io.specs.Held.{OfAll}

@@ -285,8 +285,8 @@ fn next<R: Wait, G: Gate>(
 }
 
 /// Runs strands until the pool is closed: those that this worker made ready before others, in the
-/// order in which they became ready. The hand has a
-/// seat at each board. Where memory runs out a seat is left with its strand.
+/// order in which they became ready. The hand has a seat at each board. Where memory runs out a
+/// seat is left with its strand.
 pub fn work<R: Wait, G: Gate>(
     rt: &R,
     alloc: Global,

@@ -1,7 +1,7 @@
 // `prove`, `public` and `audit` on the circuit c = a * b, whose one public value is c.
 use super::checks::{same, says};
 use super::{R1CS, store};
-use command_samples::{Ran, put_file, run_words};
+use command_samples::{put_file, run_words};
 use out_io::MemStore;
 use std::process::Abort;
 use std::sync::Wait;
@@ -102,24 +102,26 @@ fn a_changed_column_is_off_its_path(rt: HostRuntime) {
     is_rejected(&rt, &mut store, "[33]", &proof, line);
 }
 
-/// What `audit` makes of a proof with these public values.
-pub fn verdict_on<R: Threads + Wait + AllocGlobal + Sync + Abort>(
+// The status of `audit` on a proof with these public values.
+fn status_on<R: Threads + Wait + AllocGlobal + Sync + Abort>(
     rt: &R,
     store: &mut MemStore,
     publics: &str,
     proof: &[u8],
-) -> Ran {
+) -> u8 {
     put_file(rt.alloc(), store, "m.json", publics.as_bytes()).expect(rt, "memory");
     put_file(rt.alloc(), store, "m.proof", proof).expect(rt, "memory");
-    run_words(rt, "audit m.r1cs m.json m.proof", store).expect(rt, "memory")
+    run_words(rt, "audit m.r1cs m.json m.proof", store)
+        .expect(rt, "memory")
+        .status
 }
 
 #[test]
 fn other_publics_and_polynomials_are_rejected(rt: HostRuntime) {
     let (mut store, mut proof) = proved(&rt, FIRST);
-    same(&rt, verdict_on(&rt, &mut store, "[34]", &proof).status, 2);
+    same(&rt, status_on(&rt, &mut store, "[34]", &proof), 2);
     turn(&mut proof, 40);
-    same(&rt, verdict_on(&rt, &mut store, "[33]", &proof).status, 2);
+    same(&rt, status_on(&rt, &mut store, "[33]", &proof), 2);
 }
 
 // The words, the values, the status and the line.
